@@ -267,6 +267,16 @@ fn clients_argument<'a>(alloc: Global) -> Arg<'a> {
         .action(ArgAction::Append)
 }
 
+// The file of a server's figures.
+fn metrics_argument<'a>(alloc: Global) -> Arg<'a> {
+    path_argument(
+        alloc,
+        "metrics",
+        "FILE",
+        "Where the server's figures are written every 10 seconds, for Prometheus: a file of such figures, or a new one",
+    )
+}
+
 // The words of `serve`.
 fn serve_command<'a>(alloc: Global) -> Result<Command<'a>, AllocError> {
     let command = over_tables(
@@ -289,6 +299,7 @@ fn serve_command<'a>(alloc: Global) -> Result<Command<'a>, AllocError> {
             "FILE",
             "Where the commits are kept; replies wait for the disk; the next server goes on from there",
         ))?
+        .arg(metrics_argument(alloc))?
         .arg(standing_argument(alloc))?;
     with_telling(alloc, command)
 }

@@ -111,6 +111,10 @@ tables goes on from there, whatever has ended this one.
 With --standing the questions of FILE stand: each keeps totals that follow the commits, and is answered from these, so
 that a report which is asked again and again takes no pass over the lines. Replies are the same without it.
 
+With --metrics the server's figures (commits, answers, sessions, memory and others) are written into FILE at the start,
+every 10 seconds and at the end, as a text for the textfile collector of Prometheus. FILE has to be missing or empty, or
+to have such a text; it is written as FILE.new, and renamed.
+
 Examples:
   ssb_live serve --data tables
   ssb_live serve --data tables --journal orders.journal
@@ -139,6 +143,7 @@ withdraw|KEY, then commit is one refresh; nothing of it is done without the comm
 
   abort       drops the refresh, or the questions, that were begun
   timing      from then on shows how many seconds each reply took; again: no more
+  status      shows what the server has done, its memory, and how long ago the last reply came
   help        shows this
   quit, exit  end the session, as Ctrl-D does; a refresh without its commit is then fault: 71 NoCommit, and not done
 

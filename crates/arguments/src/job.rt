@@ -123,6 +123,8 @@ pub struct ServeWords<'a> {
     pub clients: Vec<&'a str>,
     pub keep: bool,
     pub journal: Option<&'a str>,
+    /// The file of the server's figures.
+    pub metrics: Option<&'a str>,
     pub standing: Option<StandingWord<'a>>,
     pub dispatchers: u32,
     pub quiet: bool,
@@ -302,6 +304,7 @@ fn serve_words<'a>(alloc: Global, matches: &ArgMatches<'a>) -> Result<ServeWords
         clients: words_of(alloc, matches, "clients")?,
         keep: matches.get_flag("keep"),
         journal: matches.get_str("journal"),
+        metrics: matches.get_str("metrics"),
         standing: standing_of(matches),
         dispatchers: matches.get_one::<u32>("dispatchers").unwrap_or(1),
         quiet: matches.get_flag("quiet"),

@@ -1,10 +1,13 @@
 //! What the words of a command line do.
 
 use crate::job_help::tell_help;
+use crate::measured::measure_serving;
+use crate::metrics::{MetricsFile, push_metrics};
 use crate::streams::{Streams, tell};
+use crate::terminal_view::TerminalView;
 use arguments::{
     AuditWords, ExplainWords, ExportWords, FormatWord, HintsWord, Job, QueryWords, RunWords,
-    ServeWords, StandingWord, TERMINAL_HELP, job_of,
+    ServeWords, StandingWord, job_of,
 };
 use audit_command::run_audit;
 use export_command::{ExportPlace, run_export};
@@ -19,6 +22,7 @@ use serve_command::{
     Attendant, EndPaths, JournalPlace, MOST_CLIENTS, PathClients, ServeSettings, StreamClient,
     report_no_pipes, serve_clients, serve_stream,
 };
+use server_figures::LiveFigures;
 use ssb_files::{
     Fault, InputSource, PathUse, Screen, TableBytes, UsedPath, check_paths, count_tables,
     find_tables, make_file, open_file, open_files, open_tables, read_standing, watch,
@@ -35,7 +39,7 @@ use std::hash::RandomState;
 use std::io::{BufWriter, Print, Read, Write};
 use std::random::RandomSource;
 use std::rt::Files;
-use std::sync::Wait;
+use std::sync::{Arc, Wait};
 use std::thread::Threads;
 use std::time::Clock;
 use std::{io, thread};
@@ -289,9 +293,9 @@ fn clients_of(alloc: Global, words: &[&str]) -> Result<Vec<EndPaths>, Fault> {
     Ok(clients)
 }
 
-// The files of a live server, opened, and how it serves.
+/// The files of a live server, opened, and how it serves.
 #[derive(Drop)]
-struct OpenedServer<O: Drop> {
+pub(crate) struct OpenedServer<O: Drop> {
     settings: ServeSettings,
     tables: Tables<O>,
     clients: Vec<EndPaths>,
@@ -314,6 +318,7 @@ fn check_server_paths<F: Files + AllocGlobal>(
         paths.push(UsedPath::find(files, journal, PathUse::Write)?)?;
         paths.push(UsedPath::find(files, torn.as_str(), PathUse::Write)?)?;
     }
+    push_metrics(files, words.metrics, &mut paths)?;
     check_paths(paths.as_slice())
 }
 
@@ -344,6 +349,7 @@ fn open_server<R: RandomSource, F: Files + AllocGlobal>(
         dispatchers: words.dispatchers,
         standing,
         tells_ready: !words.quiet && !words.clients.is_empty(),
+        figures: Arc::new(files.alloc(), LiveFigures::new())?,
     };
     Ok(OpenedServer {
         settings,
@@ -384,7 +390,7 @@ fn serve_typed<R, F, T, I: Read + Drop + Send, W: Write + Drop + Send, E: Print 
     settings: ServeSettings,
     tables: Tables<T>,
     place: Option<JournalPlace<'_, JournalPath<'_, F>>>,
-    hints: HintsWord,
+    view: &TerminalView<'_, F>,
     streams: Streams<'_, I, W, E>,
 ) -> u8
 where
@@ -398,10 +404,10 @@ where
     let errors = streams.errors;
     let request = TypedRequest::new(alloc);
     let screen = io::writer(errors);
-    let Ok(input) = Prompted::new(alloc, rt, streams.input, screen, TERMINAL_HELP, &request) else {
+    let Ok(input) = Prompted::new(alloc, rt, streams.input, screen, view, &request) else {
         return Fault::OutOfMemory.tell(&mut io::writer(errors));
     };
-    let helped = if hints.are_told(streams.shows_progress) {
+    let helped = if view.hints.are_told(streams.shows_progress) {
         Some(&request)
     } else {
         None
@@ -441,9 +447,16 @@ where
     status
 }
 
-// Serves clients over tables that are loaded and counted now: those that the words name, or else standard input and
-// output.
-fn serve_loading<R, F, T, I: Read + Drop + Send, W: Write + Drop + Send, E: Print + Sync>(
+/// Serves clients over tables that are loaded and counted now: those that the words name, or else standard input and
+/// output.
+pub(crate) fn serve_loading<
+    R,
+    F,
+    T,
+    I: Read + Drop + Send,
+    W: Write + Drop + Send,
+    E: Print + Sync,
+>(
     rt: &R,
     files: &F,
     words: &ServeWords<'_>,
@@ -482,7 +495,10 @@ where
         return attend_clients(rt, settings, tables, place, clients, errors);
     }
     if streams.is_typed {
-        return serve_typed(rt, settings, tables, place, words.hints, streams);
+        let Ok(view) = TerminalView::of(files, &settings, words.hints) else {
+            return Fault::OutOfMemory.tell(&mut io::writer(errors));
+        };
+        return serve_typed(rt, settings, tables, place, &view, streams);
     }
     let client = StreamClient {
         input: streams.input,
@@ -515,6 +531,10 @@ where
         Ok(opened) => opened,
         Err(fault) => return fault.tell(&mut io::writer(errors)),
     };
+    let metrics = match MetricsFile::named_by(files, words, &settings.figures) {
+        Ok(metrics) => metrics,
+        Err(fault) => return fault.tell(&mut io::writer(errors)),
+    };
     if !words.quiet && clients.len() <= MOST_CLIENTS {
         report_no_pipes(files, clients.as_slice(), &mut io::writer(errors));
     }
@@ -525,7 +545,10 @@ where
         clients,
         journal,
     };
-    serve_loading(rt, files, words, opened, streams)
+    match metrics {
+        Some(metrics) => measure_serving(rt, files, words, metrics, opened, streams),
+        None => serve_loading(rt, files, words, opened, streams),
+    }
 }
 
 // Checks a trace over the files of a folder.
@@ -598,12 +621,14 @@ where
         hashing: hashing_of(rt)?,
         dispatchers: 1,
         standing: Vec::new(rt.alloc()),
+        figures: Arc::new(rt.alloc(), LiveFigures::new())?,
         tells_ready: false,
     };
+    let view = TerminalView::of(files, &settings, hints)?;
     let bytes = TableBytes::new();
     let path = journal_path(files, None);
     let place = journal_place(path.as_ref(), &bytes, true);
-    Ok(serve_typed(rt, settings, small_data::tables(), place, hints, streams))
+    Ok(serve_typed(rt, settings, small_data::tables(), place, &view, streams))
 }
 
 // Serves a script over the built-in tables.

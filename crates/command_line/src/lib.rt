@@ -18,8 +18,13 @@
 #![tactic(auto)]
 
 mod command;
+mod end_bell;
 mod job_help;
+mod measured;
+mod memory;
+mod metrics;
 mod streams;
+mod terminal_view;
 
 pub use command::run_command_line;
 pub use streams::{Streams, columns, words};

@@ -5,6 +5,7 @@ use export_command::NotEmpty;
 use journal_file::OpenError;
 use query_command::{BoardLineFault, NoReports};
 use row_store::Cause;
+use server_figures::NotMetrics;
 use ssb_audit::AuditFault;
 use ssb_files::{PathFault, TooManyGroups};
 use ssb_journal::{JournalFault, ReplayFault};
@@ -259,6 +260,16 @@ impl ListsFaults for PathFault<&'static str> {
     }
 }
 
+impl ListsFaults for NotMetrics<&'static str> {
+    fn first() -> NotMetrics<&'static str> {
+        NotMetrics("answers")
+    }
+
+    fn next(&self) -> Option<NotMetrics<&'static str>> {
+        None
+    }
+}
+
 impl ListsFaults for QuestionsError {
     fn first() -> QuestionsError {
         QuestionsError::NotAQuestion(3)
@@ -310,6 +321,7 @@ pub fn all_lines(alloc: Global) -> Result<Vec<String>, AllocError> {
     push_lines::<NoReports>(alloc, &mut lines)?;
     push_lines::<Cause>(alloc, &mut lines)?;
     push_lines::<OpenFault>(alloc, &mut lines)?;
+    push_lines::<NotMetrics<&'static str>>(alloc, &mut lines)?;
     push_lines::<ScriptError>(alloc, &mut lines)?;
     push_lines::<RequestError>(alloc, &mut lines)?;
     push_lines::<AuditFault>(alloc, &mut lines)?;

@@ -8,25 +8,25 @@ ghost use Rattle.run_command.specs.Run.{IsMadeOf, IsRun};
 
 use crate::latency::{Latencies, RunStopwatch, Times, joined, latencies_of};
 use crate::speaker::{ScriptSession, ScriptSpeaker};
+use server_figures::Figures;
 use ssb_audit::{Told, Trace};
 use ssb_schema::Items;
 use ssb_script::Script;
 use ssb_server::{Keeps, Loaded, Opened, open};
-use ssb_serving::{Batches, RunFault, StreamRun, run_opened};
+use ssb_serving::{RunFault, StreamRun, run_opened};
 use std::alloc::{AllocError, Global};
 use std::sync::Wait;
 use std::thread::Threads;
 use std::time::{Clock, Duration};
 
 /// What a run leaves: the report of each script, in the order of the scripts, and the trace, which has the log and
-/// what each client was told, one client after another. Batches, how many answers came from totals, latencies and the
-/// time from the start of the first thread to the end of the last, where times were taken, are figures for a reader.
+/// what each client was told, one client after another. The server's figures, latencies and the time from the start of
+/// the first thread to the end of the last, where times were taken, are for a reader.
 #[derive(Drop)]
 pub struct Run {
     pub reports: Vec<Vec<u8>>,
     pub trace: Trace,
-    pub batches: Batches,
-    pub by_totals: u64,
+    pub figures: Figures,
     pub latencies: Latencies,
     pub threads: Option<Duration>,
 }
@@ -106,12 +106,7 @@ fn run_left(
     ensures { IfOk result (λ run. IsMadeOf streams.left.items streams.log
         (map (λ report. report.items) run.reports.items) run.trace) }
 {
-    let StreamRun {
-        left,
-        log,
-        batches,
-        by_totals,
-    } = streams;
+    let StreamRun { left, log, figures } = streams;
     let sessions = all_whole(alloc, left)?;
     let SessionsLeft {
         reports,
@@ -127,8 +122,7 @@ fn run_left(
             commits: Items::from_vec(commits),
             answers: Items::from_vec(told),
         },
-        batches,
-        by_totals,
+        figures,
         latencies: latencies_of(&times),
         threads,
     })
@@ -156,7 +150,7 @@ fn speak_scripts<W: Wait + Drop + Send, R: Wait + Threads + Sync + Clock>(
 
 /// Serves 1 to 16 scripts by 1 to 4 dispatchers over a loaded base, each client and each dispatcher in a thread of its
 /// own. It waits until all of them have ended. Where `timed` says so, the time of all threads is taken, and by each
-/// client's thread that of its requests; else no clock is read.
+/// client's thread that of its requests; else no client's thread reads a clock.
 ///
 /// The dispatchers' threads start first, then the clients' in the order of the scripts, and where one can't be started,
 /// no later one is. That, and a refused growth wherever it is met, is `OutOfMemory`; each thread that was started has

@@ -2,7 +2,7 @@
 
 use crate::latency::{Latencies, Latency};
 use crate::run::Run;
-use ssb_serving::Batches;
+use server_figures::Figures;
 use std::fmt;
 use std::io::Write;
 use std::time::{Clock, Duration, Instant};
@@ -18,9 +18,9 @@ pub struct RunTimes {
     threads: Option<Duration>,
     commits: u64,
     answers: u64,
-    batches: Batches,
-    // Of the answers, those from totals, where questions stand.
-    by_totals: Option<u64>,
+    figures: Figures,
+    // Whether questions stand.
+    stood: bool,
     latencies: Latencies,
 }
 
@@ -76,8 +76,8 @@ impl RunTimes {
             threads: None,
             commits: 0,
             answers: 0,
-            batches: Batches::default(),
-            by_totals: None,
+            figures: Figures::default(),
+            stood: false,
             latencies: Latencies::default(),
         }
     }
@@ -101,8 +101,8 @@ impl RunTimes {
         self.threads = run.threads;
         self.commits = run.trace.commits.as_slice().len() as u64;
         self.answers = run.trace.answers.as_slice().len() as u64;
-        self.batches = run.batches;
-        self.by_totals = if stood { Some(run.by_totals) } else { None };
+        self.figures = run.figures;
+        self.stood = stood;
         self.latencies = run.latencies;
     }
 
@@ -126,8 +126,8 @@ impl RunTimes {
             }
         }
         self.tell_batches(err);
-        if let Some(count) = self.by_totals {
-            let _ = writeln!(err, "ssb_live: totals {count} answers");
+        if self.stood {
+            let _ = writeln!(err, "ssb_live: totals {} answers", self.figures.by_totals);
         }
         tell_latency(err, "refreshes", self.latencies.refreshes);
         tell_latency(err, "questions", self.latencies.answers);
@@ -135,7 +135,7 @@ impl RunTimes {
 
     // Each question of a batch that was answered has an answer. The mean is told in hundredths, rounded down.
     fn tell_batches<E: Write>(&self, err: &mut E) {
-        let count = self.batches.count;
+        let count = self.figures.batches;
         let hundredths = (u128::from(self.answers) * 100).checked_div(u128::from(count));
         if let Some(hundredths) = hundredths {
             let whole = hundredths / 100;

@@ -30,12 +30,13 @@ use ssb_journal::{JournaledLog, KeptCommits, OpenedJournal, SharedJournal, Table
 use ssb_server::{
     Client, Closed, Dispatcher, Keeps, Loaded, LogReader, MOST_CLIENTS, Opened, Server, open,
 };
-use ssb_serving::{Batches, EndedThreads, RunFault, Spoken, serve_opened};
+use ssb_serving::{EndedThreads, RunFault, Spoken, serve_opened};
 use std::alloc::{AllocError, Global};
 use std::marker::Brand;
 use std::sync::Wait;
 use std::sync::atomic::AtomicBool;
 use std::thread::Threads;
+use std::time::Clock;
 use stream_sessions::{Service, Speaker, Speaks};
 
 /// A journal that was read and looked at, over tables of these sizes, and what keeps what a crash has torn of it.
@@ -47,7 +48,7 @@ pub struct Recovered<'a, D: Disk, T> {
 }
 
 /// What the sessions of a server with a journal leave: what each speaker left, in their order, the log, and the
-/// journal's disk with how many commits of the log are on it. Batches are figures for a reader.
+/// journal's disk with how many commits of the log are on it.
 #[derive(Drop)]
 pub struct JournaledRun<D: Disk + Drop, L: Drop> {
     pub left: Vec<L>,
@@ -56,7 +57,6 @@ pub struct JournaledRun<D: Disk + Drop, L: Drop> {
     pub count: u64,
     /// Else it could not be written, and the last commits were told to nobody.
     pub was_written: bool,
-    pub batches: Batches,
 }
 
 // A journal that was begun, beside the reader of the log whose first commits it keeps.
@@ -191,7 +191,7 @@ fn run_sessions<D, W, R, S, K>(
 where
     D: Disk + Drop + Send,
     W: Wait + Drop + Send,
-    R: Wait + Threads + Sync,
+    R: Wait + Threads + Sync + Clock,
     S: Speaks<R, Durable> + Drop + Send,
     S::Left: Drop + Send,
     K: LogStart + Send + Sync,
@@ -291,7 +291,6 @@ fn close_run<D: Disk + Drop, W: Wait + Drop, L: Drop>(
     let EndedThreads {
         spoken,
         dispatchers,
-        batches,
     } = ended;
     let JournalLeft {
         disk,
@@ -306,7 +305,6 @@ fn close_run<D: Disk + Drop, W: Wait + Drop, L: Drop>(
             disk,
             count,
             was_written: is_whole,
-            batches,
         }),
         Err(_) => Err(UnservedSessions::new(JournaledFault::OutOfMemory, disk)),
     }
@@ -371,7 +369,7 @@ where
     T: KeepsTorn,
     T::Kept: Drop,
     W: Wait + Drop + Send,
-    R: Wait + Threads + Sync,
+    R: Wait + Threads + Sync + Clock,
     S: Speaks<R, Durable> + Drop + Send,
     S::Left: Drop + Send,
     requires few { vec_len speakers ≤ most_clients }
@@ -438,7 +436,7 @@ where
     D: Disk + Drop + Send,
     T: KeepsTorn,
     T::Kept: Drop,
-    R: Wait + Threads + Sync,
+    R: Wait + Threads + Sync + Clock,
     S: Speaks<R, Durable> + Drop + Send,
     S::Left: Drop + Send,
     requires few { vec_len speakers ≤ most_clients }

@@ -25,6 +25,7 @@ use crate::unserved::JournaledFault;
 use journal::KeepsTorn;
 use journal_opening::{OpensJournal, table_sizes};
 use row_store::Log;
+use server_figures::LiveFigures;
 use ssb_base::Base;
 use ssb_files::{Fault, LoadedFor, base_of};
 use ssb_questions::Question;
@@ -49,6 +50,8 @@ pub struct ServeSettings {
     pub standing: Vec<Question>,
     /// Whether it is told when the server is ready.
     pub tells_ready: bool,
+    /// In which the server counts what it does, for whoever looks on.
+    pub figures: Arc<LiveFigures>,
 }
 
 /// A journal at the end of the sessions: its disk, how many commits of the log are on that, and whether it was written to
@@ -76,12 +79,13 @@ struct LoadedTables {
     ready: Option<ReadyLine>,
 }
 
-// The base that the tables spell, with the questions that stand from then on. Where it is to be told that the server is
-// ready, it is told for how many clients.
+// The base that the tables spell, with the questions that stand from then on, and the figures of the server over it.
+// Where it is to be told that the server is ready, it is told for how many clients.
 fn load_tables<R: Threads + Sync + AllocGlobal, I: Read + Drop>(
     rt: &R,
     hashing: RandomState,
     standing: &[Question],
+    figures: Arc<LiveFigures>,
     tables: Tables<I>,
     told: Option<usize>,
 ) -> Result<LoadedTables, Fault>
@@ -98,7 +102,7 @@ fn load_tables<R: Threads + Sync + AllocGlobal, I: Read + Drop>(
     let ready = ReadyLine::of(&base, told);
     Ok(LoadedTables {
         base,
-        loaded,
+        loaded: loaded.counted_in(figures),
         ready,
     })
 }
@@ -187,7 +191,6 @@ where
         disk,
         count,
         was_written,
-        batches: _,
     } = run;
     Ok(SessionsRun {
         left,
@@ -241,9 +244,10 @@ where
         dispatchers,
         standing,
         tells_ready,
+        figures,
     } = settings;
     let told = tells_ready.then_some(speakers.len());
-    let tables = load_tables(rt, hashing, &standing, tables, told)?;
+    let tables = load_tables(rt, hashing, &standing, figures, tables, told)?;
     match place {
         Some(place) => run_behind(rt, dispatchers, &place, tables, speakers, screen),
         None => {

@@ -81,7 +81,9 @@ fn speak_over<
         }
     };
     let mut wire: Wire<I, O, Y> = Wire::new(input, output);
+    server.figures().session_begins();
     let ended = serve_session(rt, alloc, acknowledger, server, client, &mut wire);
+    server.figures().session_ends();
     let told = wire.told();
     let output = wire.into_output();
     StreamLeft {

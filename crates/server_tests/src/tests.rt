@@ -1,4 +1,5 @@
 mod closing;
+mod figures;
 mod following;
 mod held;
 mod memory;

@@ -11,7 +11,8 @@ ghost use Rattle.ssb_clients.specs.Clients.{IsClient, Refreshed, Looks, Asks, Po
 use crate::server::Server;
 use history::{SharedTable, Token};
 use history_core::{Response, Who};
-use row_store::{Follower, Receipt, RefreshError};
+use row_store::{Follower, Receipt, RefreshError, RowStore};
+use server_figures::LiveFigures;
 use ssb_questions::Question;
 use ssb_schema::{Items, Refresh};
 use std::marker::Model;
@@ -46,6 +47,15 @@ impl<K: Follower + Drop> Model for Client<K> {
     ghost invariant = { λ c. IsAtRest c.number c.asking c.token };
 }
 
+// Counts what became of a refresh, while its client holds the rows.
+fn count(figures: &LiveFigures, rows: &RowStore, reply: &Result<Receipt, RefreshError>) {
+    match reply {
+        Ok(receipt) => figures.has_committed(receipt.number, rows.line_count() as u64),
+        Err(RefreshError::Refused { .. }) => figures.has_refused(),
+        Err(RefreshError::OutOfMemory) => {}
+    }
+}
+
 // Takes the rows, applies the refresh, and gives the rows back.
 fn apply<K: Follower + Drop, R: Wait>(
     rt: &R,
@@ -60,6 +70,7 @@ fn apply<K: Follower + Drop, R: Wait>(
 {
     let mut rows = server.table.take_rows(rt, token);
     let reply = rows.refresh(number, refresh);
+    count(server.figures(), &rows, &reply);
     server.pace.lag.grows(&reply);
     server.table.put_rows(token, rows);
     reply

@@ -9,10 +9,10 @@ use crate::room::ClosingRoom;
 use crate::unneeded::Keeps;
 use history::SharedTable;
 use row_store::Follower;
+use server_figures::LiveFigures;
 use std::alloc::{AllocError, Global};
 use std::marker::Model;
-use std::sync::atomic::{AtomicU64, Ordering};
-use std::sync::{Mutex, Wait};
+use std::sync::{Arc, Mutex, Wait};
 
 /// The greatest number of clients, each of which has at most one request, of any number of questions.
 pub const MOST_CLIENTS: u32 = 16;
@@ -33,7 +33,7 @@ pub struct Server<K: Follower + Drop> {
     dispatchers: u32,
     pub(crate) bells: Bells,
     pub(crate) pace: Pace,
-    by_totals: AtomicU64,
+    figures: Arc<LiveFigures>,
     pub(crate) alloc: Global,
     // For the close. Tokens may not be shared between threads, and behind a lock they are not; nobody takes it.
     room: Mutex<ClosingRoom<K>>,
@@ -51,13 +51,15 @@ impl<K: Follower + Drop> Model for Server<K> {
 }
 
 impl<K: Follower + Drop> Server<K> {
-    /// The server over a table that was just made. `keeps` says which part of the log stays in memory.
+    /// The server over a table that was just made. `keeps` says which part of the log stays in memory; what is done is
+    /// counted in the figures.
     pub fn new(
         alloc: Global,
         table: SharedTable<K>,
         clients: u32,
         dispatchers: u32,
         keeps: Keeps,
+        figures: Arc<LiveFigures>,
     ) -> Result<Server<K>, AllocError>
         requires counts { (clients ≡ table.clients) × (dispatchers ≡ table.dispatchers) }
         requires few { (clients ≤ most_clients) × (dispatchers ≤ most_at_table) }
@@ -69,7 +71,7 @@ impl<K: Follower + Drop> Server<K> {
             dispatchers,
             bells: Bells::new(alloc, clients, dispatchers)?,
             pace: Pace::new(keeps),
-            by_totals: AtomicU64::new(0),
+            figures,
             alloc,
             room: Mutex::new(ClosingRoom::new(alloc)?),
         })
@@ -86,7 +88,7 @@ impl<K: Follower + Drop> Server<K> {
             dispatchers: _,
             bells: _,
             pace: _,
-            by_totals: _,
+            figures: _,
             alloc: _,
             room,
         } = self;
@@ -160,14 +162,8 @@ impl<K: Follower + Drop> Server<K> {
         self.pace.lags(dispatcher)
     }
 
-    /// How many questions of the batches so far were answered from totals that follow the commits. A figure for a
-    /// reader, modulo 2^64: no contract tells it.
-    pub fn answered_by_totals(&self) -> u64 {
-        self.by_totals.load(Ordering::Relaxed)
-    }
-
-    /// So many questions more were answered from totals.
-    pub fn count_by_totals(&self, questions: u64) {
-        let _ = self.by_totals.fetch_add(questions, Ordering::Relaxed);
+    /// What was done so far, in numbers: no contract tells them.
+    pub fn figures(&self) -> &LiveFigures {
+        &self.figures
     }
 }

@@ -5,6 +5,7 @@ ghost use Rattle.shared_scan.specs.declared.standing_error.StandingError.TheVari
 
 use dimension_index::index_of;
 use row_store::RowStore;
+use server_figures::LiveFigures;
 use ssb_base::Base;
 use ssb_questions::Question;
 use standing_columns::{StandingColumns, StandingError};
@@ -14,12 +15,13 @@ use std::marker::Model;
 use std::sync::Arc;
 use std::thread::Threads;
 
-/// The loaded lines of a base, twice: as rows that take refreshes, and in columns with questions that stand. Contracts
-/// see the base.
+/// The loaded lines of a base, twice: as rows that take refreshes, and in columns with questions that stand; and the
+/// figures in which the server over them counts what it does. Contracts see the base.
 #[derive(Drop)]
 pub struct Loaded {
     pub(crate) rows: RowStore,
     pub(crate) columns: StandingColumns,
+    pub(crate) figures: Arc<LiveFigures>,
 }
 
 impl Model for Loaded {
@@ -51,6 +53,27 @@ impl Loaded {
         let index = index_of(alloc, base)?;
         let rows = RowStore::new(alloc, Arc::try_clone(base)?, hashing)?;
         let columns = StandingColumns::loaded(rt, alloc, index, hashing, standing)?;
-        Ok(Loaded { rows, columns })
+        let figures = Arc::new(alloc, LiveFigures::new())?;
+        Ok(Loaded {
+            rows,
+            columns,
+            figures,
+        })
+    }
+
+    /// The same, but that the server counts in these figures, which others may share.
+    pub fn counted_in(self, figures: Arc<LiveFigures>) -> Loaded
+        ensures { result ≡ self }
+    {
+        let Loaded {
+            rows,
+            columns,
+            figures: _,
+        } = self;
+        Loaded {
+            rows,
+            columns,
+            figures,
+        }
     }
 }

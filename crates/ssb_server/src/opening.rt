@@ -12,11 +12,12 @@ use crate::batch::Batch;
 use crate::dispatcher::Dispatcher;
 use crate::loaded::Loaded;
 use crate::{Client, Keeps, LogReader, OpenedTable, Server, Token};
+use server_figures::LiveFigures;
 use ssb_clients::tickets::clients_of;
 use ssb_clients::{MOST_CLIENTS, MOST_DISPATCHERS};
 use standing_columns::StandingColumns;
 use std::alloc::{AllocError, Global};
-use std::sync::Wait;
+use std::sync::{Arc, Wait};
 use std::thread::Threads;
 use thiserror::Error;
 use twin_cell::{EndsCopies, TwinError, TwinReader, twin};
@@ -95,11 +96,12 @@ fn reader_of<W: EndsCopies + Drop>(tokens: &mut Vec<Token<W>>, keeps: Keeps) -> 
     }
 }
 
-// A table that was just made, and readers of its columns.
+// A table that was just made, readers of its columns, and the figures of the server over it.
 #[derive(Drop)]
 struct MadeTable<W: EndsCopies + Drop> {
     opened: OpenedTable<W>,
     readers: Vec<TwinReader<StandingColumns>>,
+    figures: Arc<LiveFigures>,
 }
 
 // The clients and dispatchers of these tokens of a table that was just made, with the server over it.
@@ -121,7 +123,11 @@ fn seat_all<W: EndsCopies + Drop>(
     ensures dispatchers { IfOk result (λ seated. seated.dispatchers.items ≡ made.opened.dispatchers.items) }
     ensures reader { IfOk result (λ seated. seated.reader ≡ reader) }
 {
-    let MadeTable { opened, readers } = made;
+    let MadeTable {
+        opened,
+        readers,
+        figures,
+    } = made;
     let history::OpenedTable {
         shared,
         clients,
@@ -130,7 +136,7 @@ fn seat_all<W: EndsCopies + Drop>(
     let clients = clients_of(alloc, clients)?;
     let dispatchers = dispatchers_of(alloc, dispatchers, readers)?;
     Ok(Opened {
-        server: ssb_clients::Server::new(alloc, shared, counts.0, counts.1, keeps)?,
+        server: ssb_clients::Server::new(alloc, shared, counts.0, counts.1, keeps, figures)?,
         clients,
         dispatchers,
         reader,
@@ -156,10 +162,19 @@ fn table_over<W: Threads + Sync + Wait + Drop>(
     ensures readers { IfOk result (λ made. All (IsNewReader made.opened.shared.base) made.readers.items) }
     ensures each { IfOk result (λ made. length made.readers.items ≡ answering) }
 {
-    let Loaded { rows, columns } = loaded;
+    let Loaded {
+        rows,
+        columns,
+        figures,
+    } = loaded;
+    figures.has_committed(0, rows.line_count() as u64);
     let (writer, readers) = twin(alloc, rt, columns, answering as usize)?;
     match history::SharedTable::new(alloc, rows, writer, counts.0, counts.1) {
-        Ok(opened) => Ok(MadeTable { opened, readers }),
+        Ok(opened) => Ok(MadeTable {
+            opened,
+            readers,
+            figures,
+        }),
         Err(_) => Err(TwinError::OutOfMemory),
     }
 }

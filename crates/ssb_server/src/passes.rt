@@ -98,6 +98,17 @@ pub(crate) fn answer_all<R: Threads + Sync>(
     Ok(found)
 }
 
+/// How many questions the requests have: a figure for a reader, which the contract bounds.
+pub(crate) fn count_questions(requests: &[Items<Question>]) -> u64
+    ensures { result ≤ length (all_questions requests.now) }
+{
+    let mut count = 0u64;
+    for request in requests {
+        count = count.wrapping_add(request.len() as u64);
+    }
+    count
+}
+
 /// How many of the requests' questions are answered from totals: a figure for a reader, which the contract bounds.
 pub(crate) fn count_standing(columns: &StandingColumns, requests: &[Items<Question>]) -> u64
     ensures { result ≤ length (all_questions requests.now) }

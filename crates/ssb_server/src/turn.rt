@@ -14,7 +14,7 @@ ghost use Rattle.ssb_server.specs.Ends.{Finishes, Ends, Turned, TellsFound};
 use crate::answers::{give_rows, give_up_all};
 use crate::batch::Batch;
 use crate::grabbing::grab_all;
-use crate::passes::{RequestRows, answer_all, count_standing};
+use crate::passes::{RequestRows, answer_all, count_questions, count_standing};
 use crate::snapshot::snapshot;
 use crate::{Server, Token};
 use ssb_answers::Unserved;
@@ -84,7 +84,7 @@ fn finish<W: EndsCopies + Drop>(
     }
 }
 
-// The rows of each request in hand, over this copy; the questions that totals answered are counted.
+// The rows of each request in hand, over this copy. The batch is counted before its clients get them.
 fn answer_batch<W: EndsCopies + Drop, R: Threads + Sync>(
     rt: &R,
     server: &Server<W>,
@@ -96,7 +96,10 @@ fn answer_batch<W: EndsCopies + Drop, R: Threads + Sync>(
         → IfOk result (λ rows. rows.items ≡ answers_after columns.now.base history requests.now) }
 {
     let rows = answer_all(rt, server.alloc(), columns, requests)?;
-    server.count_by_totals(count_standing(columns, requests));
+    let by_totals = count_standing(columns, requests);
+    server
+        .figures()
+        .has_answered(count_questions(requests), by_totals);
     Ok(rows)
 }
 

@@ -5,13 +5,13 @@ ghost use Rattle.history.specs.Tokens.{TokenRecord};
 ghost use Rattle.ssb_serving.specs.Members.{IsStill, AreStill};
 ghost use Rattle.ssb_clients.specs.Tickets.{IsOf};
 
-use crate::batches::Batches;
 use ssb_server::{Dispatcher, OpenGate, Server, Turn};
 use std::alloc::AllocError;
 use std::snapshot::Snapshot;
 use std::sync::Wait;
 use std::sync::atomic::{AtomicBool, Ordering};
 use std::thread::{Promise, PromisedHandle, Scope, Threads};
+use std::time::{Clock, Duration, Instant};
 
 /// What contracts see as a token.
 pub(crate) trait HasToken {
@@ -49,53 +49,51 @@ impl<W: Wait + Drop> TakesTurns<W> for Dispatcher<W> {
     }
 }
 
-/// A dispatcher that has ended, and the batches that it answered.
-#[derive(Drop)]
-pub(crate) struct Dispatched<D> {
-    pub(crate) dispatcher: D,
-    pub(crate) batches: Batches,
-}
-
 /// What a dispatcher's thread promises: the same dispatcher.
 #[derive(Drop)]
 pub(crate) struct DispatchedBy<D> {
     dispatcher: Snapshot<D>,
 }
 
-impl<D: HasToken> Promise<Dispatched<D>> for DispatchedBy<D> {
-    ghost kept_by = { λ p ended. IsStill (D.token p.dispatcher.value) (D.token ended.dispatcher) };
+impl<D: HasToken> Promise<D> for DispatchedBy<D> {
+    ghost kept_by = { λ p ended. IsStill (D.token p.dispatcher.value) (D.token ended) };
 }
 
 /// A dispatcher's thread.
-pub(crate) type Dispatching<W> = PromisedHandle<
-    Dispatched<Dispatcher<W>>,
-    DispatchedBy<Dispatcher<W>>,
->;
+pub(crate) type Dispatching<W> = PromisedHandle<Dispatcher<W>, DispatchedBy<Dispatcher<W>>>;
 
-// Takes turns until it is told to stop. Where nothing is asked, it carries commits over to the copies if they lag, and
-// else rests. Who tells it to stop sets the flag, and then rings.
-fn dispatch<W: Wait + Drop, D: TakesTurns<W> + Drop, R: Wait + Threads + Sync>(
+// How long ago that was, where the clock tells.
+fn time_since<C: Clock>(clock: &C, since: Option<Instant>) -> Option<Duration> {
+    let since = since?;
+    let now = Instant::now(clock).ok()?;
+    Some(now.duration_since(since))
+}
+
+// Takes turns until it is told to stop, and counts how long each batch took. Where nothing is asked, it carries commits
+// over to the copies if they lag, and else rests. Who tells it to stop sets the flag, and then rings.
+fn dispatch<W: Wait + Drop, D: TakesTurns<W> + Drop, R: Wait + Threads + Sync + Clock>(
     rt: &R,
     server: &Server<W>,
     stop: &AtomicBool,
     mut dispatcher: D,
-) -> Dispatched<D>
+) -> D
     requires { IsOf server.now (D.token dispatcher) }
-    ensures { IsStill (D.token dispatcher) (D.token result.dispatcher) }
+    ensures { IsStill (D.token dispatcher) (D.token result) }
 {
-    let mut batches = Batches::default();
     for _ in rt.forever() {
+        let begun = Instant::now(rt).ok();
         match dispatcher.take_turn(rt, server) {
             Turn::Idle => {
                 if stop.load(Ordering::SeqCst) {
-                    return Dispatched {
-                        dispatcher,
-                        batches,
-                    };
+                    return dispatcher;
                 }
                 dispatcher.idle(rt, server);
             }
-            Turn::Answered { at: _, count } => batches.add(count),
+            Turn::Answered { at, count: _ } => {
+                if let Some(time) = time_since(rt, begun) {
+                    server.figures().batch_took(at, time);
+                }
+            }
             Turn::Unserved { count: _, cause: _ } => {}
         }
     }
@@ -109,11 +107,11 @@ fn start_dispatcher<'s, E, W, D, R>(
     server: &'s Server<W>,
     stop: &'s AtomicBool,
     dispatcher: D,
-) -> Result<PromisedHandle<Dispatched<D>, DispatchedBy<D>>, AllocError>
+) -> Result<PromisedHandle<D, DispatchedBy<D>>, AllocError>
 where
     W: Wait + Drop + Send,
     D: TakesTurns<W> + Drop + Send + 's,
-    R: Wait + Threads + Sync,
+    R: Wait + Threads + Sync + Clock,
     requires { IsOf server.now (D.token dispatcher) }
     ensures { IfOk result (λ thread. thread.promise.dispatcher.value ≡ dispatcher) }
 {
@@ -122,16 +120,16 @@ where
     };
     let thread = scope.spawn_with(
         promise,
-        move || -> Dispatched<D>
+        move || -> D
             requires { IsSync R.row × IsOf server.now (D.token dispatcher) }
-            ensures { IsStill (D.token dispatcher) (D.token result.dispatcher) }
+            ensures { IsStill (D.token dispatcher) (D.token result) }
         { dispatch(rt, server, stop, dispatcher) },
     )?;
     Ok(thread)
 }
 
 /// Starts a thread for each dispatcher, in order. Where a thread can't be started, no later one is.
-pub(crate) fn start_dispatchers<'s, E, W: Wait + Drop + Send, R: Wait + Threads + Sync>(
+pub(crate) fn start_dispatchers<'s, E, W: Wait + Drop + Send, R: Wait + Threads + Sync + Clock>(
     scope: &Scope<'s, E>,
     rt: &'s R,
     server: &'s Server<W>,
@@ -158,18 +156,12 @@ pub(crate) fn join_dispatchers<W: Wait + Drop, R: Threads>(
     rt: &R,
     dispatching: Vec<Dispatching<W>>,
     dispatchers: &mut Vec<Dispatcher<W>>,
-    batches: &mut Batches,
 )
     requires empty { dispatchers.old.items ≡ [] }
     requires room { vec_len dispatching ≤ vec_capacity dispatchers.old }
     ensures { AreStill (map (λ h. h.promise.dispatcher.value) dispatching.items) dispatchers.new.items }
 {
     for thread in dispatching {
-        let Dispatched {
-            dispatcher,
-            batches: answered,
-        } = thread.join(rt);
-        dispatchers.push_reserved(dispatcher);
-        batches.merge(answered);
+        dispatchers.push_reserved(thread.join(rt));
     }
 }

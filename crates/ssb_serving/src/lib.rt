@@ -17,7 +17,6 @@
 //! ```
 #![tactic(auto)]
 
-mod batches;
 mod clients;
 mod dispatchers;
 mod run_fault;
@@ -26,7 +25,6 @@ mod streams;
 mod threads;
 mod watch;
 
-pub use batches::Batches;
 pub use clients::Spoken;
 pub use run_fault::RunFault;
 pub use streams::{StreamRun, run_opened, serve_opened, serve_streams};

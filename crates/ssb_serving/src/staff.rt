@@ -3,7 +3,6 @@ ghost use Rattle.std.specs.Prelude.{◌≡◌, All, IfOk, OnOk};
 ghost use Rattle.ssb_serving.specs.Members.{AreStill};
 ghost use Rattle.ssb_clients.specs.Tickets.{IsOf};
 
-use crate::batches::Batches;
 use crate::dispatchers::{Dispatching, join_dispatchers, start_dispatchers};
 use ssb_server::{Dispatcher, Server};
 use std::alloc::{AllocError, Global};
@@ -11,6 +10,7 @@ use std::marker::Model;
 use std::sync::Wait;
 use std::sync::atomic::{AtomicBool, Ordering};
 use std::thread::{Scope, Threads};
+use std::time::Clock;
 
 /// Dispatchers that are to work, which are what contracts see, with room for their threads and for what these leave. The
 /// room is made before the first thread starts: a started thread can then be joined without memory.
@@ -70,7 +70,7 @@ impl<W: Wait + Drop> Staff<W> {
     }
 
     /// Starts a thread for each dispatcher, in order. Where a thread can't be started, no later one is.
-    pub(crate) fn start<'s, E, R: Wait + Threads + Sync>(
+    pub(crate) fn start<'s, E, R: Wait + Threads + Sync + Clock>(
         self,
         scope: &Scope<'s, E>,
         rt: &'s R,
@@ -99,8 +99,8 @@ impl<W: Wait + Drop> StaffAtWork<W> {
         rt: &R,
         server: &Server<W>,
         stop: &AtomicBool,
-    ) -> (Vec<Dispatcher<W>>, Batches)
-        ensures { AreStill self result.0.items }
+    ) -> Vec<Dispatcher<W>>
+        ensures { AreStill self result.items }
     {
         let StaffAtWork {
             dispatching,
@@ -108,8 +108,7 @@ impl<W: Wait + Drop> StaffAtWork<W> {
         } = self;
         stop.store(true, Ordering::SeqCst);
         server.ring();
-        let mut batches = Batches::default();
-        join_dispatchers(rt, dispatching, &mut ended, &mut batches);
-        (ended, batches)
+        join_dispatchers(rt, dispatching, &mut ended);
+        ended
     }
 }

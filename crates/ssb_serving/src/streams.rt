@@ -8,27 +8,27 @@ ghost use Rattle.ssb_serving.specs.RunFaults.{IsRunFault};
 ghost use Rattle.ssb_serving.specs.Members.{AreStill, IsReady};
 ghost use Rattle.ssb_serving.specs.Streams.{AreSpoken, IsClosedWith, IsStreamRun};
 
-use crate::batches::Batches;
 use crate::clients::{Seat, Spoken};
 use crate::run_fault::RunFault;
 use crate::threads::{EndedThreads, run_threads};
 use crate::watch::{NoWatch, WatchesRun};
 use row_store::Log;
+use server_figures::Figures;
 use ssb_server::{Client, Closed, ColumnsWriter, Dispatcher, Keeps, Loaded, Opened, Server, open};
 use std::alloc::{AllocError, Global};
 use std::marker::PhantomData;
 use std::sync::Wait;
 use std::thread::Threads;
+use std::time::Clock;
 use stream_sessions::{Acknowledges, AtOnce, Evidence, Nothing, Service, Speaks};
 
-/// What the sessions of many clients leave: what each speaker left, in their order, and the log. Batches, and how many
-/// answers came from totals, are figures for a reader.
+/// What the sessions of many clients leave: what each speaker left, in their order, and the log. The figures of the
+/// server at its end are for a reader.
 #[derive(Drop)]
 pub struct StreamRun<L: Drop> {
     pub left: Vec<L>,
     pub log: Log,
-    pub batches: Batches,
-    pub by_totals: u64,
+    pub figures: Figures,
 }
 
 // What the clients leave, each by its place.
@@ -100,10 +100,9 @@ fn close_run<W: Wait + Drop, L: Drop>(
     let EndedThreads {
         spoken,
         dispatchers,
-        batches,
     } = ended;
     let Gathered { clients, left } = gather_left(alloc, spoken)?;
-    let by_totals = server.answered_by_totals();
+    let figures = server.figures().now();
     let closing = Opened {
         server,
         clients,
@@ -113,12 +112,7 @@ fn close_run<W: Wait + Drop, L: Drop>(
     let Ok(Closed { base: _, log }) = closing.close() else {
         unreachable!()
     };
-    Ok(StreamRun {
-        left,
-        log,
-        batches,
-        by_totals,
-    })
+    Ok(StreamRun { left, log, figures })
 }
 
 /// Serves the client of each place of a new server by the speaker there, each client and each dispatcher in a thread of
@@ -132,7 +126,7 @@ pub fn run_opened<W, R, S, V>(
 ) -> Result<StreamRun<S::Left>, AllocError>
 where
     W: Wait + Drop + Send,
-    R: Wait + Threads + Sync,
+    R: Wait + Threads + Sync + Clock,
     S: Speaks<R, Nothing> + Drop + Send,
     S::Left: Drop + Send,
     V: WatchesRun,
@@ -166,7 +160,7 @@ pub fn serve_opened<W, R, E, K, S>(
 ) -> Result<EndedThreads<W, Spoken<W, S::Left>>, AllocError>
 where
     W: Wait + Drop + Send,
-    R: Wait + Threads + Sync,
+    R: Wait + Threads + Sync + Clock,
     E: Evidence + Send,
     K: Acknowledges<E> + Sync,
     S: Speaks<R, E> + Drop + Send,
@@ -200,7 +194,7 @@ where
 /// The dispatchers' threads start first, then the clients' in the order of the speakers, and where one can't be
 /// started, no later one is. That, and a refused growth wherever it is met, is `OutOfMemory`; each thread that was
 /// started has ended then, too.
-pub fn serve_streams<R: Wait + Threads + Sync, S: Speaks<R, Nothing> + Drop + Send>(
+pub fn serve_streams<R: Wait + Threads + Sync + Clock, S: Speaks<R, Nothing> + Drop + Send>(
     rt: &R,
     alloc: Global,
     loaded: Loaded,

@@ -5,7 +5,6 @@ ghost use Rattle.std.specs.List.{AllZip};
 ghost use Rattle.ssb_clients.specs.Tickets.{IsOf, IsQuiet};
 ghost use Rattle.ssb_serving.specs.Members.{AreStill};
 
-use crate::batches::Batches;
 use crate::clients::{Leaves, Speaking, TakesSeat, join_clients, start_clients};
 use crate::staff::Staff;
 use ssb_server::{Dispatcher, Server};
@@ -14,13 +13,13 @@ use std::sync::Wait;
 use std::sync::atomic::AtomicBool;
 use std::thread;
 use std::thread::{Scope, Threads};
+use std::time::Clock;
 
 /// All who took part, after their threads ended.
 #[derive(Drop)]
 pub struct EndedThreads<W: Wait + Drop, P: Drop> {
     pub spoken: Vec<P>,
     pub dispatchers: Vec<Dispatcher<W>>,
-    pub batches: Batches,
 }
 
 // All who are to take part, with room for the clients' threads and for what these leave. The room is made before the
@@ -70,7 +69,7 @@ where
     W: Wait + Drop + Send,
     T: TakesSeat<W, R, P> + Drop + Send + 's,
     P: Drop + Send + 's,
-    R: Wait + Threads + Sync,
+    R: Wait + Threads + Sync + Clock,
     requires seats { All (λ seat. IsQuiet server.now (T.client seat)) crew.seats.items }
     requires dispatchers { All (IsOf server.now) crew.staff }
     ensures spoken { IfOk result (λ ended. AllZip T.leaves crew.seats.items ended.spoken.items) }
@@ -88,12 +87,11 @@ where
         Err(refused) => Err(refused),
     };
     join_clients(rt, speaking, &mut spoken);
-    let (dispatchers, batches) = staff.end(rt, server, stop);
+    let dispatchers = staff.end(rt, server, stop);
     started?;
     Ok(EndedThreads {
         spoken,
         dispatchers,
-        batches,
     })
 }
 
@@ -108,7 +106,7 @@ where
     W: Wait + Drop + Send,
     T: TakesSeat<W, R, P> + Drop + Send,
     P: Drop + Send,
-    R: Wait + Threads + Sync,
+    R: Wait + Threads + Sync + Clock,
     requires seats { All (λ seat. IsQuiet server.now (T.client seat)) crew.seats.items }
     requires dispatchers { All (IsOf server.now) crew.staff }
     ensures spoken { IfOk result (λ ended. AllZip T.leaves crew.seats.items ended.spoken.items) }
@@ -140,7 +138,7 @@ where
     W: Wait + Drop + Send,
     T: TakesSeat<W, R, P> + Drop + Send,
     P: Drop + Send,
-    R: Wait + Threads + Sync,
+    R: Wait + Threads + Sync + Clock,
     requires seats { All (λ seat. IsQuiet server.now (T.client seat)) seats.items }
     requires dispatchers { All (IsOf server.now) dispatchers.items }
     ensures spoken { IfOk result (λ ended. AllZip T.leaves seats.items ended.spoken.items) }

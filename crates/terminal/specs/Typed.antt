@@ -31,11 +31,12 @@ trimmed bytes = ended_at_word (begun_at_word bytes)
 abbrev pub spelling_of : TerminalWord → List ℕ
 spelling_of word.Help = codes "help"
 spelling_of word.Timing = codes "timing"
+spelling_of word.Status = codes "status"
 spelling_of word.Quit = codes "quit"
 spelling_of word.Exit = codes "exit"
 
 abbrev pub words : List TerminalWord
-words = word.Help ∷ word.Timing ∷ word.Quit ∷ word.Exit ∷ []
+words = word.Help ∷ word.Timing ∷ word.Status ∷ word.Quit ∷ word.Exit ∷ []
 
 -- the word that a line has alone
 abbrev pub word_typed : List ℕ → Option TerminalWord

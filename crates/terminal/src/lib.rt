@@ -2,7 +2,7 @@
 //! other line, and what is shown beside the replies.
 //!
 //! ```text
-//! a typed line ─┬─ help, timing                  does something here; the session reads a line of no bytes
+//! a typed line ─┬─ help, timing, status          does something here; the session reads a line of no bytes
 //!               ├─ quit, exit                    the session's input ends
 //!               ├─ q1.1 1994 1 3 0 24            the session reads query|Q1.1|1994|1|3|0|24
 //!               └─ any other, as begin           the session reads it as it was typed
@@ -17,13 +17,14 @@
 //!
 //! ```text
 //! let request = TypedRequest::new(rt.alloc());
-//! let input = Prompted::new(rt.alloc(), rt, terminal, screen, help, &request)?;   // what the session is to read
+//! let input = Prompted::new(rt.alloc(), rt, terminal, screen, &shows, &request)?; // what the session is to read
 //! let output = HelpedOutput::new(rt.alloc(), output, screen, Some(&request));     // what it is to write to
 //! ```
 #![tactic(auto)]
 
 mod fields;
 mod helped;
+mod on_demand;
 mod prompted;
 mod question;
 mod request;
@@ -32,6 +33,7 @@ mod stopwatch;
 mod word;
 
 pub use helped::HelpedOutput;
+pub use on_demand::ShowsOnDemand;
 pub use prompted::Prompted;
 pub use question::session_line;
 pub use request::TypedRequest;

@@ -1,6 +1,7 @@
 //! A terminal that is read: a prompt before each wait, and the words that are its own.
 
 use crate::fields::trimmed;
+use crate::on_demand::ShowsOnDemand;
 use crate::question::session_line;
 use crate::request::TypedRequest;
 use crate::stopwatch::ReplyWatch;
@@ -30,11 +31,11 @@ const NOTHING: &[u8] = b"\n";
 /// A terminal that is read line by line. Before it waits it writes a prompt to the screen, which shows which block is
 /// open, and before the first of them a line of help. What is read of it is what a session reads for each line.
 #[derive(Drop)]
-pub struct Prompted<'a, C: Clock, I: Read + Drop, E: Write + Drop> {
+pub struct Prompted<'a, C: Clock, I: Read + Drop, E: Write + Drop, S: ShowsOnDemand> {
     alloc: Global,
     terminal: BufReader<I>,
     screen: E,
-    help: &'a str,
+    shows: &'a S,
     request: &'a TypedRequest,
     watch: ReplyWatch<'a, C>,
     // The line that was typed last.
@@ -48,21 +49,21 @@ pub struct Prompted<'a, C: Clock, I: Read + Drop, E: Write + Drop> {
     has_ended: bool,
 }
 
-impl<'a, C: Clock, I: Read + Drop, E: Write + Drop> Prompted<'a, C, I, E> {
-    /// The terminal, with the screen for its prompts and help. The request that is typed is kept.
+impl<'a, C: Clock, I: Read + Drop, E: Write + Drop, S: ShowsOnDemand> Prompted<'a, C, I, E, S> {
+    /// The terminal, with the screen for its prompts and for what it shows. The request that is typed is kept.
     pub fn new(
         alloc: Global,
         clock: &'a C,
         terminal: I,
         screen: E,
-        help: &'a str,
+        shows: &'a S,
         request: &'a TypedRequest,
-    ) -> io::Result<Prompted<'a, C, I, E>> {
+    ) -> io::Result<Prompted<'a, C, I, E, S>> {
         Ok(Prompted {
             alloc,
             terminal: BufReader::new(alloc, terminal)?,
             screen,
-            help,
+            shows,
             request,
             watch: ReplyWatch::new(clock),
             line: Vec::new(alloc),
@@ -93,9 +94,13 @@ impl<'a, C: Clock, I: Read + Drop, E: Write + Drop> Prompted<'a, C, I, E> {
     fn obey(&mut self, word: TerminalWord) -> io::Result<()> {
         match word {
             TerminalWord::Help => {
-                let _ = self.screen.write_all(self.help.as_bytes());
+                let _ = self.screen.write_all(self.shows.help().as_bytes());
             }
             TerminalWord::Timing => self.watch.switch(&mut self.screen),
+            TerminalWord::Status => {
+                let since_reply = self.watch.since_reply();
+                self.shows.show_status(since_reply, &mut self.screen);
+            }
             TerminalWord::Quit | TerminalWord::Exit => {
                 self.has_ended = true;
                 return Ok(());
@@ -143,7 +148,9 @@ impl<'a, C: Clock, I: Read + Drop, E: Write + Drop> Prompted<'a, C, I, E> {
     }
 }
 
-impl<'a, C: Clock, I: Read + Drop, E: Write + Drop> Read for Prompted<'a, C, I, E> {
+impl<'a, C: Clock, I: Read + Drop, E: Write + Drop, S: ShowsOnDemand> Read
+    for Prompted<'a, C, I, E, S>
+{
     fn read(&mut self, buf: &mut [u8]) -> io::Result<usize> {
         if self.rest().is_empty() {
             self.take_line()?;

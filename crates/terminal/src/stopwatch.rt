@@ -1,7 +1,8 @@
-//! How long a reply takes, where a person wants to see it. What a clock says is in no contract.
+//! How long a reply takes, where a person wants to see it, and how long ago it came. What a clock says is in no
+//! contract.
 
 use std::io::Write;
-use std::time::{Clock, Instant};
+use std::time::{Clock, Duration, Instant};
 
 /// A watch at a terminal, which is switched on and off by a word.
 #[derive(Drop)]
@@ -10,6 +11,10 @@ pub(crate) struct ReplyWatch<'a, C: Clock> {
     is_on: bool,
     // When a request was handed on, whose reply is not told yet.
     since: Option<Instant>,
+    // Whether a request was handed on since the last prompt.
+    is_awaited: bool,
+    // When the last reply had come.
+    replied: Option<Instant>,
 }
 
 impl<'a, C: Clock> ReplyWatch<'a, C> {
@@ -19,6 +24,8 @@ impl<'a, C: Clock> ReplyWatch<'a, C> {
             clock,
             is_on: false,
             since: None,
+            is_awaited: false,
+            replied: None,
         }
     }
 
@@ -29,24 +36,38 @@ impl<'a, C: Clock> ReplyWatch<'a, C> {
         let _ = writeln!(screen, "timing {now}");
     }
 
-    /// Begins now, if it is on.
+    /// A request is handed on. The watch begins now, if it is on.
     pub(crate) fn begin(&mut self) {
+        self.is_awaited = true;
         if self.is_on {
             self.since = Instant::now(self.clock).ok();
         }
     }
 
-    /// Shows how long it took since, in seconds, if it has begun.
+    // When the reply to the last request had come: now, if it is awaited.
+    fn replied_now(&mut self) {
+        if self.is_awaited {
+            self.is_awaited = false;
+            self.replied = Instant::now(self.clock).ok();
+        }
+    }
+
+    /// The reply has come. Shows how long it took, in seconds, if the watch has begun.
     pub(crate) fn show<E: Write>(&mut self, screen: &mut E) {
-        let Some(since) = self.since else {
-            return;
-        };
-        self.since = None;
-        if let Ok(now) = Instant::now(self.clock) {
-            let time = now.duration_since(since);
+        self.replied_now();
+        if let (Some(since), Some(replied)) = (self.since, self.replied) {
+            self.since = None;
+            let time = replied.duration_since(since);
             let seconds = time.as_secs();
             let micros = time.subsec_micros();
             let _ = writeln!(screen, "{seconds}.{micros:06} s");
         }
+    }
+
+    /// How long ago the last reply had come, where one has.
+    pub(crate) fn since_reply(&self) -> Option<Duration> {
+        let replied = self.replied?;
+        let now = Instant::now(self.clock).ok()?;
+        Some(now.duration_since(replied))
     }
 }

@@ -13,6 +13,8 @@ pub enum TerminalWord {
     Help,
     /// From then on, or no more, it is shown how long a reply took.
     Timing,
+    /// How the server does is shown.
+    Status,
     /// The input ends.
     Quit,
     /// The same.
@@ -20,9 +22,10 @@ pub enum TerminalWord {
 }
 
 /// All words.
-pub(crate) const WORDS: [TerminalWord; 4] = [
+pub(crate) const WORDS: [TerminalWord; 5] = [
     TerminalWord::Help,
     TerminalWord::Timing,
+    TerminalWord::Status,
     TerminalWord::Quit,
     TerminalWord::Exit,
 ];
@@ -42,6 +45,7 @@ impl TerminalWord {
         match self {
             TerminalWord::Help => b"help",
             TerminalWord::Timing => b"timing",
+            TerminalWord::Status => b"status",
             TerminalWord::Quit => b"quit",
             TerminalWord::Exit => b"exit",
         }

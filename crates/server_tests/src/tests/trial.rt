@@ -5,6 +5,7 @@ ghost use Rattle.ssb_clients.specs.Tickets.{IsOf, IsQuiet};
 use crate::tests::opening::{next_client, next_dispatcher, opened};
 use history_core::Response;
 use row_store::{Receipt, RefreshError};
+use server_figures::Figures;
 use ssb_answers::Answer;
 use ssb_report::{write_answers, write_reply};
 use ssb_schema::Refresh;
@@ -46,6 +47,8 @@ pub enum TrialStep {
     Turn,
     /// The dispatcher carries the commits over, though nothing is asked.
     Following,
+    /// The server's figures are looked at.
+    Counting,
 }
 
 /// Three clients and a dispatcher of a server, which is theirs.
@@ -92,6 +95,15 @@ fn report(alloc: Global, turn: Turn) -> Result<String, AllocError> {
         Turn::Answered { at, count } => format!(in alloc; "answered {count} at {at}"),
         Turn::Unserved { count, cause } => format!(in alloc; "gave up {count}: {cause:?}"),
     }
+}
+
+// What a server has counted.
+fn counted(alloc: Global, figures: Figures) -> Result<String, AllocError> {
+    let (commits, lines, refusals) = (figures.commits, figures.lines, figures.refusals);
+    let (answers, batches) = (figures.answers, figures.batches);
+    format!(in alloc;
+        "{commits} commits, {lines} lines, {refusals} refused, {answers} answers, {batches} batches"
+    )
 }
 
 // A client's refresh.
@@ -320,6 +332,7 @@ impl<'s, W: Wait + Drop> Trial<'s, W> {
                 follows(rt, self.server, &mut self.dispatcher);
                 String::from_str(alloc, "follows")
             }
+            TrialStep::Counting => counted(alloc, self.server.figures().now()),
         }
     }
 

@@ -1,7 +1,7 @@
 //! One client or two and a dispatcher, in one thread.
 
-use crate::tests::trial::TrialDeed::{Adds, Asks, Polls};
-use crate::tests::trial::TrialStep::{First, Meeting, Second, Turn};
+use crate::tests::trial::TrialDeed::{Adds, Asks, Polls, Withdraws};
+use crate::tests::trial::TrialStep::{Counting, First, Meeting, Second, Turn};
 use crate::tests::trial::played;
 use crate::tests::{LOADED, WITH_NINE};
 use std::test::Fail;
@@ -72,6 +72,32 @@ fn answer_from_before_a_commit_stays_so(rt: HostRuntime) -> Result<(), Fail> {
             (Turn, "answered 1 at 0"),
             (First(Adds(9)), "committed 1"),
             (Second(Polls), LOADED),
+        ],
+    )
+}
+
+#[test]
+fn what_was_done_is_counted_before_it_is_told(rt: HostRuntime) -> Result<(), Fail> {
+    played(
+        &rt,
+        &[
+            (
+                Counting,
+                "0 commits, 4 lines, 0 refused, 0 answers, 0 batches",
+            ),
+            (First(Adds(9)), "committed 1"),
+            (First(Withdraws(77)), "refused at 1 action 1: 47 Absent 77"),
+            (
+                Counting,
+                "1 commits, 5 lines, 1 refused, 0 answers, 0 batches",
+            ),
+            (First(Asks("Q4.1")), "asked"),
+            (Second(Asks("Q4.1 Q1.1")), "asked"),
+            (Turn, "answered 2 at 1"),
+            (
+                Counting,
+                "1 commits, 5 lines, 1 refused, 3 answers, 1 batches",
+            ),
         ],
     )
 }

@@ -42,4 +42,5 @@ returns-in_err-loaded-clause-words g c =
 pub returns-clause-base : goal.returns-clause-base
 returns-clause-base g c = λ texts are.
     let same : c.in_ok-base-2.base.value ≡ c.in_ok-base.base = search rules in
-    subst (IsLoadedToServe texts) (sym (c.in_ok-loaded.ensures.base ∙ same)) (c.in_ok-base.ensures.base texts are)
+    subst (IsLoadedToServe texts) (sym (c.counted_in.ensures ∙ (c.in_ok-loaded.ensures.base ∙ same)))
+    (c.in_ok-base.ensures.base texts are)

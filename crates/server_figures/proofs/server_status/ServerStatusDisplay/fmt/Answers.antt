@@ -1,0 +1,11 @@
+use Rattle.std.proofs.Common.{rules, append_assoc, append-nil}
+use Rattle.std.proofs.Output.{has_written_append, has_written_of_eq}
+use Rattle.server_figures.proofs.server_status.ServerStatusDisplay.fmt.Goals as goal
+
+pub returns-clause-writes : goal.returns-clause-writes
+returns-clause-writes g c = λ plain ok.
+    let first = c.in_ok-write.ensures.writes plain (search rules) in
+    let second = c.in_ok-writeln.ensures.writes first.plain (search rules) in
+    let third = c.write-2.ensures.writes second.plain ok in
+    has_written_of_eq _ _ _ _ _ (simp (append_assoc, append-nil))
+    (has_written_append _ _ _ _ _ _ first (has_written_append _ _ _ _ _ _ second third))

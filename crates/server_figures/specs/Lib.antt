@@ -1,0 +1,3 @@
+pub mod MetricsText
+pub mod StatusText
+pub mod Laws
