@@ -2,6 +2,7 @@
 import hashlib
 import re
 
+from checksums import checksum
 from common import TABLES
 from judge import Disagreement
 from traffic import Order, Withdrawal
@@ -14,11 +15,11 @@ TEXT_FIELDS = {6, 7, 16}                    # of a lineorder row
 
 def head_text(data):
     """The text of the first group of a journal over the tables of a folder."""
-    text = "ssb_live journal 1\n"
+    text = "ssb_live journal 2\n"
     for table in TABLES:
         with open(data / f"{table}.tbl", "rb") as rows:
             content = rows.read()
-        text += f"{table}|{len(content)}|{content.count(10)}\n"
+        text += f"{table}|{len(content)}|{content.count(10)}|{checksum(content)}\n"
     return text.encode()
 
 

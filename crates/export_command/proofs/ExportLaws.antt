@@ -11,11 +11,11 @@ use Rattle.journal.specs.Groups.{recovered}
 use Rattle.journal_file.specs.declared.file_disk.OpenError.{OpenError}
 use Rattle.journal_file.specs.declared.file_disk.OpenError.TheVariants as open_error
 use Rattle.journal_opening.specs.Kept.{IsKnown}
-use Rattle.journal_opening.specs.Sizes.{AreSizes}
+use Rattle.journal_opening.specs.Marks.{AreMarks, HaveChecksums}
 use Rattle.journal_opening.specs.declared.fault.OpeningFault.TheVariants as opening
 use Rattle.ssb_journal.specs.Opening.{IsKept}
 use Rattle.ssb_journal.specs.Replays.{IsReplayFault}
-use Rattle.ssb_journal.specs.declared.head.TableSize.{TableSize}
+use Rattle.ssb_journal.specs.declared.head.TableMark.{TableMark}
 use Rattle.ssb_journal.specs.declared.opening.KeptCommits.{KeptCommits}
 use Rattle.ssb_journal.specs.declared.replaying.ReplayFault.{ReplayFault}
 use Rattle.ssb_schema.specs.declared.table.Table.{Table}
@@ -34,10 +34,10 @@ use Rattle.export_command.specs.declared.fault.ExportRefusal.{ExportRefusal}
 use Rattle.export_command.specs.declared.fault.ExportRefusal.TheVariants as refusal
 
 -- a folder that was filled with the tables after the commits
-pub is_export : (base : Tables) (sizes : List TableSize) (file : List ℕ) (tables : Tables) (calls : List FolderCall)
-    → AreTablesAfter base sizes file tables → IsSound tables → TextsSpellTheirBase → HasAll (base_texts tables) calls
-    → ((t : Table) → AreTableRows tables t) → IsExport base sizes file calls
-is_export base sizes file tables calls after sound spell has rows = record {
+pub is_export : (base : Tables) (marks : List TableMark) (file : List ℕ) (tables : Tables) (calls : List FolderCall)
+    → AreTablesAfter base marks file tables → IsSound tables → TextsSpellTheirBase → HasAll (base_texts tables) calls
+    → ((t : Table) → AreTableRows tables t) → IsExport base marks file calls
+is_export base marks file tables calls after sound spell has rows = record {
   tables = tables;
   after = after;
   has = has;
@@ -46,32 +46,33 @@ is_export base sizes file tables calls after sound spell has rows = record {
 }
 
 -- where no call was made a crash leaves nothing
-pub left_nothing : (base : Tables) (sizes : List TableSize) (file : List ℕ) (calls : List FolderCall) → calls ≡ []
-    → LeftNoneOrExport base sizes file calls
-left_nothing base sizes file calls none left any =
+pub left_nothing : (base : Tables) (marks : List TableMark) (file : List ℕ) (calls : List FolderCall) → calls ≡ []
+    → LeftNoneOrExport base marks file calls
+left_nothing base marks file calls none left any =
     inl (subst (λ (now : List FolderCall). LeftAnyTime now left) none any Lineorder)
 
-none_or_export : (base : Tables) (sizes : List TableSize) (file : List ℕ) (tables : Tables)
-    → AreTablesAfter base sizes file tables → (left : Table → Option (List ℕ))
-    → AreNoneOrAll (base_texts tables) left → IsNoneOrExport base sizes file left
-none_or_export base sizes file tables after left (inl none) = inl none
-none_or_export base sizes file tables after left (inr all) = inr (tables, after, all)
+none_or_export : (base : Tables) (marks : List TableMark) (file : List ℕ) (tables : Tables)
+    → AreTablesAfter base marks file tables → (left : Table → Option (List ℕ))
+    → AreNoneOrAll (base_texts tables) left → IsNoneOrExport base marks file left
+none_or_export base marks file tables after left (inl none) = inl none
+none_or_export base marks file tables after left (inr all) = inr (tables, after, all)
 
-pub left_export : (base : Tables) (sizes : List TableSize) (file : List ℕ) (tables : Tables) (calls : List FolderCall)
-    → AreTablesAfter base sizes file tables → LeftNoneOrAll (base_texts tables) calls
-    → LeftNoneOrExport base sizes file calls
-left_export base sizes file tables calls after all left any =
-    none_or_export base sizes file tables after left (all left any)
+pub left_export : (base : Tables) (marks : List TableMark) (file : List ℕ) (tables : Tables) (calls : List FolderCall)
+    → AreTablesAfter base marks file tables → LeftNoneOrAll (base_texts tables) calls
+    → LeftNoneOrExport base marks file calls
+left_export base marks file tables calls after all left any =
+    none_or_export base marks file tables after left (all left any)
 
 -- over the tables that were loaded
-exports-of : (texts : Table → List ℕ) (known : Option (List ℕ)) (base : Tables) (sizes : List TableSize) (file : List ℕ)
-    (calls : List FolderCall) → IsLoadedToServe texts base → AreSizes base sizes → IsKnown known file
-    → IsExport base sizes file calls → Exports texts known
-exports-of texts known base sizes file calls loaded sized is_file is = record {
+exports-of : (texts : Table → List ℕ) (known : Option (List ℕ)) (base : Tables) (marks : List TableMark) (file : List ℕ)
+    (calls : List FolderCall) → IsLoadedToServe texts base → AreMarks base marks → HaveChecksums texts marks
+    → IsKnown known file → IsExport base marks file calls → Exports texts known
+exports-of texts known base marks file calls loaded marked checked is_file is = record {
   base = base;
   loaded = loaded;
-  sizes = sizes;
-  sized = sized;
+  marks = marks;
+  marked = marked;
+  checked = checked;
   file = file;
   is_file = is_file;
   commits = is.after.commits;
@@ -86,47 +87,47 @@ exports-of texts known base sizes file calls loaded sized is_file is = record {
   });
 }
 
-pub exports : (texts : Table → List ℕ) (known : Option (List ℕ)) (base held : Tables) (sizes : List TableSize)
-    (file : List ℕ) (calls : List FolderCall) → IsLoadedToServe texts base → AreSizes base sizes → IsKnown known file
-    → held ≡ base → IsExport held sizes file calls → Exports texts known
-exports texts known base held sizes file calls loaded sized is_file same is =
-    exports-of texts known base sizes file calls loaded sized is_file
-    (subst (λ (b : Tables). IsExport b sizes file calls) same is)
+pub exports : (texts : Table → List ℕ) (known : Option (List ℕ)) (base held : Tables) (marks : List TableMark)
+    (file : List ℕ) (calls : List FolderCall) → IsLoadedToServe texts base → AreMarks base marks → HaveChecksums texts marks
+    → IsKnown known file → held ≡ base → IsExport held marks file calls → Exports texts known
+exports texts known base held marks file calls loaded marked checked is_file same is =
+    exports-of texts known base marks file calls loaded marked checked is_file
+    (subst (λ (b : Tables). IsExport b marks file calls) same is)
 
 pub on_ok : {X E : Type 0} (P Q : Type 0) (result : Result X E) → (P → Q) → OnOk result P → OnOk result Q
 on_ok P Q (Ok v) more holds = more holds
 on_ok P Q (Err e) more holds = tt
 
 -- the commits that a file keeps, and why they are no history
-pub replay_told : (base : Tables) (sizes : List TableSize) (file : List ℕ) (kept : KeptCommits) (why : ReplayFault)
-    → IsKept sizes (recovered file) kept → IsReplayFault base kept.commits.items why
-    → TellsJournalFault base sizes file (job.Found (refusal.Journal (opening.Replay why)))
-replay_told base sizes file kept why (inl new) fault = (kept.commits.items, inr (new.1, new.2), fault)
-replay_told base sizes file kept why (inr is) fault = (
+pub replay_told : (base : Tables) (marks : List TableMark) (file : List ℕ) (kept : KeptCommits) (why : ReplayFault)
+    → IsKept marks (recovered file) kept → IsReplayFault base kept.commits.items why
+    → TellsJournalFault base marks file (job.Found (refusal.Journal (opening.Replay why)))
+replay_told base marks file kept why (inl new) fault = (kept.commits.items, inr (new.1, new.2), fault)
+replay_told base marks file kept why (inr is) fault = (
   kept.commits.items,
-  inl (record { texts = is.1.texts; is_journal = is.1.sealed; spelled = is.1.spelled }),
+  inl (record { texts = is.1.texts; is_journal = (kept.form, is.1.sealed); spelled = is.1.spelled }),
   fault,
 )
 
 -- the tables after the commits that a file keeps
-pub after_kept : (base : Tables) (sizes : List TableSize) (file : List ℕ) (kept : KeptCommits) (tables : Tables)
-    → IsKept sizes (recovered file) kept → IsLegal base kept.commits.items
-    → tables ≡ tables_after base kept.commits.items → AreTablesAfter base sizes file tables
-after_kept base sizes file kept tables (inl new) legal are =
+pub after_kept : (base : Tables) (marks : List TableMark) (file : List ℕ) (kept : KeptCommits) (tables : Tables)
+    → IsKept marks (recovered file) kept → IsLegal base kept.commits.items
+    → tables ≡ tables_after base kept.commits.items → AreTablesAfter base marks file tables
+after_kept base marks file kept tables (inl new) legal are =
     record { commits = kept.commits.items; has = inr (new.1, new.2); legal = legal; are = are }
-after_kept base sizes file kept tables (inr is) legal are = record {
+after_kept base marks file kept tables (inr is) legal are = record {
   commits = kept.commits.items;
-  has = inl (record { texts = is.1.texts; is_journal = is.1.sealed; spelled = is.1.spelled });
+  has = inl (record { texts = is.1.texts; is_journal = (kept.form, is.1.sealed); spelled = is.1.spelled });
   legal = legal;
   are = are;
 }
 
-pub has_so_many : (sizes : List TableSize) (file : List ℕ) (kept : KeptCommits) (count : ℕ)
-    → IsKept sizes (recovered file) kept → count ≡ length kept.commits.items → HasSoMany sizes count file
-has_so_many sizes file kept count (inl new) many = (kept.commits.items, inr (new.1, new.2), sym many)
-has_so_many sizes file kept count (inr is) many = (
+pub has_so_many : (marks : List TableMark) (file : List ℕ) (kept : KeptCommits) (count : ℕ)
+    → IsKept marks (recovered file) kept → count ≡ length kept.commits.items → HasSoMany marks count file
+has_so_many marks file kept count (inl new) many = (kept.commits.items, inr (new.1, new.2), sym many)
+has_so_many marks file kept count (inr is) many = (
   kept.commits.items,
-  inl (record { texts = is.1.texts; is_journal = is.1.sealed; spelled = is.1.spelled }),
+  inl (record { texts = is.1.texts; is_journal = (kept.form, is.1.sealed); spelled = is.1.spelled }),
   sym many,
 )
 
@@ -144,38 +145,39 @@ pub file_fault_tells : (texts : Table → List ℕ) (known : Option (List ℕ)) 
 file_fault_tells texts known Taken open_error.InUse taken = taken refl
 file_fault_tells texts known Taken (open_error.Io error) taken = tt
 
-over_texts : (texts : Table → List ℕ) (known : Option (List ℕ)) (base held : Tables) (sizes : List TableSize)
-    (file : List ℕ) (why : JobFault ExportRefusal) → IsLoadedToServe texts base → AreSizes base sizes
-    → IsKnown known file → held ≡ base → TellsJournalFault held sizes file why → TellsOverTexts texts known why
-over_texts texts known base held sizes file why loaded sized is_file same told = record {
+over_texts : (texts : Table → List ℕ) (known : Option (List ℕ)) (base held : Tables) (marks : List TableMark)
+    (file : List ℕ) (why : JobFault ExportRefusal) → IsLoadedToServe texts base → AreMarks base marks
+    → HaveChecksums texts marks → IsKnown known file → held ≡ base → TellsJournalFault held marks file why → TellsOverTexts texts known why
+over_texts texts known base held marks file why loaded marked checked is_file same told = record {
   base = base;
   loaded = loaded;
-  sizes = sizes;
-  sized = sized;
+  marks = marks;
+  marked = marked;
+  checked = checked;
   file = file;
   is_file = is_file;
-  told = subst (λ (b : Tables). TellsJournalFault b sizes file why) same told;
+  told = subst (λ (b : Tables). TellsJournalFault b marks file why) same told;
 }
 
 pub fill_fault_tells : (texts : Table → List ℕ) (known : Option (List ℕ)) (Taken : Type 0) (base held : Tables)
-    (sizes : List TableSize) (file : List ℕ) (why : JobFault ExportRefusal) → IsLoadedToServe texts base
-    → AreSizes base sizes → IsKnown known file → held ≡ base → IsFillFault why → TellsJournalFault held sizes file why
+    (marks : List TableMark) (file : List ℕ) (why : JobFault ExportRefusal) → IsLoadedToServe texts base
+    → AreMarks base marks → HaveChecksums texts marks → IsKnown known file → held ≡ base → IsFillFault why → TellsJournalFault held marks file why
     → TellsExportFault texts known Taken why
-fill_fault_tells texts known Taken base held sizes file (job.Program why) loaded sized is_file same is told =
+fill_fault_tells texts known Taken base held marks file (job.Program why) loaded marked checked is_file same is told =
     λ one. absurd (omega (arith, is, one))
-fill_fault_tells texts known Taken base held sizes file (job.Found (refusal.Journal (opening.File why))) loaded sized
+fill_fault_tells texts known Taken base held marks file (job.Found (refusal.Journal (opening.File why))) loaded marked checked
     is_file same is told = absurd is
-fill_fault_tells texts known Taken base held sizes file (job.Found (refusal.Journal (opening.Kept why))) loaded sized
+fill_fault_tells texts known Taken base held marks file (job.Found (refusal.Journal (opening.Kept why))) loaded marked checked
     is_file same is told =
-    over_texts texts known base held sizes file (job.Found (refusal.Journal (opening.Kept why))) loaded sized is_file
+    over_texts texts known base held marks file (job.Found (refusal.Journal (opening.Kept why))) loaded marked checked is_file
     same told
-fill_fault_tells texts known Taken base held sizes file (job.Found (refusal.Journal (opening.Replay why))) loaded sized
+fill_fault_tells texts known Taken base held marks file (job.Found (refusal.Journal (opening.Replay why))) loaded marked checked
     is_file same is told =
-    over_texts texts known base held sizes file (job.Found (refusal.Journal (opening.Replay why))) loaded sized is_file
+    over_texts texts known base held marks file (job.Found (refusal.Journal (opening.Replay why))) loaded marked checked is_file
     same told
-fill_fault_tells texts known Taken base held sizes file (job.Found (refusal.CannotWrite path)) loaded sized is_file same
+fill_fault_tells texts known Taken base held marks file (job.Found (refusal.CannotWrite path)) loaded marked checked is_file same
     is told = tt
-fill_fault_tells texts known Taken base held sizes file (job.Found (refusal.Folder why)) loaded sized is_file same is
+fill_fault_tells texts known Taken base held marks file (job.Found (refusal.Folder why)) loaded marked checked is_file same is
     told = absurd is
 
 pub if_err : {X E : Type 0} (P Q R : E → Type 0) (result : Result X E) → ((why : E) → P why → Q why → R why)

@@ -6,7 +6,7 @@ use Rattle.export_command.specs.declared.fault.ExportRefusal.TheVariants as refu
 use Rattle.journal.specs.Groups.{AreTorn}
 use Rattle.journal_file.specs.declared.file_disk.OpenError.TheVariants as open_error
 use Rattle.journal_opening.specs.Kept.{HasCommits, IsKnown}
-use Rattle.journal_opening.specs.Sizes.{AreSizes}
+use Rattle.journal_opening.specs.Marks.{AreMarks, HaveChecksums}
 use Rattle.journal_opening.specs.declared.fault.OpeningFault.TheVariants as opening
 use Rattle.row_store.specs.History.{CommitRecord}
 use Rattle.row_store.specs.Legal.{IsLegal}
@@ -17,7 +17,7 @@ use Rattle.ssb_files.specs.declared.job.JobFault.{JobFault}
 use Rattle.ssb_files.specs.declared.job.JobFault.TheVariants as job
 use Rattle.ssb_journal.specs.Opening.{TellsOpenFault}
 use Rattle.ssb_journal.specs.Replays.{IsReplayFault}
-use Rattle.ssb_journal.specs.declared.head.TableSize.{TableSize}
+use Rattle.ssb_journal.specs.declared.head.TableMark.{TableMark}
 use Rattle.ssb_schema.specs.declared.table.Table.{Table}
 use Rattle.ssb_schema.specs.declared.table.Table.TheVariants.{Lineorder}
 use Rattle.ssb_text.specs.Load.{SpellsBase}
@@ -25,17 +25,17 @@ use Rattle.table_folder.specs.Calls.{FolderCall, LeftAnyTime}
 use Rattle.table_folder.specs.Filled.{AreAll, HasAll}
 use Rattle.ssb_text.specs.TableText.{base_texts}
 
--- the commits that a file has over tables of these sizes are a legal history over a base, and these are the tables
+-- the commits that a file has over tables of these marks are a legal history over a base, and these are the tables
 -- after it
-pub record AreTablesAfter (base : Tables) (sizes : List TableSize) (file : List ℕ) (tables : Tables) : Type 0 where
+pub record AreTablesAfter (base : Tables) (marks : List TableMark) (file : List ℕ) (tables : Tables) : Type 0 where
   pub commits : List CommitRecord
-  pub has : HasCommits sizes commits file
+  pub has : HasCommits marks commits file
   pub legal : IsLegal base commits
   pub are : tables ≡ tables_after base commits
 
--- the commits that a file has over tables of these sizes are so many
-abbrev pub HasSoMany : List TableSize → ℕ → List ℕ → Type 0
-HasSoMany sizes count file = (commits : List CommitRecord) × HasCommits sizes commits file × (length commits ≡ count)
+-- the commits that a file has over tables of these marks are so many
+abbrev pub HasSoMany : List TableMark → ℕ → List ℕ → Type 0
+HasSoMany marks count file = (commits : List CommitRecord) × HasCommits marks commits file × (length commits ≡ count)
 
 -- the bytes of it that a crash has torn are so many
 abbrev pub HasSoManyTorn : ℕ → List ℕ → Type 0
@@ -43,29 +43,30 @@ HasSoManyTorn count file = (torn : List ℕ) × AreTorn file torn × (length tor
 
 -- the folder has the five texts of the tables after the commits that the file keeps, and each crash from now on leaves
 -- them; they spell these tables, of which nothing is refused
-pub record IsExport (base : Tables) (sizes : List TableSize) (file : List ℕ) (calls : List FolderCall) : Type 0 where
+pub record IsExport (base : Tables) (marks : List TableMark) (file : List ℕ) (calls : List FolderCall) : Type 0 where
   pub tables : Tables
-  pub after : AreTablesAfter base sizes file tables
+  pub after : AreTablesAfter base marks file tables
   pub has : HasAll (base_texts tables) calls
   pub spelled : SpellsBase (base_texts tables) tables
   pub sound : IsSound tables
 
 -- under the name of lineorder a crash left nothing, or under each name the text of the table after the commits
-abbrev pub IsNoneOrExport : Tables → List TableSize → List ℕ → (Table → Option (List ℕ)) → Type 0
-IsNoneOrExport base sizes file left =
-    (left Lineorder ≡ None) ⊎ ((tables : Tables) × AreTablesAfter base sizes file tables × AreAll (base_texts tables) left)
+abbrev pub IsNoneOrExport : Tables → List TableMark → List ℕ → (Table → Option (List ℕ)) → Type 0
+IsNoneOrExport base marks file left =
+    (left Lineorder ≡ None)
+    ⊎ ((tables : Tables) × AreTablesAfter base marks file tables × AreAll (base_texts tables) left)
 
 -- at any moment it did
-abbrev pub LeftNoneOrExport : Tables → List TableSize → List ℕ → List FolderCall → Type 0
-LeftNoneOrExport base sizes file calls =
-    (left : Table → Option (List ℕ)) → LeftAnyTime calls left → IsNoneOrExport base sizes file left
+abbrev pub LeftNoneOrExport : Tables → List TableMark → List ℕ → List FolderCall → Type 0
+LeftNoneOrExport base marks file calls =
+    (left : Table → Option (List ℕ)) → LeftAnyTime calls left → IsNoneOrExport base marks file left
 
 -- what is told of a journal's file over tables: it is no journal over them, or its commits are no history
-abbrev pub TellsJournalFault : Tables → List TableSize → List ℕ → JobFault ExportRefusal → Type 0
-TellsJournalFault base sizes file (job.Found (refusal.Journal (opening.Kept why))) = TellsOpenFault sizes file why
-TellsJournalFault base sizes file (job.Found (refusal.Journal (opening.Replay why))) =
-    (commits : List CommitRecord) × HasCommits sizes commits file × IsReplayFault base commits why
-TellsJournalFault base sizes file _ = Unit {0}
+abbrev pub TellsJournalFault : Tables → List TableMark → List ℕ → JobFault ExportRefusal → Type 0
+TellsJournalFault base marks file (job.Found (refusal.Journal (opening.Kept why))) = TellsOpenFault marks file why
+TellsJournalFault base marks file (job.Found (refusal.Journal (opening.Replay why))) =
+    (commits : List CommitRecord) × HasCommits marks commits file × IsReplayFault base commits why
+TellsJournalFault base marks file _ = Unit {0}
 
 -- it tells nothing of a journal
 abbrev pub TellsNoJournal : JobFault ExportRefusal → Type 0
@@ -94,11 +95,12 @@ pub record TellsOverTexts (texts : Table → List ℕ) (known : Option (List ℕ
   where
     pub base : Tables
     pub loaded : IsLoadedToServe texts base
-    pub sizes : List TableSize
-    pub sized : AreSizes base sizes
+    pub marks : List TableMark
+    pub marked : AreMarks base marks
+    pub checked : HaveChecksums texts marks
     pub file : List ℕ
     pub is_file : IsKnown known file
-    pub told : TellsJournalFault base sizes file why
+    pub told : TellsJournalFault base marks file why
 
 -- what the fault of an export tells: that the texts are refused; that another has the journal's file; or what the file is
 -- over the base that the texts spell
@@ -123,11 +125,12 @@ pub record AreReadBack (texts : Table → List ℕ) (tables : Tables) : Type 0 w
 pub record Exports (texts : Table → List ℕ) (known : Option (List ℕ)) : Type 0 where
   pub base : Tables
   pub loaded : IsLoadedToServe texts base
-  pub sizes : List TableSize
-  pub sized : AreSizes base sizes
+  pub marks : List TableMark
+  pub marked : AreMarks base marks
+  pub checked : HaveChecksums texts marks
   pub file : List ℕ
   pub is_file : IsKnown known file
   pub commits : List CommitRecord
-  pub has : HasCommits sizes commits file
+  pub has : HasCommits marks commits file
   pub legal : IsLegal base commits
   pub read_back : AreReadBack (base_texts (tables_after base commits)) (tables_after base commits)

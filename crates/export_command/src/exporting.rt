@@ -14,11 +14,11 @@ use crate::fault::ExportRefusal::Journal;
 use crate::fault::{ExportFault, ExportRefusal, NotEmpty};
 use crate::tables_after::TablesAfter;
 use journal::Disk;
-use journal_opening::{OpeningFault, OpensJournal, table_sizes};
+use journal_opening::{OpeningFault, OpensJournal, table_marks, tell_form};
 use ssb_base::Base;
 use ssb_files::JobFault::{Found, Program};
-use ssb_files::{Fault, LoadedFor, TableBytes, base_of};
-use ssb_journal::{OpenedJournal, TableSize, open, replay};
+use ssb_files::{Fault, LoadedFor, TableBytes, checked_base_of};
+use ssb_journal::{HeadForm, OpenedJournal, TableMark, open, replay};
 use ssb_text::{Tables, tables_are_read_back};
 use std::alloc::Global;
 use std::hash::RandomState;
@@ -47,17 +47,21 @@ pub struct ExportPlace<'a, F: Files, P> {
 #[derive(Drop)]
 pub struct ExportSource<'a, D: Disk + Drop> {
     pub base: Arc<Base>,
-    /// How large the tables are, as the journal's head tells it.
-    pub sizes: &'a [TableSize],
+    /// By what the journal's head knows the tables.
+    pub marks: &'a [TableMark],
     /// The journal's file.
     pub disk: D,
+    /// Whether it is told how many commits the journal has.
+    pub tells: bool,
 }
 
-// The tables after a journal's commits, how many these are, and how many bytes stand behind its last whole group.
+// The tables after a journal's commits, how many these are, the form of its head, and how many bytes stand behind its
+// last whole group.
 #[derive(Drop)]
 struct JournalTables {
     tables: TablesAfter,
     commits: usize,
+    form: HeadForm,
     torn: usize,
 }
 
@@ -70,17 +74,22 @@ fn tables_after_journal<D: Disk + Drop>(
     requires readable { D.is_readable source.disk }
     requires durable { Only (D.seen source.disk) (D.may_leave source.disk) }
     ensures after { IfOk result (λ found.
-        AreTablesAfter source.entry.base.value source.entry.sizes.now (D.seen source.entry.disk) found.tables) }
-    ensures commits { IfOk result (λ found. HasSoMany source.entry.sizes.now found.commits (D.seen source.entry.disk)) }
+        AreTablesAfter source.entry.base.value source.entry.marks.now (D.seen source.entry.disk) found.tables) }
+    ensures commits { IfOk result (λ found. HasSoMany source.entry.marks.now found.commits (D.seen source.entry.disk)) }
     ensures torn { IfOk result (λ found. HasSoManyTorn found.torn (D.seen source.entry.disk)) }
-    ensures journal { IfErr result (TellsJournalFault source.entry.base.value source.entry.sizes.now
+    ensures journal { IfErr result (TellsJournalFault source.entry.base.value source.entry.marks.now
         (D.seen source.entry.disk)) }
     ensures fault { IfErr result IsFillFault }
     ensures words { IfErr result (λ fault. export_status fault ≢ 2) }
     ensures trace { IfErr result (λ fault. export_status fault ≢ 3) }
 {
-    let ExportSource { base, sizes, disk } = source;
-    let opened = match open(alloc, sizes, disk) {
+    let ExportSource {
+        base,
+        marks,
+        disk,
+        tells: _,
+    } = source;
+    let opened = match open(alloc, marks, disk) {
         Ok(opened) => opened,
         Err((fault, _)) => return Err(Found(Journal(OpeningFault::Kept(fault)))),
     };
@@ -98,12 +107,18 @@ fn tables_after_journal<D: Disk + Drop>(
     Ok(JournalTables {
         tables: TablesAfter::new(alloc, hashing, store)?,
         commits,
+        form: kept.form,
         torn,
     })
 }
 
-// Tells how many commits the journal has, and how many bytes stand behind them.
-fn tell_commits<E: Write>(err: &mut E, found: &JournalTables) {
+// Tells that the journal's tables are not checked, if they are not; and if it is asked for, how many commits the
+// journal has, and how many bytes stand behind them.
+fn tell_found<E: Write>(err: &mut E, found: &JournalTables, tells_commits: bool) {
+    tell_form(err, found.form);
+    if !tells_commits {
+        return;
+    }
     let commits = found.commits;
     let _ = match found.torn {
         0 => writeln!(err, "ssb_live: journal: {commits} commits"),
@@ -136,27 +151,26 @@ fn not_filled(alloc: Global, path: &str, fault: &FillFault) -> ExportFault
     }
 }
 
-/// Writes the tables after a journal's commits into a folder on which no call was made, and tells on `told`, if it is
-/// given, how many commits these were. All of the journal is looked at before anything is made.
+/// Writes the tables after a journal's commits into a folder on which no call was made, and tells on `err` what is to
+/// be told of the journal. All of that is looked at before anything is made.
 ///
 /// At `Ok` the folder has the five texts, and each crash from then on leaves them. A crash at any moment, also before
-/// an
-/// `Err`, leaves no `lineorder`, or all five.
+/// an `Err`, leaves no `lineorder`, or all five.
 pub fn export_into<D: Disk + Drop, T: TableFolder, E: Write>(
     alloc: Global,
     hashing: RandomState,
     source: ExportSource<'_, D>,
     folder: &mut T,
-    told: Option<&mut E>,
+    err: &mut E,
 ) -> Result<(), ExportFault>
     requires readable { D.is_readable source.disk }
     requires durable { Only (D.seen source.disk) (D.may_leave source.disk) }
     requires new { T.calls folder.old ≡ [] }
     ensures exported { OnOk result
-        (IsExport source.entry.base.value source.entry.sizes.now (D.seen source.entry.disk) (T.calls folder.new)) }
-    ensures any_moment { LeftNoneOrExport source.entry.base.value source.entry.sizes.now (D.seen source.entry.disk)
+        (IsExport source.entry.base.value source.entry.marks.now (D.seen source.entry.disk) (T.calls folder.new)) }
+    ensures any_moment { LeftNoneOrExport source.entry.base.value source.entry.marks.now (D.seen source.entry.disk)
         (T.calls folder.new) }
-    ensures journal { IfErr result (TellsJournalFault source.entry.base.value source.entry.sizes.now
+    ensures journal { IfErr result (TellsJournalFault source.entry.base.value source.entry.marks.now
         (D.seen source.entry.disk)) }
     // Where the journal is refused, nothing was made.
     ensures refused { IfErr result (λ fault. export_status fault ≡ 1 → T.calls folder.new ≡ []) }
@@ -164,10 +178,9 @@ pub fn export_into<D: Disk + Drop, T: TableFolder, E: Write>(
     ensures words { IfErr result (λ fault. export_status fault ≢ 2) }
     ensures trace { IfErr result (λ fault. export_status fault ≢ 3) }
 {
+    let tells = source.tells;
     let found = tables_after_journal(alloc, hashing, source)?;
-    if let Some(err) = told {
-        tell_commits(err, &found);
-    }
+    tell_found(err, &found, tells);
     found.tables.soundness();
     tables_are_read_back();
     match fill(alloc, folder, &found.tables) {
@@ -213,8 +226,9 @@ pub fn export<R: Threads + Sync + AllocGlobal, F: Files, P: OpensJournal, I: Rea
 {
     let alloc = rt.alloc();
     let mut folder = find_folder(place.files, alloc, place.folder)?;
-    let base = base_of(rt, alloc, tables, LoadedFor::Serving)?;
-    let sizes = table_sizes(&base, place.bytes);
+    let read = checked_base_of(rt, alloc, tables, LoadedFor::Serving)?;
+    let (base, checksums) = read;
+    let marks = table_marks(&base, place.bytes, &checksums);
     let base = Arc::new(alloc, base)?;
     let disk = match place.journal.open(alloc) {
         Ok(disk) => disk,
@@ -222,11 +236,11 @@ pub fn export<R: Threads + Sync + AllocGlobal, F: Files, P: OpensJournal, I: Rea
     };
     let source = ExportSource {
         base,
-        sizes: &sizes,
+        marks: &marks,
         disk,
+        tells: place.tells,
     };
-    let told = if place.tells { Some(err) } else { None };
-    export_into(alloc, hashing, source, &mut folder, told)
+    export_into(alloc, hashing, source, &mut folder, err)
 }
 
 /// Exports the tables, as `export` does, and tells a fault on a line of `err`.

@@ -17,8 +17,8 @@
 //! status 0 the tables spell a base, and the texts of the tables after the commits of the file spell these, which are sound.
 //!
 //! ```text
-//! let source = ExportSource { base, sizes: &sizes, disk };
-//! export_into(alloc, hashing, source, &mut folder, Some(&mut err))?;      // ssb_live: journal: 1204 commits
+//! let source = ExportSource { base, marks: &marks, disk, tells: true };
+//! export_into(alloc, hashing, source, &mut folder, &mut err)?;      // ssb_live: journal: 1204 commits
 //! ```
 #![tactic(auto)]
 

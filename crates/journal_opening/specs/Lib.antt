@@ -1,3 +1,3 @@
-pub mod Sizes
+pub mod Marks
 pub mod Status
 pub mod Kept

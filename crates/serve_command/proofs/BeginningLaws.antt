@@ -19,7 +19,8 @@ use Rattle.ssb_journal.specs.Kept.{IsAsItWasOrNew, KeepsCommits, SpellCommits}
 use Rattle.ssb_journal.specs.Opening.{IsKept}
 use Rattle.ssb_journal.specs.Texts.{AreSealed}
 use Rattle.ssb_journal.specs.declared.opening.KeptCommits.{KeptCommits}
-use Rattle.ssb_journal.specs.declared.head.TableSize.{TableSize}
+use Rattle.ssb_journal.specs.declared.head.HeadForm.{HeadForm}
+use Rattle.ssb_journal.specs.declared.head.TableMark.{TableMark}
 use Rattle.ssb_server.specs.Opening.{IsOpenFault}
 use Rattle.ssb_clients.specs.Tickets.{IsOf}
 use Rattle.ssb_server.specs.declared.opening.OpenFault.{OpenFault}
@@ -33,47 +34,47 @@ use Rattle.serve_command.specs.declared.unserved.JournaledFault.{JournaledFault}
 use Rattle.serve_command.specs.declared.unserved.JournaledFault.TheVariants as fault
 
 -- a journal keeps the first commits of the log of who has seen just those
-pub keeps_first : (sizes : List TableSize) (commits seen : List CommitRecord) (count : ℕ) (file : List ℕ)
-    → ((sizes : List TableSize) (commits log : List CommitRecord) (file : List ℕ)
-    → KeepsCommits sizes commits file → IsPrefix commits log → KeepsFirst (length commits) log file)
-    → seen ≡ commits → count ≡ length commits → KeepsCommits sizes commits file → KeepsFirst count seen file
-keeps_first sizes commits seen count file first same many keeps =
+pub keeps_first : (marks : List TableMark) (commits seen : List CommitRecord) (count : ℕ) (file : List ℕ)
+    → ((marks : List TableMark) (commits log : List CommitRecord) (file : List ℕ)
+    → KeepsCommits marks commits file → IsPrefix commits log → KeepsFirst (length commits) log file)
+    → seen ≡ commits → count ≡ length commits → KeepsCommits marks commits file → KeepsFirst count seen file
+keeps_first marks commits seen count file first same many keeps =
     subst (λ n. KeepsFirst n seen file) (sym many) (subst (λ l. KeepsFirst (length commits) l file) (sym same)
-    (first sizes commits commits file keeps (begins_with_itself commits)))
+    (first marks commits commits file keeps (begins_with_itself commits)))
 
-keeps_all : (sizes : List TableSize) (commits log : List CommitRecord) (file : List ℕ)
-    → ((sizes : List TableSize) (commits log : List CommitRecord) (file : List ℕ)
-    → KeepsCommits sizes commits file → IsPrefix commits log → KeepsFirst (length commits) log file)
-    → IsPrefix commits log → KeepsCommits sizes commits file → KeepsBeginning (length commits) log file
-keeps_all sizes commits log file first goes_on keeps =
-    record { count = length commits; enough = omega arith; first = first sizes commits log file keeps goes_on }
+keeps_all : (marks : List TableMark) (commits log : List CommitRecord) (file : List ℕ)
+    → ((marks : List TableMark) (commits log : List CommitRecord) (file : List ℕ)
+    → KeepsCommits marks commits file → IsPrefix commits log → KeepsFirst (length commits) log file)
+    → IsPrefix commits log → KeepsCommits marks commits file → KeepsBeginning (length commits) log file
+keeps_all marks commits log file first goes_on keeps =
+    record { count = length commits; enough = omega arith; first = first marks commits log file keeps goes_on }
 
 -- a journal has a head
-no_head : (sizes : List TableSize) (texts : List (List ℕ)) → AreSealed sizes texts [] → ⊥
-no_head sizes texts is = absurd cc
+no_head : (form : HeadForm) (marks : List TableMark) (texts : List (List ℕ)) → AreSealed form marks texts [] → ⊥
+no_head form marks texts is = absurd cc
 
 -- what a crash leaves while the journal is begun keeps all that was recovered
-pub as_it_was : (sizes : List TableSize) (kept : KeptCommits) (groups : List (List ℕ)) (log : List CommitRecord)
-    (file : List ℕ) → ((sizes : List TableSize) (commits log : List CommitRecord) (file : List ℕ)
-    → KeepsCommits sizes commits file → IsPrefix commits log → KeepsFirst (length commits) log file)
-    → IsKept sizes groups kept → IsPrefix kept.commits.items log → IsAsItWasOrNew sizes groups file
+pub as_it_was : (marks : List TableMark) (kept : KeptCommits) (groups : List (List ℕ)) (log : List CommitRecord)
+    (file : List ℕ) → ((marks : List TableMark) (commits log : List CommitRecord) (file : List ℕ)
+    → KeepsCommits marks commits file → IsPrefix commits log → KeepsFirst (length commits) log file)
+    → IsKept marks groups kept → IsPrefix kept.commits.items log → IsAsItWasOrNew marks groups file
     → KeepsRecovered kept.commits.items log file
-as_it_was sizes kept groups log file first is goes_on left =
+as_it_was marks kept groups log file first is goes_on left =
     ⊎_elim
     (λ new_one. ⊎_elim (λ same. inr (new_one.2, same ∙ new_one.1))
-    (λ made. inl (keeps_all sizes kept.commits.items log file first goes_on (record {
+    (λ made. inl (keeps_all marks kept.commits.items log file first goes_on (record {
       texts = [];
       is_journal = made.1;
       spelled = subst (SpellCommits []) (sym new_one.2) spell_none;
     })))
     left)
     (λ old_one. ⊎_elim
-    (λ same. inl (keeps_all sizes kept.commits.items log file first goes_on (record {
+    (λ same. inl (keeps_all marks kept.commits.items log file first goes_on (record {
       texts = old_one.1.texts;
-      is_journal = same ∙ old_one.1.sealed;
+      is_journal = (kept.form, same ∙ old_one.1.sealed);
       spelled = old_one.1.spelled;
     })))
-    (λ made. absurd (no_head sizes old_one.1.texts (sym made.0 ∙ old_one.1.sealed)))
+    (λ made. absurd (no_head kept.form marks old_one.1.texts (sym made.0 ∙ old_one.1.sealed)))
     left)
     is
 
@@ -121,36 +122,36 @@ since_begun_on moment left_since begun disk now least count log is since = recor
 
 -- a crash while the journal is begun leaves all that was recovered
 pub kept_in_beginning : {D : Type 0} (moment : D → ℕ) (left_since : D → ℕ → List ℕ → Type 0) (found disk : D)
-    (sizes : List TableSize) (kept : KeptCommits) (groups : List (List ℕ))
-    → ((sizes : List TableSize) (commits log : List CommitRecord) (file : List ℕ)
-    → KeepsCommits sizes commits file → IsPrefix commits log → KeepsFirst (length commits) log file)
-    → IsKept sizes groups kept → LeavesOnly moment left_since found disk (IsAsItWasOrNew sizes groups)
+    (marks : List TableMark) (kept : KeptCommits) (groups : List (List ℕ))
+    → ((marks : List TableMark) (commits log : List CommitRecord) (file : List ℕ)
+    → KeepsCommits marks commits file → IsPrefix commits log → KeepsFirst (length commits) log file)
+    → IsKept marks groups kept → LeavesOnly moment left_since found disk (IsAsItWasOrNew marks groups)
     → IsFoundOrKept moment left_since found kept.commits.items disk
-kept_in_beginning moment left_since found disk sizes kept groups first is run =
+kept_in_beginning moment left_since found disk marks kept groups first is run =
     let all = kept.commits.items in
-    inr (leaves moment left_since found disk (IsAsItWasOrNew sizes groups) (KeepsAll all) run
+    inr (leaves moment left_since found disk (IsAsItWasOrNew marks groups) (KeepsAll all) run
     (λ file left. (
       all,
       begins_with_itself all,
-      as_it_was sizes kept groups all file first is (begins_with_itself all) left,
+      as_it_was marks kept groups all file first is (begins_with_itself all) left,
     )))
 
 -- and so does one at any moment since then
 pub kept_since : {D : Type 0} (moment : D → ℕ) (left_since : D → ℕ → List ℕ → Type 0) (found begun disk : D)
-    (sizes : List TableSize) (kept : KeptCommits) (groups : List (List ℕ)) (least : ℕ) (seen : List CommitRecord)
-    → ((sizes : List TableSize) (commits log : List CommitRecord) (file : List ℕ)
-    → KeepsCommits sizes commits file → IsPrefix commits log → KeepsFirst (length commits) log file)
-    → IsKept sizes groups kept → LeavesOnly moment left_since found begun (IsAsItWasOrNew sizes groups)
+    (marks : List TableMark) (kept : KeptCommits) (groups : List (List ℕ)) (least : ℕ) (seen : List CommitRecord)
+    → ((marks : List TableMark) (commits log : List CommitRecord) (file : List ℕ)
+    → KeepsCommits marks commits file → IsPrefix commits log → KeepsFirst (length commits) log file)
+    → IsKept marks groups kept → LeavesOnly moment left_since found begun (IsAsItWasOrNew marks groups)
     → least ≡ length kept.commits.items → seen ≡ kept.commits.items
     → HasKept moment left_since begun least seen disk
     → IsFoundOrKept moment left_since found kept.commits.items disk
-kept_since moment left_since found begun disk sizes kept groups least seen first is run many same has =
+kept_since moment left_since found begun disk marks kept groups least seen first is run many same has =
     let all = kept.commits.items in
     let begins : IsPrefix all has.log = subst (λ l. IsPrefix l has.log) same has.begins in
     inr (leaves moment left_since found disk (KeepsRecovered all has.log) (KeepsAll all)
-    (kept_throughout moment left_since found begun disk (IsAsItWasOrNew sizes groups) least has.count all has.log has.log
+    (kept_throughout moment left_since found begun disk (IsAsItWasOrNew marks groups) least has.count all has.log has.log
     run many has.since (begins_with_itself has.log)
-    (λ file left. as_it_was sizes kept groups has.log file first is begins left))
+    (λ file left. as_it_was marks kept groups has.log file first is begins left))
     (λ file keeps. (has.log, begins, keeps)))
 
 -- that a journal was out, or memory ran out, tells nothing of its commits

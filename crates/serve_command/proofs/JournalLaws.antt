@@ -6,7 +6,7 @@ use Rattle.std.specs.Prelude.{◌≢◌, All, IfErr, IfSome, IsSome, IsTrue, Mat
 use Rattle.std.specs.Option.{option_map}
 use Rattle.journal.specs.Groups.{recovered}
 use Rattle.journal_opening.specs.Kept.{HasCommits, IsKnown}
-use Rattle.journal_opening.specs.Sizes.{AreSizes}
+use Rattle.journal_opening.specs.Marks.{AreMarks, HaveChecksums}
 use Rattle.journal_opening.specs.Status.{kept_status}
 use Rattle.row_store.specs.History.{CommitRecord}
 use Rattle.serve_command.specs.JournaledRun.{IsJournaledFault}
@@ -22,7 +22,7 @@ use Rattle.ssb_journal.specs.Counts.{IsLeft}
 use Rattle.ssb_journal.specs.Opening.{IsKept, TellsOpenFault}
 use Rattle.ssb_journal.specs.declared.fault.JournalFault.{JournalFault}
 use Rattle.ssb_journal.specs.declared.fault.JournalFault.TheVariants as journal
-use Rattle.ssb_journal.specs.declared.head.TableSize.{TableSize}
+use Rattle.ssb_journal.specs.declared.head.TableMark.{TableMark}
 use Rattle.ssb_journal.specs.declared.opening.JournalOpenFault.{JournalOpenFault}
 use Rattle.ssb_journal.specs.declared.opening.JournalOpenFault.TheVariants as kept
 use Rattle.ssb_journal.specs.declared.opening.KeptCommits.{KeptCommits}
@@ -34,11 +34,11 @@ use Rattle.ssb_serving.proofs.PlaceLaws.{all_at}
 use Rattle.history.specs.Tokens.{TokenRecord}
 
 -- what was read of a file are the commits that it keeps
-pub has_kept : (sizes : List TableSize) (file : List ℕ) (kept : KeptCommits) → IsKept sizes (recovered file) kept
-    → HasCommits sizes kept.commits.items file
-has_kept sizes file kept (inl new) = inr (new.1, new.2)
-has_kept sizes file kept (inr is) =
-    inl (record { texts = is.1.texts; is_journal = is.1.sealed; spelled = is.1.spelled })
+pub has_kept : (marks : List TableMark) (file : List ℕ) (kept : KeptCommits) → IsKept marks (recovered file) kept
+    → HasCommits marks kept.commits.items file
+has_kept marks file kept (inl new) = inr (new.1, new.2)
+has_kept marks file kept (inr is) =
+    inl (record { texts = is.1.texts; is_journal = (kept.form, is.1.sealed); spelled = is.1.spelled })
 
 memory_is_four : (fault : JournalFault) → fault ≡ journal.OutOfMemory → kept_status (kept.Journal fault) ≢ 1
 memory_is_four fault is one =
@@ -46,23 +46,23 @@ memory_is_four fault is one =
     omega (arith, one, four)
 
 -- a refused journal is told of a refused file
-pub refused_open : (base : Tables) (sizes : List TableSize) (file : List ℕ) (why : JournalOpenFault)
-    → TellsOpenFault sizes file why → kept_status why ≡ 1 → IsRefusedFile base sizes file
-refused_open base sizes file (kept.Disk error) tells status = absurd (omega (arith, status))
-refused_open base sizes file (kept.Journal fault) (inl memory) status = absurd (memory_is_four fault memory status)
-refused_open base sizes file (kept.Journal fault) (inr is) status = inl (fault, is)
+pub refused_open : (base : Tables) (marks : List TableMark) (file : List ℕ) (why : JournalOpenFault)
+    → TellsOpenFault marks file why → kept_status why ≡ 1 → IsRefusedFile base marks file
+refused_open base marks file (kept.Disk error) tells status = absurd (omega (arith, status))
+refused_open base marks file (kept.Journal fault) (inl memory) status = absurd (memory_is_four fault memory status)
+refused_open base marks file (kept.Journal fault) (inr is) status = inl (fault, is)
 
-pub refused_replay : (base : Tables) (sizes : List TableSize) (file : List ℕ) (commits : List CommitRecord)
-    (dispatchers : ℕ) (why : JournaledFault) → HasCommits sizes commits file
-    → IsJournaledFault base commits dispatchers why → journaled_status why ≡ 1 → IsRefusedFile base sizes file
-refused_replay base sizes file commits dispatchers (journaled.Replay (replay.Refused number action cause)) has is
+pub refused_replay : (base : Tables) (marks : List TableMark) (file : List ℕ) (commits : List CommitRecord)
+    (dispatchers : ℕ) (why : JournaledFault) → HasCommits marks commits file
+    → IsJournaledFault base commits dispatchers why → journaled_status why ≡ 1 → IsRefusedFile base marks file
+refused_replay base marks file commits dispatchers (journaled.Replay (replay.Refused number action cause)) has is
     status = inr (record { commits = commits; has = has; number = number; action = action; cause = cause; first = is })
-refused_replay base sizes file commits dispatchers (journaled.Replay replay.OutOfMemory) has is status =
+refused_replay base marks file commits dispatchers (journaled.Replay replay.OutOfMemory) has is status =
     absurd (omega (arith, status))
-refused_replay base sizes file commits dispatchers (journaled.NotRun why) has is status = absurd (omega (arith, status))
-refused_replay base sizes file commits dispatchers journaled.Disturbed has is status = absurd (omega (arith, status))
-refused_replay base sizes file commits dispatchers journaled.Write has is status = absurd (omega (arith, status))
-refused_replay base sizes file commits dispatchers journaled.OutOfMemory has is status = absurd (omega (arith, status))
+refused_replay base marks file commits dispatchers (journaled.NotRun why) has is status = absurd (omega (arith, status))
+refused_replay base marks file commits dispatchers journaled.Disturbed has is status = absurd (omega (arith, status))
+refused_replay base marks file commits dispatchers journaled.Write has is status = absurd (omega (arith, status))
+refused_replay base marks file commits dispatchers journaled.OutOfMemory has is status = absurd (omega (arith, status))
 
 -- what speaks against a base is refused with a journal, and without one
 pub refused_base : (texts : Table → List ℕ) (standing : List (Query × List Value)) (server : Journal) (Taken : Type 0)
@@ -73,48 +73,23 @@ refused_base texts standing (Some known) Taken (inr many) = inr (inl many)
 
 -- and so is a file that another has, or that is refused over the base
 pub refused_file : (texts : Table → List ℕ) (standing : List (Query × List Value)) (known : Option (List ℕ))
-    (Taken : Type 0) (base : Tables) → IsLoadedToServe texts base → Taken ⊎ RefusesFile base known
-    → AreRefused texts standing (Some known) Taken
-refused_file texts standing known Taken base loaded (inl taken) = inr (inr (inl taken))
-refused_file texts standing known Taken base loaded (inr file) =
-    inr (inr (inr (record { base = base; loaded = loaded; file = file })))
+    (Taken : Type 0) (base : Tables) (marks : List TableMark) → IsLoadedToServe texts base → AreMarks base marks
+    → HaveChecksums texts marks → Taken ⊎ RefusesFile base marks known → AreRefused texts standing (Some known) Taken
+refused_file texts standing known Taken base marks loaded marked checked (inl taken) = inr (inr (inl taken))
+refused_file texts standing known Taken base marks loaded marked checked (inr file) =
+    inr (inr (inr (record { base = base; loaded = loaded; marks = marks; marked = marked; checked = checked; file = file })))
 
 -- the same of a run that failed, over the base that the texts spell
 pub each_refused : {X E : Type 0} (status : E → ℕ) (result : Result X E) (Are : (Table → List ℕ) → Type 0)
     (standing : List (Query × List Value)) (known : Option (List ℕ)) (Taken : Type 0) (base : Tables)
-    → ((texts : Table → List ℕ) → Are texts → IsLoadedToServe texts base)
-    → IfErr result (λ why. status why ≡ 1 → Taken ⊎ RefusesFile base known)
+    (marks : List TableMark) → ((texts : Table → List ℕ) → Are texts → IsLoadedToServe texts base)
+    → AreMarks base marks → ((texts : Table → List ℕ) → Are texts → HaveChecksums texts marks)
+    → IfErr result (λ why. status why ≡ 1 → Taken ⊎ RefusesFile base marks known)
     → IfErr result (λ why. status why ≡ 1 → (texts : Table → List ℕ) → Are texts
     → AreRefused texts standing (Some known) Taken)
-each_refused status (Ok run) Are standing known Taken base loaded is = tt
-each_refused status (Err why) Are standing known Taken base loaded is = λ one texts are.
-    refused_file texts standing known Taken base (loaded texts are) (is one)
-
--- the file that was opened over the base is refused
-pub refuses_file : (known : Option (List ℕ)) (loaded base : Tables) (sizes : List TableSize) (file : List ℕ)
-    → loaded ≡ base → AreSizes base sizes → IsKnown known file → IsRefusedFile loaded sizes file
-    → RefusesFile loaded known
-refuses_file known loaded base sizes file same sized is_file refused = record {
-  sizes = sizes;
-  sized = subst (λ (b : Tables). AreSizes b sizes) (sym same) sized;
-  file = file;
-  is_file = is_file;
-  refused = refused;
-}
-
--- a server went on from it
-pub goes_on_from : {S L : Type 0} (Spoken : S → TokenRecord → TokenRecord → L → Type 0) (known : Option (List ℕ))
-    (loaded base : Tables) (sizes : List TableSize) (file : List ℕ) (speakers : List S) (dispatchers : ℕ)
-    (left : List L) (log : List CommitRecord) → loaded ≡ base → AreSizes base sizes → IsKnown known file
-    → GoesOn Spoken loaded sizes file speakers dispatchers left log
-    → GoesOnFrom Spoken known loaded speakers dispatchers left log
-goes_on_from Spoken known loaded base sizes file speakers dispatchers left log same sized is_file goes_on = record {
-  sizes = sizes;
-  sized = subst (λ (b : Tables). AreSizes b sizes) (sym same) sized;
-  file = file;
-  is_file = is_file;
-  goes_on = goes_on;
-}
+each_refused status (Ok run) Are standing known Taken base marks loaded marked checked is = tt
+each_refused status (Err why) Are standing known Taken base marks loaded marked checked is = λ one texts are.
+    refused_file texts standing known Taken base marks (loaded texts are) marked (checked texts are) (is one)
 
 -- of a journal at the end of the sessions, where there is one, and of one of those that were told
 pub told_is_kept_here : {D L : Type 0} (may_leave : D → List ℕ → Type 0) (seen : D → List ℕ) (told : L → ℕ)

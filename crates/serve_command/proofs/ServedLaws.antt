@@ -10,7 +10,7 @@ use Rattle.history.specs.Members.{number_of}
 use Rattle.history.specs.Tokens.{TableRecord, TokenRecord, new_token}
 use Rattle.history_core.specs.declared.event.Who.{Who}
 use Rattle.history_core.specs.declared.event.Who.TheVariants.{Client}
-use Rattle.journal_opening.specs.Sizes.{AreSizes}
+use Rattle.journal_opening.specs.Marks.{AreMarks, HaveChecksums}
 use Rattle.row_store.proofs.PrefixLaws.{prefix_empty}
 use Rattle.row_store.specs.History.{CommitRecord}
 use Rattle.row_store.specs.Legal.{IsLegal}
@@ -21,6 +21,7 @@ use Rattle.serve_command.specs.Sessions.{HasLeft, HasStreamed, most_told}
 use Rattle.serve_command.specs.declared.speakers.PathLeft.{PathLeft}
 use Rattle.ssb_base.specs.Base.{Tables}
 use Rattle.ssb_files.specs.Loaded.{IsLoadedToServe}
+use Rattle.ssb_journal.specs.declared.head.TableMark.{TableMark}
 use Rattle.ssb_schema.specs.declared.table.Table.{Table}
 use Rattle.ssb_serving.proofs.PlaceLaws.{all_at, get_below}
 use Rattle.ssb_serving.specs.Streams.{IsStreamRun}
@@ -77,11 +78,11 @@ over_none Spoken texts base speakers dispatchers left log loaded run = record {
 
 -- and with one from the commits of its file
 pub over_journal : {S L : Type 0} (Spoken : S → TokenRecord → TokenRecord → L → Type 0) (texts : Table → List ℕ)
-    (known : Option (List ℕ)) (base : Tables) (speakers : List S) (dispatchers : ℕ) (left : List L)
-    (log : List CommitRecord) → IsLoadedToServe texts base
-    → GoesOnFrom Spoken known base speakers dispatchers left log
+    (known : Option (List ℕ)) (base : Tables) (marks : List TableMark) (speakers : List S) (dispatchers : ℕ)
+    (left : List L) (log : List CommitRecord) → IsLoadedToServe texts base → AreMarks base marks
+    → HaveChecksums texts marks → GoesOnFrom Spoken known base marks speakers dispatchers left log
     → IsRunOver Spoken (Some known) texts speakers dispatchers left log
-over_journal Spoken texts known base speakers dispatchers left log loaded from =
+over_journal Spoken texts known base marks speakers dispatchers left log loaded marked checked from =
     let run = from.goes_on.run in record {
       server = record {
         table = run.table;
@@ -90,8 +91,9 @@ over_journal Spoken texts known base speakers dispatchers left log loaded from =
         dispatchers_are = run.dispatchers_are;
         kept = from.goes_on.kept;
         goes_on = record {
-          sizes = from.sizes;
-          sized = subst (λ (b : Tables). AreSizes b from.sizes) (sym run.base_is) from.sized;
+          marks = marks;
+          marked = subst (λ (b : Tables). AreMarks b marks) (sym run.base_is) marked;
+          checked = checked;
           file = from.file;
           is_file = from.is_file;
           has = from.goes_on.has;
@@ -132,14 +134,17 @@ each_over_none Spoken left_in log_in (Err why) Are base speakers dispatchers loa
 
 pub each_over_journal : {S L X E : Type 0} (Spoken : S → TokenRecord → TokenRecord → L → Type 0)
     (left_in : X → List L) (log_in : X → List CommitRecord) (result : Result X E) (Are : (Table → List ℕ) → Type 0)
-    (known : Option (List ℕ)) (base : Tables) (speakers : List S) (dispatchers : ℕ)
-    → ((texts : Table → List ℕ) → Are texts → IsLoadedToServe texts base)
-    → IfOk result (λ run. GoesOnFrom Spoken known base speakers dispatchers (left_in run) (log_in run))
+    (known : Option (List ℕ)) (base : Tables) (marks : List TableMark) (speakers : List S) (dispatchers : ℕ)
+    → ((texts : Table → List ℕ) → Are texts → IsLoadedToServe texts base) → AreMarks base marks
+    → ((texts : Table → List ℕ) → Are texts → HaveChecksums texts marks)
+    → IfOk result (λ run. GoesOnFrom Spoken known base marks speakers dispatchers (left_in run) (log_in run))
     → IfOk result (λ run. (texts : Table → List ℕ) → Are texts
     → IsRunOver Spoken (Some known) texts speakers dispatchers (left_in run) (log_in run))
-each_over_journal Spoken left_in log_in (Ok run) Are known base speakers dispatchers loaded is = λ texts are.
-    over_journal Spoken texts known base speakers dispatchers (left_in run) (log_in run) (loaded texts are) is
-each_over_journal Spoken left_in log_in (Err why) Are known base speakers dispatchers loaded is = tt
+each_over_journal Spoken left_in log_in (Ok run) Are known base marks speakers dispatchers loaded marked checked is =
+    λ texts are. over_journal Spoken texts known base marks speakers dispatchers (left_in run) (log_in run)
+    (loaded texts are) marked (checked texts are) is
+each_over_journal Spoken left_in log_in (Err why) Are known base marks speakers dispatchers loaded marked checked is =
+    tt
 
 -- the number of a client that a session finds
 met_number : (journal : Journal) (table : TableRecord) (kept : List CommitRecord) (number : ℕ) (client : TokenRecord)

@@ -5,7 +5,7 @@ use Rattle.history.specs.Tokens.{TableRecord, TokenRecord, new_token}
 use Rattle.history_core.specs.declared.event.Who.TheVariants.{Client}
 use Rattle.journal.specs.Groups.{behind, recovered}
 use Rattle.journal_opening.specs.Kept.{HasCommits, IsKnown}
-use Rattle.journal_opening.specs.Sizes.{AreSizes}
+use Rattle.journal_opening.specs.Marks.{AreMarks, HaveChecksums}
 use Rattle.row_store.specs.History.{CommitRecord}
 use Rattle.row_store.specs.declared.refusal.Cause.{Cause}
 use Rattle.serve_command.specs.JournaledRun.{IsJournaledRun}
@@ -16,7 +16,7 @@ use Rattle.ssb_journal.specs.Counts.{KeepsBeginning}
 use Rattle.ssb_journal.specs.Opening.{IsOpenFault}
 use Rattle.ssb_journal.specs.Replays.{IsFirstRefused}
 use Rattle.ssb_journal.specs.declared.fault.JournalFault.{JournalFault}
-use Rattle.ssb_journal.specs.declared.head.TableSize.{TableSize}
+use Rattle.ssb_journal.specs.declared.head.TableMark.{TableMark}
 use Rattle.ssb_questions.specs.declared.query.Query.{Query}
 use Rattle.ssb_questions.specs.declared.value.Value.{Value}
 use Rattle.ssb_schema.specs.declared.table.Table.{Table}
@@ -26,37 +26,39 @@ use Rattle.history_core.specs.Counts.{most_clients}
 abbrev pub Journal : Type 0
 Journal = Option (Option (List ℕ))
 
--- a server over the base, whose tables have these sizes, went on from the commits that its journal's file kept, and
+-- a server over the base, whose tables have these marks, went on from the commits that its journal's file kept, and
 -- served these speakers by so many dispatchers and one more, who read the log for the journal: this is what they left,
 -- and the log
 pub record GoesOn {S L : Type 0} (Spoken : S → TokenRecord → TokenRecord → L → Type 0) (base : Tables)
-    (sizes : List TableSize) (file : List ℕ) (speakers : List S) (dispatchers : ℕ) (left : List L)
+    (marks : List TableMark) (file : List ℕ) (speakers : List S) (dispatchers : ℕ) (left : List L)
     (log : List CommitRecord) : Type 0 where
   pub kept : List CommitRecord
-  pub has : HasCommits sizes kept file
+  pub has : HasCommits marks kept file
   pub run : IsJournaledRun Spoken base kept speakers (dispatchers + 1) left log
 
 -- the same of the journal over the tables of the base; its file is the known one, where one is known
 pub record GoesOnFrom {S L : Type 0} (Spoken : S → TokenRecord → TokenRecord → L → Type 0) (known : Option (List ℕ))
-    (base : Tables) (speakers : List S) (dispatchers : ℕ) (left : List L) (log : List CommitRecord) : Type 0 where
-  pub sizes : List TableSize
-  pub sized : AreSizes base sizes
+    (base : Tables) (marks : List TableMark) (speakers : List S) (dispatchers : ℕ) (left : List L)
+    (log : List CommitRecord) : Type 0 where
   pub file : List ℕ
   pub is_file : IsKnown known file
-  pub goes_on : GoesOn Spoken base sizes file speakers dispatchers left log
+  pub goes_on : GoesOn Spoken base marks file speakers dispatchers left log
 
--- a journal's file, the known one where one is known, keeps these commits over the tables of the base
-pub record AreInFile (known : Option (List ℕ)) (base : Tables) (kept : List CommitRecord) : Type 0 where
-  pub sizes : List TableSize
-  pub sized : AreSizes base sizes
+-- a journal's file, the known one where one is known, keeps these commits over the tables of the base, which the texts
+-- spell
+pub record AreInFile (known : Option (List ℕ)) (texts : Table → List ℕ) (base : Tables) (kept : List CommitRecord)
+    : Type 0 where
+  pub marks : List TableMark
+  pub marked : AreMarks base marks
+  pub checked : HaveChecksums texts marks
   pub file : List ℕ
   pub is_file : IsKnown known file
-  pub has : HasCommits sizes kept file
+  pub has : HasCommits marks kept file
 
--- the commits that a server over the base goes on from: those of its journal's file, or none
-abbrev pub AreKeptIn : Journal → Tables → List CommitRecord → Type 0
-AreKeptIn None base kept = kept ≡ []
-AreKeptIn (Some known) base kept = AreInFile known base kept
+-- the commits that a server over the base that the texts spell goes on from: those of its journal's file, or none
+abbrev pub AreKeptIn : Journal → (Table → List ℕ) → Tables → List CommitRecord → Type 0
+AreKeptIn None texts base kept = kept ≡ []
+AreKeptIn (Some known) texts base kept = AreInFile known texts base kept
 
 -- how many clients it has where so many have sessions: a journal's commits may be of any of as many as there can be
 abbrev pub clients_in : Journal → ℕ → ℕ
@@ -83,32 +85,33 @@ pub record AreOnDisk (may_leave : List ℕ → Type 0) (file : List ℕ) (Well :
   pub written : Well → KeepsBeginning told log file
 
 -- a file keeps commits, one of which is refused over the base
-pub record KeepsRefused (base : Tables) (sizes : List TableSize) (file : List ℕ) : Type 0 where
+pub record KeepsRefused (base : Tables) (marks : List TableMark) (file : List ℕ) : Type 0 where
   pub commits : List CommitRecord
-  pub has : HasCommits sizes commits file
+  pub has : HasCommits marks commits file
   pub number : ℕ
   pub action : ℕ
   pub cause : Cause
   pub first : IsFirstRefused base commits number action cause
 
--- a file is refused over a base, whose tables have these sizes: it is no journal over them, or keeps what is refused
-abbrev pub IsRefusedFile : Tables → List TableSize → List ℕ → Type 0
-IsRefusedFile base sizes file =
-    ((fault : JournalFault) × IsOpenFault sizes (recovered file) (behind file) fault) ⊎ KeepsRefused base sizes file
+-- a file is refused over a base, whose tables have these marks: it is no journal over them, or keeps what is refused
+abbrev pub IsRefusedFile : Tables → List TableMark → List ℕ → Type 0
+IsRefusedFile base marks file =
+    ((fault : JournalFault) × IsOpenFault marks (recovered file) (behind file) fault) ⊎ KeepsRefused base marks file
 
--- over the base a journal's file is refused; it is the known one, where one is known
-pub record RefusesFile (base : Tables) (known : Option (List ℕ)) : Type 0 where
-  pub sizes : List TableSize
-  pub sized : AreSizes base sizes
+-- over the base, whose tables have these marks, a journal's file is refused; it is the known one, where one is known
+pub record RefusesFile (base : Tables) (marks : List TableMark) (known : Option (List ℕ)) : Type 0 where
   pub file : List ℕ
   pub is_file : IsKnown known file
-  pub refused : IsRefusedFile base sizes file
+  pub refused : IsRefusedFile base marks file
 
 -- the five texts spell a base over which a journal's file is refused
 pub record RefusesJournal (texts : Table → List ℕ) (known : Option (List ℕ)) : Type 0 where
   pub base : Tables
   pub loaded : IsLoadedToServe texts base
-  pub file : RefusesFile base known
+  pub marks : List TableMark
+  pub marked : AreMarks base marks
+  pub checked : HaveChecksums texts marks
+  pub file : RefusesFile base marks known
 
 -- what is refused: the five texts; one of the questions that are to stand; where there is a journal, its file, which
 -- another has, or what it holds

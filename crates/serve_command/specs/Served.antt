@@ -24,7 +24,7 @@ pub record IsServer (journal : Journal) (texts : Table → List ℕ) (clients di
   pub clients_are : table.clients ≡ clients_in journal clients
   pub dispatchers_are : table.dispatchers ≡ dispatchers_in journal dispatchers
   pub kept : List CommitRecord
-  pub goes_on : AreKeptIn journal table.base kept
+  pub goes_on : AreKeptIn journal texts table.base kept
   pub log : List CommitRecord
   pub begins : IsPrefix kept log
   pub legal : IsLegal table.base log

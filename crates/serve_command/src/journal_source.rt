@@ -13,9 +13,9 @@ use crate::fault::{ServeFault, ServeRefusal};
 use crate::journaled_run::{JournaledRun, Recovered, run_journaled};
 use crate::ready::{ReadyLine, tell_ready};
 use journal::{Disk, KeepsTorn};
-use journal_opening::{OpeningFault, OpensJournal};
+use journal_opening::{OpeningFault, OpensJournal, tell_form};
 use ssb_files::TableBytes;
-use ssb_journal::{TableSize, open};
+use ssb_journal::{TableMark, open};
 use ssb_server::Loaded;
 use std::alloc::Global;
 use std::io;
@@ -39,8 +39,8 @@ pub struct JournalPlace<'a, P> {
 #[derive(Drop)]
 pub struct JournalSource<'a, D: Disk + Drop> {
     pub loaded: Loaded,
-    /// How large the tables are, as the journal's head tells it.
-    pub sizes: &'a [TableSize],
+    /// By what the journal's head knows the tables.
+    pub marks: &'a [TableMark],
     pub disk: D,
     /// What is told when the server is ready, if anything is.
     pub ready: Option<ReadyLine>,
@@ -101,7 +101,7 @@ where
     requires readable { D.is_readable source.disk }
     requires durable { Only (D.seen source.disk) (D.may_leave source.disk) }
     requires few { vec_len speakers ≤ most_clients }
-    ensures served { IfOk result (λ run. GoesOn S.spoken source.entry.loaded source.entry.sizes.now
+    ensures served { IfOk result (λ run. GoesOn S.spoken source.entry.loaded source.entry.marks.now
         (D.seen source.entry.disk) speakers.items dispatchers run.left.items run.log) }
     // Whatever crashes from now on leaves the first commits of the log, at least so many, ..
     ensures kept { IfOk result (λ run. IsLeft (D.may_leave run.disk) (D.seen run.disk) run.count run.log
@@ -110,19 +110,20 @@ where
     ensures told { IfOk result (λ run. All (λ left. S.told left ≤ run.count) run.left.items) }
     ensures left { IfOk result (λ run. vec_len run.left ≡ vec_len speakers) }
     ensures refused { IfErr result (λ refusal. refusal_status refusal ≡ 1 → IsRefusedFile source.entry.loaded
-        source.entry.sizes.now (D.seen source.entry.disk)) }
+        source.entry.marks.now (D.seen source.entry.disk)) }
     ensures words { IfErr result (λ refusal. refusal_status refusal ≢ 2) }
 {
     let JournalSource {
         loaded,
-        sizes,
+        marks,
         disk,
         ready,
     } = source;
-    let opened = match open(rt.alloc(), sizes, disk) {
+    let opened = match open(rt.alloc(), marks, disk) {
         Ok(opened) => opened,
         Err((fault, _)) => return Err(ServeRefusal::Journal(OpeningFault::Kept(fault))),
     };
+    tell_form(&mut io::writer(screen), opened.kept.form);
     let keeper = TornKeeper {
         place,
         commits: opened.kept.commits.len() as u64,
@@ -131,7 +132,7 @@ where
     };
     let recovered = Recovered {
         opened,
-        sizes,
+        marks,
         keeper: &keeper,
     };
     match run_journaled(rt, rt.alloc(), loaded, speakers, dispatchers, recovered) {

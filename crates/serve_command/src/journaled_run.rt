@@ -26,7 +26,7 @@ use crate::unserved::{JournaledFault, UnservedSessions};
 use journal::{Disk, Journal, KeepsTorn};
 use row_store::{Commit, Log};
 use ssb_journal::laws::{begun_journal_keeps, first_of_log};
-use ssb_journal::{JournaledLog, KeptCommits, OpenedJournal, SharedJournal, TableSize, begin};
+use ssb_journal::{JournaledLog, KeptCommits, OpenedJournal, SharedJournal, TableMark, begin};
 use ssb_server::{
     Client, Closed, Dispatcher, Keeps, Loaded, LogReader, MOST_CLIENTS, Opened, Server, open,
 };
@@ -39,11 +39,11 @@ use std::thread::Threads;
 use std::time::Clock;
 use stream_sessions::{Service, Speaker, Speaks};
 
-/// A journal that was read and looked at, over tables of these sizes, and what keeps what a crash has torn of it.
+/// A journal that was read and looked at, over tables of these marks, and what keeps what a crash has torn of it.
 #[derive(Drop)]
 pub struct Recovered<'a, D: Disk, T> {
     pub opened: OpenedJournal<D>,
-    pub sizes: &'a [TableSize],
+    pub marks: &'a [TableMark],
     pub keeper: &'a T,
 }
 
@@ -113,7 +113,7 @@ where
     R: Wait,
     requires clients { AreSeated server.now [] clients.old }
     requires reader { (reader.table ≡ server.now) × (reader.seen ≡ []) }
-    requires kept { IsKept recovered.sizes.now (recovered_groups (D.seen recovered.opened.found))
+    requires kept { IsKept recovered.marks.now (recovered_groups (D.seen recovered.opened.found))
         recovered.opened.kept }
     requires torn { AreTorn (D.seen recovered.opened.found) recovered.opened.torn.items }
     ensures clients { OnOk result (AreSeated server.now recovered.entry.opened.kept.commits.items clients.new) }
@@ -124,7 +124,7 @@ where
     ensures count { IfOk result (λ begun. begun.count ≡ vec_len recovered.entry.opened.kept.commits) }
     ensures any_moment { IfOk result (λ begun. LeavesOnly D.moment D.left_since recovered.entry.opened.found
         begun.journal
-        (IsAsItWasOrNew recovered.entry.sizes.now (recovered_groups (D.seen recovered.entry.opened.found)))) }
+        (IsAsItWasOrNew recovered.entry.marks.now (recovered_groups (D.seen recovered.entry.opened.found)))) }
     ensures fault { IfErr result (λ unserved. IsOpenedFault server.now.base
         recovered.entry.opened.kept.commits.items unserved.fault) }
     ensures handed { IfErr result (λ unserved. (unserved.fault ≡ Disturbed) ⊎ IsSome unserved.disk) }
@@ -134,11 +134,15 @@ where
     let mut reader = reader;
     let Recovered {
         opened,
-        sizes,
+        marks,
         keeper,
     } = recovered;
     let OpenedJournal { found, kept, torn } = opened;
-    let KeptCommits { commits, is_new } = kept;
+    let KeptCommits {
+        commits,
+        form: _,
+        is_new,
+    } = kept;
     match remake_all(rt, server, clients, &mut reader, &commits) {
         Ok(()) => {},
         Err(fault) => return Err(UnservedSessions::new(fault, found.into_disk())),
@@ -148,7 +152,7 @@ where
     };
     begun_journal_keeps();
     first_of_log();
-    match begin::<D, T>(alloc, sizes, found, is_new, &torn) {
+    match begin::<D, T>(alloc, marks, found, is_new, &torn) {
         Ok(journal) => Ok(BegunJournal {
             journal,
             reader,
@@ -373,7 +377,7 @@ where
     S: Speaks<R, Durable> + Drop + Send,
     S::Left: Drop + Send,
     requires few { vec_len speakers ≤ most_clients }
-    requires kept { IsKept recovered.sizes.now (recovered_groups (D.seen recovered.opened.found))
+    requires kept { IsKept recovered.marks.now (recovered_groups (D.seen recovered.opened.found))
         recovered.opened.kept }
     requires torn { AreTorn (D.seen recovered.opened.found) recovered.opened.torn.items }
     requires clients { opened.clients.items ≡ new_clients opened.server }
@@ -440,7 +444,7 @@ where
     S: Speaks<R, Durable> + Drop + Send,
     S::Left: Drop + Send,
     requires few { vec_len speakers ≤ most_clients }
-    requires kept { IsKept recovered.sizes.now (recovered_groups (D.seen recovered.opened.found))
+    requires kept { IsKept recovered.marks.now (recovered_groups (D.seen recovered.opened.found))
         recovered.opened.kept }
     requires torn { AreTorn (D.seen recovered.opened.found) recovered.opened.torn.items }
     // Who reads the log for the journal is one dispatcher more.

@@ -3,6 +3,7 @@
 ghost use Rattle.std.specs.Prelude.{◌≡◌, ◌≢◌, ◌⊎◌, ◌≤◌, ℕ, List, All, None, Some, IfOk, IfErr, IfSome, IsNone, OnOk};
 ghost use Rattle.std.specs.Prelude.{is_some, true, vec_len};
 ghost use Rattle.std.specs.Option.{option_map};
+ghost use Rattle.journal_opening.specs.Marks.{AreMarks, HaveChecksums};
 ghost use Rattle.serve_command.specs.Journals.{AreRefused, GoesOnFrom, RefusesFile};
 ghost use Rattle.serve_command.specs.Served.{IsRunOver};
 ghost use Rattle.serve_command.specs.Status.{serving_status};
@@ -23,11 +24,11 @@ use crate::journaled_run::JournaledRun;
 use crate::ready::{ReadyLine, tell_ready};
 use crate::unserved::JournaledFault;
 use journal::KeepsTorn;
-use journal_opening::{OpensJournal, table_sizes};
+use journal_opening::{OpensJournal, table_marks};
 use row_store::Log;
 use server_figures::LiveFigures;
-use ssb_base::Base;
-use ssb_files::{Fault, LoadedFor, base_of};
+use ssb_files::{Fault, LoadedFor, TableBytes, base_of, checked_base_of};
+use ssb_journal::TableMark;
 use ssb_questions::Question;
 use ssb_server::Loaded;
 use ssb_serving::serve_streams;
@@ -71,38 +72,81 @@ pub(crate) struct SessionsRun<L: Drop, D: Drop> {
     pub(crate) kept: Option<KeptLog<D>>,
 }
 
-// The base of five tables, what a server takes of it, and what is told when it serves.
+// What a server takes of five tables, and what is told when it serves.
 #[derive(Drop)]
 struct LoadedTables {
-    base: Arc<Base>,
     loaded: Loaded,
     ready: Option<ReadyLine>,
 }
 
-// The base that the tables spell, with the questions that stand from then on, and the figures of the server over it.
-// Where it is to be told that the server is ready, it is told for how many clients.
+// The same, and by what its journal knows the tables.
+#[derive(Drop)]
+struct MarkedTables {
+    loaded: Loaded,
+    marks: [TableMark; 5],
+    ready: Option<ReadyLine>,
+}
+
+// What is seen of a server: for how many clients it is told that it is ready, if it is, and the figures that it counts in.
+#[derive(Drop)]
+struct Watched {
+    told: Option<usize>,
+    figures: Arc<LiveFigures>,
+}
+
+// What a server takes of the base that the tables spell, with the questions that stand from then on.
 fn load_tables<R: Threads + Sync + AllocGlobal, I: Read + Drop>(
     rt: &R,
     hashing: RandomState,
     standing: &[Question],
-    figures: Arc<LiveFigures>,
     tables: Tables<I>,
-    told: Option<usize>,
+    watched: Watched,
 ) -> Result<LoadedTables, Fault>
     ensures base { IfOk result (λ made. (texts : Table → List ℕ) → AreTexts I.remaining tables texts
         → IsLoadedToServe texts made.loaded) }
-    ensures same { IfOk result (λ made. made.loaded ≡ made.base.value) }
     ensures refused { IfErr result (λ fault. status_of fault ≡ 1 → (texts : Table → List ℕ)
         → AreTexts I.remaining tables texts → AreRefusedToServe texts ⊎ MayNotStandToServe texts standing.now) }
     ensures words { IfErr result (λ fault. status_of fault ≢ 2) }
 {
+    let Watched { told, figures } = watched;
     let base = base_of(rt, rt.alloc(), tables, LoadedFor::Serving)?;
+    let ready = ReadyLine::of(&base, told);
     let base = Arc::new(rt.alloc(), base)?;
     let loaded = Loaded::new(rt, rt.alloc(), hashing, &base, standing)?;
-    let ready = ReadyLine::of(&base, told);
     Ok(LoadedTables {
-        base,
         loaded: loaded.counted_in(figures),
+        ready,
+    })
+}
+
+// The same, and the marks of the tables, whose bytes are hashed.
+fn load_marked<R: Threads + Sync + AllocGlobal, I: Read + Drop>(
+    rt: &R,
+    hashing: RandomState,
+    standing: &[Question],
+    tables: Tables<I>,
+    bytes: &TableBytes,
+    watched: Watched,
+) -> Result<MarkedTables, Fault>
+    ensures base { IfOk result (λ made. (texts : Table → List ℕ) → AreTexts I.remaining tables texts
+        → IsLoadedToServe texts made.loaded) }
+    ensures marked { IfOk result (λ made. AreMarks made.loaded made.marks) }
+    ensures checked { IfOk result (λ made. (texts : Table → List ℕ) → AreTexts I.remaining tables texts
+        → HaveChecksums texts made.marks) }
+    ensures refused { IfErr result (λ fault. status_of fault ≡ 1 → (texts : Table → List ℕ)
+        → AreTexts I.remaining tables texts → AreRefusedToServe texts ⊎ MayNotStandToServe texts standing.now) }
+    ensures words { IfErr result (λ fault. status_of fault ≢ 2) }
+{
+    let Watched { told, figures } = watched;
+    let read = checked_base_of(rt, rt.alloc(), tables, LoadedFor::Serving)?;
+    let (base, checksums) = read;
+    let marks = table_marks(&base, bytes, &checksums);
+    let ready = ReadyLine::of(&base, told);
+    let base = Arc::new(rt.alloc(), base)?;
+    let loaded = Loaded::new(rt, rt.alloc(), hashing, &base, standing)?;
+    Ok(MarkedTables {
+        loaded: loaded.counted_in(figures),
+        marks,
         ready,
     })
 }
@@ -142,7 +186,7 @@ fn run_behind<R, P, S, E>(
     rt: &R,
     dispatchers: u32,
     place: &JournalPlace<'_, P>,
-    tables: LoadedTables,
+    tables: MarkedTables,
     speakers: Vec<S>,
     screen: &E,
 ) -> Result<SessionsRun<S::Left, P::Opened>, ServeFault>
@@ -155,9 +199,8 @@ where
     S::Left: Drop + Send,
     E: Print,
     requires few { vec_len speakers ≤ most_clients }
-    requires same { tables.loaded ≡ tables.base.value }
-    ensures run { IfOk result (λ run. GoesOnFrom S.spoken (P.holds place.now.file.now) tables.loaded speakers.items
-        dispatchers run.left.items run.log) }
+    ensures run { IfOk result (λ run. GoesOnFrom S.spoken (P.holds place.now.file.now) tables.loaded tables.marks
+        speakers.items dispatchers run.left.items run.log) }
     ensures left { IfOk result (λ run. vec_len run.left ≡ vec_len speakers) }
     ensures kept { IfOk result (λ run. IfSome run.kept (λ kept. IsLeft (P.Opened.may_leave kept.disk)
         (P.Opened.seen kept.disk) kept.count run.log kept.was_written)) }
@@ -165,19 +208,18 @@ where
         run.left.items)) }
     ensures journal { IfOk result (λ run. is_some run.kept ≡ true) }
     ensures refused { IfErr result (λ fault. serving_status fault ≡ 1
-        → P.is_taken place.now.file.now ⊎ RefusesFile tables.loaded (P.holds place.now.file.now)) }
+        → P.is_taken place.now.file.now ⊎ RefusesFile tables.loaded tables.marks (P.holds place.now.file.now)) }
     ensures words { IfErr result (λ fault. serving_status fault ≢ 2) }
 {
-    let LoadedTables {
-        base,
+    let MarkedTables {
         loaded,
+        marks,
         ready,
     } = tables;
-    let sizes = table_sizes(&base, place.bytes);
     let disk = open_file(rt.alloc(), place.file)?;
     let source = JournalSource {
         loaded,
-        sizes: &sizes,
+        marks: &marks,
         disk,
         ready,
     };
@@ -246,13 +288,19 @@ where
         tells_ready,
         figures,
     } = settings;
-    let told = tells_ready.then_some(speakers.len());
-    let tables = load_tables(rt, hashing, &standing, figures, tables, told)?;
+    let watched = Watched {
+        told: tells_ready.then_some(speakers.len()),
+        figures,
+    };
     match place {
-        Some(place) => run_behind(rt, dispatchers, &place, tables, speakers, screen),
+        Some(place) => {
+            let tables = load_marked(rt, hashing, &standing, tables, place.bytes, watched)?;
+            run_behind(rt, dispatchers, &place, tables, speakers, screen)
+        },
         None => {
-            tell_ready(tables.ready, screen);
-            run_without(rt, dispatchers, tables.loaded, speakers)
+            let LoadedTables { loaded, ready } = load_tables(rt, hashing, &standing, tables, watched)?;
+            tell_ready(ready, screen);
+            run_without(rt, dispatchers, loaded, speakers)
         },
     }
 }

@@ -13,13 +13,13 @@
 //! ```
 //!
 //! The contracts: [`base_of`] gives the base that the texts spell, for what it is loaded for, or a fault that they have
-//! (`specs/Loaded.antt`); [`check_paths`] tells the first of the paths that may not be used beside those before it
-//! (`specs/Paths.antt`); [`read_scripts`] gives the scripts, or the first fault (`specs/Scripts.antt`);
-//! [`read_standing`] the questions of a script that asks and does nothing else, or its first fault, and which of them
-//! may not stand over a base, says `specs/Standing.antt`; a reader that is watched gives the bytes of the reader in it;
-//! [`Fault::status`] is that of the fault (`specs/Status.antt`). What only one job finds, as what speaks against a trace,
-//! is its [`Finding`] in a [`JobFault`]. That a file is opened, what the system says of a path, and what a terminal
-//! shows, is only tested.
+//! (`specs/Loaded.antt`), and [`checked_base_of`] their checksums too; [`check_paths`] tells the first of the paths
+//! that may not be used beside those before it (`specs/Paths.antt`); [`read_scripts`] gives the scripts, or the first
+//! fault (`specs/Scripts.antt`); [`read_standing`] the questions of a script that asks and does nothing else, or its
+//! first fault, and which of them may not stand over a base, says `specs/Standing.antt`; a reader that is watched gives
+//! the bytes of the reader in it; [`Fault::status`] is that of the fault (`specs/Status.antt`). What only one job
+//! finds, as what speaks against a trace, is its [`Finding`] in a [`JobFault`]. That a file is opened, what the system
+//! says of a path, and what a terminal shows, is only tested.
 //!
 //! ```text
 //! let tables = open_tables(rt, "tables")?;
@@ -44,7 +44,7 @@ pub use counting::{Counted, TableBytes, count_tables};
 pub use fault::Fault;
 pub use identity::FileIdentity;
 pub use job::{Finding, JobFault};
-pub use loading::{LoadedFor, base_of};
+pub use loading::{LoadedFor, base_of, checked_base_of};
 pub use opening::{make_file, open_file, open_files, open_tables};
 pub use path_fault::PathFault;
 pub use paths::{PathUse, UsedPath, check_paths, find_tables};

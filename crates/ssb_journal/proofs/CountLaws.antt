@@ -6,7 +6,7 @@ use Rattle.std.proofs.lemmas.List.{length-append, length-take-le, take_all, take
 use Rattle.journal.specs.Disk.{LeavesOnly, Only}
 use Rattle.journal.proofs.MomentLaws.{leaves, stays}
 use Rattle.row_store.specs.History.{CommitRecord, IsPrefix}
-use Rattle.ssb_journal.specs.declared.head.TableSize.{TableSize}
+use Rattle.ssb_journal.specs.declared.head.TableMark.{TableMark}
 use Rattle.ssb_journal.specs.Kept.{KeepsCommits, KeepsWithOrWithout}
 use Rattle.ssb_journal.specs.Counts.{Begun, IsLeft, KeepsAtLeast, KeepsBeginning, KeepsFirst, KeepsSince}
 
@@ -17,7 +17,7 @@ beginning_of_fewer least count log file fewer was = record { count = was.count; 
 -- so many commits at least
 pub keeps_enough : (count : ℕ) (log : List CommitRecord) (file : List ℕ) → KeepsFirst count log file → KeepsAtLeast count file
 keeps_enough count log file first = record {
-  sizes = first.sizes;
+  marks = first.marks;
   commits = take count log;
   keeps = first.keeps;
   enough = omega (arith, length-take-le count log first.inside);
@@ -29,8 +29,8 @@ keeps_of_longer count shorter longer file begins first =
     let whole : longer ≡ shorter ++ begins.rest = begins.whole in
     let same : take count longer ≡ take count shorter = ap (take count) whole ∙ take-append-le count shorter begins.rest first.inside in
     record {
-      sizes = first.sizes;
-      keeps = subst (λ (commits : List CommitRecord). KeepsCommits first.sizes commits file) (sym same) first.keeps;
+      marks = first.marks;
+      keeps = subst (λ (commits : List CommitRecord). KeepsCommits first.marks commits file) (sym same) first.keeps;
       inside = omega (arith, first.inside, ap length whole, length-append shorter begins.rest);
     }
 
@@ -51,12 +51,12 @@ whole_log count log rest is = ap (λ (end : List CommitRecord). take count log +
 
 -- with the rest of the log, all of it
 pub keeps_whole : (count : ℕ) (log rest : List CommitRecord) (old new : List ℕ) → rest ≡ drop count log → KeepsFirst count log old
-    → ((sizes : List TableSize) (before : List CommitRecord) → KeepsCommits sizes before old → KeepsCommits sizes (before ++ rest) new)
+    → ((marks : List TableMark) (before : List CommitRecord) → KeepsCommits marks before old → KeepsCommits marks (before ++ rest) new)
     → KeepsFirst (length log) log new
 keeps_whole count log rest old new is first more =
     record {
-      sizes = first.sizes;
-      keeps = subst (λ (commits : List CommitRecord). KeepsCommits first.sizes commits new) (whole_log count log rest is) (more first.sizes (take count log) first.keeps);
+      marks = first.marks;
+      keeps = subst (λ (commits : List CommitRecord). KeepsCommits first.marks commits new) (whole_log count log rest is) (more first.marks (take count log) first.keeps);
       inside = omega arith;
     }
 
@@ -66,16 +66,16 @@ counted count log rest is inside =
     omega (arith, length-append (take count log) (drop count log), ap length (take-append-drop count log), length-take-le count log inside, ap length is)
 
 -- with the rest of the log or without it
-keeps_either_way : (count : ℕ) (log rest : List CommitRecord) (old file : List ℕ) → rest ≡ drop count log → (first : KeepsFirst count log old) → KeepsWithOrWithout first.sizes (take count log) rest file → KeepsBeginning count log file
+keeps_either_way : (count : ℕ) (log rest : List CommitRecord) (old file : List ℕ) → rest ≡ drop count log → (first : KeepsFirst count log old) → KeepsWithOrWithout first.marks (take count log) rest file → KeepsBeginning count log file
 keeps_either_way count log rest old file is first left =
     ⊎_elim
-    (λ same. record { count = count; enough = omega arith; first = record { sizes = first.sizes; keeps = same; inside = first.inside } })
+    (λ same. record { count = count; enough = omega arith; first = record { marks = first.marks; keeps = same; inside = first.inside } })
     (λ grown. record {
       count = length log;
       enough = first.inside;
       first = record {
-        sizes = first.sizes;
-        keeps = subst (λ (commits : List CommitRecord). KeepsCommits first.sizes commits file) (whole_log count log rest is) grown;
+        marks = first.marks;
+        keeps = subst (λ (commits : List CommitRecord). KeepsCommits first.marks commits file) (whole_log count log rest is) grown;
         inside = omega arith;
       };
     })
@@ -84,11 +84,11 @@ keeps_either_way count log rest old file is first left =
 module _ {D : Type 0} (moment : D → ℕ) (left_since : D → ℕ → List ℕ → Type 0) (seen : D → List ℕ) where
   -- while the rest of the log is appended
   pub leaves_beginning : (count : ℕ) (log rest : List CommitRecord) (old new : D) → rest ≡ drop count log → KeepsFirst count log (seen old)
-      → ((sizes : List TableSize) (before : List CommitRecord) → KeepsCommits sizes before (seen old) → LeavesOnly moment left_since old new (KeepsWithOrWithout sizes before rest))
+      → ((marks : List TableMark) (before : List CommitRecord) → KeepsCommits marks before (seen old) → LeavesOnly moment left_since old new (KeepsWithOrWithout marks before rest))
       → LeavesOnly moment left_since old new (KeepsBeginning count log)
   leaves_beginning count log rest old new is first run =
-      leaves moment left_since old new (KeepsWithOrWithout first.sizes (take count log) rest) (KeepsBeginning count log)
-      (run first.sizes (take count log) first.keeps)
+      leaves moment left_since old new (KeepsWithOrWithout first.marks (take count log) rest) (KeepsBeginning count log)
+      (run first.marks (take count log) first.keeps)
       (λ file left. keeps_either_way count log rest (seen old) file is first left)
 
   -- since it was begun, and one append more

@@ -10,7 +10,7 @@ use Rattle.journal.specs.Groups.{lists, recovered, IsBeforeOrAfter}
 use Rattle.row_store.specs.History.{CommitRecord}
 use Rattle.ssb_journal.specs.Seals.{sealed}
 use Rattle.ssb_journal.specs.Heads.{head_text}
-use Rattle.ssb_journal.specs.declared.head.TableSize.{TableSize}
+use Rattle.ssb_journal.specs.declared.head.TableMark.{TableMark}
 use Rattle.ssb_journal.specs.declared.fault.JournalFault.{JournalFault}
 use Rattle.ssb_journal.specs.declared.fault.JournalFault.TheVariants.{Damaged, OutOfMemory}
 use Rattle.ssb_audit.specs.declared.trace.Told.{Told}
@@ -76,16 +76,21 @@ no_trace number most text (error.TooManyQuestions n) fault = inr (refl, tells nu
 no_trace number most text error.TooLong fault = inr (refl, tells number most text error.TooLong (λ is. cc) (λ is. cc) fault)
 
 -- the commits that a file keeps, with a group more
-pub keeps_more : (sizes : List TableSize) (before more : List CommitRecord) (old new group : List ℕ) → KeepsCommits sizes before old → IsGroupOf more group → recovered new ≡ recovered old ++ group ∷ [] → KeepsCommits sizes (before ++ more) new
-keeps_more sizes before more old new group kept is grown = record {
+pub keeps_more : (marks : List TableMark) (before more : List CommitRecord) (old new group : List ℕ) → KeepsCommits marks before old → IsGroupOf more group → recovered new ≡ recovered old ++ group ∷ [] → KeepsCommits marks (before ++ more) new
+keeps_more marks before more old new group kept is grown = record {
   texts = kept.texts ++ is.text ∷ [];
-  is_journal = grown ∙ ap (λ (gs : List (List ℕ)). gs ++ group ∷ []) kept.is_journal ∙ ap (λ (g : List ℕ). map sealed (head_text sizes ∷ kept.texts) ++ g ∷ []) is.is ∙ sym (map_push sealed (head_text sizes ∷ kept.texts) is.text);
+  is_journal = (
+    kept.is_journal.0,
+    grown ∙ ap (λ (gs : List (List ℕ)). gs ++ group ∷ []) kept.is_journal.1
+        ∙ ap (λ (g : List ℕ). map sealed (head_text kept.is_journal.0 marks ∷ kept.texts) ++ g ∷ []) is.is
+        ∙ sym (map_push sealed (head_text kept.is_journal.0 marks ∷ kept.texts) is.text),
+  );
   spelled = spell_more kept.texts before is.text more kept.spelled is.spells;
 }
 
 -- the same groups keep the same commits
-pub keeps_same : (sizes : List TableSize) (commits : List CommitRecord) (old new : List ℕ) → KeepsCommits sizes commits old → recovered new ≡ recovered old → KeepsCommits sizes commits new
-keeps_same sizes commits old new kept same_groups = record { texts = kept.texts; is_journal = same_groups ∙ kept.is_journal; spelled = kept.spelled }
+pub keeps_same : (marks : List TableMark) (commits : List CommitRecord) (old new : List ℕ) → KeepsCommits marks commits old → recovered new ≡ recovered old → KeepsCommits marks commits new
+keeps_same marks commits old new kept same_groups = record { texts = kept.texts; is_journal = (kept.is_journal.0, same_groups ∙ kept.is_journal.1); spelled = kept.spelled }
 
 module _ (texts : List (Vec ℕ Global)) (i : ℕ) (text : Vec ℕ Global) (inside : i < length texts) (is : text ≡ get_or texts i text) where
   within : i < length (lists texts)
@@ -133,6 +138,6 @@ if_err (Ok a) P Q holds means = tt
 if_err (Err e) P Q holds means = means e holds
 
 -- a file after an append, or at a moment of it
-pub keeps_either : (sizes : List TableSize) (before more : List CommitRecord) (old group file : List ℕ) → KeepsCommits sizes before old → IsGroupOf more group → IsBeforeOrAfter (recovered old) group file → KeepsWithOrWithout sizes before more file
-keeps_either sizes before more old group file kept is left =
-    ⊎_elim (λ same. inl (keeps_same sizes before old file kept same)) (λ grown. inr (keeps_more sizes before more old file group kept is grown)) left
+pub keeps_either : (marks : List TableMark) (before more : List CommitRecord) (old group file : List ℕ) → KeepsCommits marks before old → IsGroupOf more group → IsBeforeOrAfter (recovered old) group file → KeepsWithOrWithout marks before more file
+keeps_either marks before more old group file kept is left =
+    ⊎_elim (λ same. inl (keeps_same marks before old file kept same)) (λ grown. inr (keeps_more marks before more old file group kept is grown)) left

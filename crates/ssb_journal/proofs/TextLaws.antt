@@ -1,6 +1,6 @@
 -- The texts of groups, one after another.
 use Rattle.std.proofs.Common.{◌≡◌, ℕ, ◌+◌, ◌<◌, List, [], ◌∷◌, ◌++◌, Vec, Global, length, get_or, take, map, Some, sym}
-use Rattle.std.proofs.Common.{◌∙◌, ap, arith}
+use Rattle.std.proofs.Common.{◌∙◌, ap, arith, drop}
 use Rattle.std.proofs.lemmas.List.{take_more, get_or-map, length-map, map_push}
 use Rattle.std.proofs.lemmas.Option.{slice_get-get_or}
 use Rattle.journal.specs.Groups.{lists}
@@ -31,3 +31,9 @@ module _ (groups texts : List (Vec ℕ Global)) (i : ℕ) (group : Vec ℕ Globa
     before = lists texts;
     sealed_before = so_far;
   }
+
+-- the first of a list, and those behind it
+pub first_apart : {X : Type 0} (all rest : List X) (x : X) → 0 < length all → x ≡ get_or all 0 x → rest ≡ drop 1 all
+    → all ≡ x ∷ rest
+first_apart [] rest x some is same = absurd (omega (arith, some))
+first_apart (y ∷ ys) rest x some is same = ap (λ first. first ∷ ys) (sym is) ∙ ap (λ behind. x ∷ behind) (sym same)

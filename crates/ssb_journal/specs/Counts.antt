@@ -1,20 +1,20 @@
 -- How many commits a journal keeps, and of which log.
 use Rattle.std.specs.Prelude.{◌≡◌, ◌⊎◌, ◌≤◌, List, ℕ, length, take, Bool, true}
 use Rattle.row_store.specs.History.{CommitRecord}
-use Rattle.ssb_journal.specs.declared.head.TableSize.{TableSize}
+use Rattle.ssb_journal.specs.declared.head.TableMark.{TableMark}
 use Rattle.ssb_journal.specs.Kept.{KeepsCommits}
 
 -- a file is a journal, and keeps at least so many commits
 pub record KeepsAtLeast (count : ℕ) (file : List ℕ) : Type 0 where
-  pub sizes : List TableSize
+  pub marks : List TableMark
   pub commits : List CommitRecord
-  pub keeps : KeepsCommits sizes commits file
+  pub keeps : KeepsCommits marks commits file
   pub enough : count ≤ length commits
 
 -- a file is a journal, and keeps the first commits of a log, so many of them, and no others
 pub record KeepsFirst (count : ℕ) (log : List CommitRecord) (file : List ℕ) : Type 0 where
-  pub sizes : List TableSize
-  pub keeps : KeepsCommits sizes (take count log) file
+  pub marks : List TableMark
+  pub keeps : KeepsCommits marks (take count log) file
   pub inside : count ≤ length log
 
 -- a file is a journal, and keeps a beginning of a log, of at least so many commits

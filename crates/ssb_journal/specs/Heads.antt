@@ -1,38 +1,60 @@
 -- The head of a journal, and what may be wrong with it.
 use Rattle.std.specs.Prelude.{◌≡◌, ◌⊎◌, ◌<◌, List, ℕ, [], ◌∷◌, ◌++◌, length, codes, decimal, false, true, nat_eq}
 use Rattle.std.specs.List.{flat_map, starts_with}
+use Rattle.hex.specs.Hex.{encode_lower}
 use Rattle.ssb_schema.specs.Columns.{table_name}
-use Rattle.ssb_journal.specs.declared.head.TableSize.{TableSize}
+use Rattle.ssb_journal.specs.declared.head.HeadForm.{HeadForm}
+use Rattle.ssb_journal.specs.declared.head.HeadForm.TheVariants.{Sizes, Checksums}
+use Rattle.ssb_journal.specs.declared.head.TableMark.{TableMark}
 use Rattle.ssb_journal.specs.declared.fault.JournalFault.{JournalFault}
 use Rattle.ssb_journal.specs.declared.fault.JournalFault.TheVariants.{NotAJournal, OtherTables, Damaged, OutOfMemory}
 
-abbrev pub title : List ℕ
-title = codes "ssb_live journal 1\n"
+-- the first line of a head
+abbrev pub title : HeadForm → List ℕ
+title Sizes = codes "ssb_live journal 1\n"
+title Checksums = codes "ssb_live journal 2\n"
 
--- the line of a table: its name, its bytes and its rows
-abbrev pub size_line : TableSize → List ℕ
-size_line size =
-    table_name size.table ++ 124 ∷ (decimal size.bytes ++ 124 ∷ (decimal size.rows ++ 10 ∷ []))
+-- what the line of a table tells behind its rows
+abbrev pub checksum_part : HeadForm → TableMark → List ℕ
+checksum_part Sizes mark = []
+checksum_part Checksums mark = 124 ∷ encode_lower mark.checksum
 
-abbrev pub head_text : List TableSize → List ℕ
-head_text sizes = title ++ flat_map size_line sizes
+-- the line of a table: its name, its bytes and its rows, and the checksum where the form has it
+abbrev pub mark_line : HeadForm → TableMark → List ℕ
+mark_line form mark =
+    table_name mark.table
+    ++ 124 ∷ (decimal mark.bytes ++ 124 ∷ (decimal mark.rows ++ (checksum_part form mark ++ 10 ∷ [])))
 
--- the text has the lines of the tables up to this one, which is of another size there
-pub record IsOther (sizes : List TableSize) (text : List ℕ) (size : TableSize) : Type 0 where
-  pub before : List TableSize
-  pub after : List TableSize
-  pub among : sizes ≡ before ++ size ∷ after
-  pub same : starts_with nat_eq text (head_text before) ≡ true
-  pub other : starts_with nat_eq text (head_text (before ++ size ∷ [])) ≡ false
+abbrev pub head_text : HeadForm → List TableMark → List ℕ
+head_text form marks = title form ++ flat_map (mark_line form) marks
 
--- the text does not begin as a head, or goes on behind one
-abbrev pub IsNoHead : List TableSize → List ℕ → Type 0
-IsNoHead sizes text =
-    (starts_with nat_eq text title ≡ false)
-    ⊎ ((starts_with nat_eq text (head_text sizes) ≡ true) × (length (head_text sizes) < length text))
+-- the head of a new journal
+abbrev pub new_head : List TableMark → List ℕ
+new_head marks = head_text Checksums marks
 
-abbrev pub IsHeadFault : List TableSize → List ℕ → JournalFault → Type 0
-IsHeadFault sizes text NotAJournal = IsNoHead sizes text
-IsHeadFault sizes text (OtherTables table) = (size : TableSize) × (size.table ≡ table) × IsOther sizes text size
-IsHeadFault sizes text (Damaged number) = ⊥
-IsHeadFault sizes text OutOfMemory = ⊥
+-- the text has the lines of the tables up to this one, which has another line there
+pub record IsOther (form : HeadForm) (marks : List TableMark) (text : List ℕ) (mark : TableMark) : Type 0 where
+  pub before : List TableMark
+  pub after : List TableMark
+  pub among : marks ≡ before ++ mark ∷ after
+  pub same : starts_with nat_eq text (head_text form before) ≡ true
+  pub other : starts_with nat_eq text (head_text form (before ++ mark ∷ [])) ≡ false
+
+-- what is wrong behind the title: more stands behind the last line, or a table has another line
+abbrev pub IsLineFault : HeadForm → List TableMark → List ℕ → JournalFault → Type 0
+IsLineFault form marks text NotAJournal =
+    (starts_with nat_eq text (head_text form marks) ≡ true) × (length (head_text form marks) < length text)
+IsLineFault form marks text (OtherTables table) =
+    (mark : TableMark) × (mark.table ≡ table) × IsOther form marks text mark
+IsLineFault form marks text (Damaged number) = ⊥
+IsLineFault form marks text OutOfMemory = ⊥
+
+-- the text begins as no head
+abbrev pub HasNoTitle : List ℕ → JournalFault → Type 0
+HasNoTitle text fault = (fault ≡ NotAJournal) × ((form : HeadForm) → starts_with nat_eq text (title form) ≡ false)
+
+-- the text begins as no head, or something is wrong behind its title
+abbrev pub IsHeadFault : List TableMark → List ℕ → JournalFault → Type 0
+IsHeadFault marks text fault =
+    HasNoTitle text fault
+    ⊎ ((form : HeadForm) × (starts_with nat_eq text (title form) ≡ true) × IsLineFault form marks text fault)

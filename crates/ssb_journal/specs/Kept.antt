@@ -5,7 +5,7 @@ use Rattle.journal.specs.Groups.{recovered}
 use Rattle.row_store.specs.History.{CommitRecord}
 use Rattle.ssb_journal.specs.Seals.{sealed}
 use Rattle.ssb_journal.specs.Texts.{IsJournalOf}
-use Rattle.ssb_journal.specs.declared.head.TableSize.{TableSize}
+use Rattle.ssb_journal.specs.declared.head.TableMark.{TableMark}
 use Rattle.ssb_audit.specs.declared.trace.Trace.{Trace}
 use Rattle.ssb_script.specs.declared.error.ScriptError.{ScriptError}
 use Rattle.ssb_script.specs.declared.error.ScriptError.TheVariants as error
@@ -28,24 +28,24 @@ pub record SpellCommits (texts : List (List ℕ)) (commits : List CommitRecord) 
   pub spelled : AllZip SpellsBatch texts batches
   pub whole : flat_map (λ batch. batch) batches ≡ commits
 
--- a file is a journal over tables of these sizes, and keeps these commits
-pub record KeepsCommits (sizes : List TableSize) (commits : List CommitRecord) (file : List ℕ) : Type 0 where
+-- a file is a journal over tables of these marks, and keeps these commits
+pub record KeepsCommits (marks : List TableMark) (commits : List CommitRecord) (file : List ℕ) : Type 0 where
   pub texts : List (List ℕ)
-  pub is_journal : IsJournalOf sizes texts file
+  pub is_journal : IsJournalOf marks texts file
   pub spelled : SpellCommits texts commits
 
 -- a file keeps these commits, with the new ones all or without them
-abbrev pub KeepsWithOrWithout : List TableSize → List CommitRecord → List CommitRecord → List ℕ → Type 0
-KeepsWithOrWithout sizes commits more file = KeepsCommits sizes commits file ⊎ KeepsCommits sizes (commits ++ more) file
+abbrev pub KeepsWithOrWithout : List TableMark → List CommitRecord → List CommitRecord → List ℕ → Type 0
+KeepsWithOrWithout marks commits more file = KeepsCommits marks commits file ⊎ KeepsCommits marks (commits ++ more) file
 
 -- a file has no room for these commits as one group: it has 2^60 bytes, or their group more than 2^49
 abbrev pub HasNoRoom : List ℕ → List CommitRecord → Type 0
 HasNoRoom file commits = (2 ^ 60 ≤ length file) ⊎ (2 ^ 49 < length (sealed (trace_text (trace_of commits))))
 
 -- a file stands for these groups, or is a new journal, where one is being made
-abbrev pub IsAsItWasOrNew : List TableSize → List (List ℕ) → List ℕ → Type 0
-IsAsItWasOrNew sizes groups file =
-    (recovered file ≡ groups) ⊎ ((groups ≡ []) × IsJournalOf sizes [] file)
+abbrev pub IsAsItWasOrNew : List TableMark → List (List ℕ) → List ℕ → Type 0
+IsAsItWasOrNew marks groups file =
+    (recovered file ≡ groups) ⊎ ((groups ≡ []) × IsJournalOf marks [] file)
 
 -- a text has a record that stands in a wrong place or spells nothing, ends inside a commit, or spells answers
 abbrev pub SpellsNoBatch : List ℕ → Type 0

@@ -1,7 +1,9 @@
 -- What the groups of a file are to a journal of commits.
 use Rattle.std.specs.Prelude.{◌≡◌, ◌⊎◌, List, ℕ, [], true, false}
 use Rattle.ssb_journal.specs.Texts.{AreSealed, IsFileFault}
-use Rattle.ssb_journal.specs.declared.head.TableSize.{TableSize}
+use Rattle.ssb_journal.specs.declared.head.HeadForm.{HeadForm}
+use Rattle.ssb_journal.specs.declared.head.HeadForm.TheVariants.{Checksums}
+use Rattle.ssb_journal.specs.declared.head.TableMark.{TableMark}
 use Rattle.ssb_journal.specs.declared.fault.JournalFault.{JournalFault}
 use Rattle.ssb_journal.specs.Kept.{IsFirstNoBatch, SpellCommits}
 use Rattle.ssb_journal.specs.declared.opening.KeptCommits.{KeptCommits}
@@ -10,30 +12,31 @@ use Rattle.ssb_journal.specs.declared.opening.JournalOpenFault.TheVariants.{Disk
 use Rattle.ssb_journal.specs.declared.fault.JournalFault.TheVariants.{OutOfMemory}
 use Rattle.journal.specs.Groups.{recovered, behind}
 
--- groups are a head of these tables, and texts that spell these commits
-pub record AreKept (sizes : List TableSize) (groups : List (List ℕ)) (kept : KeptCommits) : Type 0 where
+-- groups are a head of these tables, of the form that is told, and texts that spell these commits
+pub record AreKept (marks : List TableMark) (groups : List (List ℕ)) (kept : KeptCommits) : Type 0 where
   pub texts : List (List ℕ)
-  pub sealed : AreSealed sizes texts groups
+  pub sealed : AreSealed kept.form marks texts groups
   pub spelled : SpellCommits texts kept.commits.items
 
 -- there are no groups, and it is new; or it keeps these commits
-abbrev pub IsKept : List TableSize → List (List ℕ) → KeptCommits → Type 0
-IsKept sizes groups kept =
-    ((kept.is_new ≡ true) × (groups ≡ []) × (kept.commits.items ≡ []))
-    ⊎ ((kept.is_new ≡ false) × AreKept sizes groups kept)
+abbrev pub IsKept : List TableMark → List (List ℕ) → KeptCommits → Type 0
+IsKept marks groups kept =
+    ((kept.is_new ≡ true) × (groups ≡ []) × (kept.commits.items ≡ []) × (kept.form ≡ Checksums))
+    ⊎ ((kept.is_new ≡ false) × AreKept marks groups kept)
 
 -- the groups are a head of these tables and texts, one of which spells no commits
-pub record HasNoBatch (sizes : List TableSize) (groups : List (List ℕ)) (fault : JournalFault) : Type 0 where
+pub record HasNoBatch (marks : List TableMark) (groups : List (List ℕ)) (fault : JournalFault) : Type 0 where
+  pub form : HeadForm
   pub texts : List (List ℕ)
-  pub sealed : AreSealed sizes texts groups
+  pub sealed : AreSealed form marks texts groups
   pub first : IsFirstNoBatch texts fault
 
 -- why groups, with the bytes behind them, are no journal of commits over these tables
-abbrev pub IsOpenFault : List TableSize → List (List ℕ) → List ℕ → JournalFault → Type 0
-IsOpenFault sizes groups rest fault = IsFileFault sizes groups rest fault ⊎ HasNoBatch sizes groups fault
+abbrev pub IsOpenFault : List TableMark → List (List ℕ) → List ℕ → JournalFault → Type 0
+IsOpenFault marks groups rest fault = IsFileFault marks groups rest fault ⊎ HasNoBatch marks groups fault
 
 -- what is told of a file that is not opened: of its disk nothing
-abbrev pub TellsOpenFault : List TableSize → List ℕ → JournalOpenFault → Type 0
-TellsOpenFault sizes file (Disk error) = Unit {0}
-TellsOpenFault sizes file (Journal fault) =
-    (fault ≡ OutOfMemory) ⊎ IsOpenFault sizes (recovered file) (behind file) fault
+abbrev pub TellsOpenFault : List TableMark → List ℕ → JournalOpenFault → Type 0
+TellsOpenFault marks file (Disk error) = Unit {0}
+TellsOpenFault marks file (Journal fault) =
+    (fault ≡ OutOfMemory) ⊎ IsOpenFault marks (recovered file) (behind file) fault

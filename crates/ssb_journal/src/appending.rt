@@ -4,7 +4,7 @@ ghost use Rattle.std.specs.List.{AllByRecursion};
 ghost use Rattle.journal.specs.Disk.{LeavesOnly};
 ghost use Rattle.row_store.specs.History.{CommitRecord};
 ghost use Rattle.ssb_journal.specs.Seals.{sealed};
-ghost use Rattle.ssb_journal.specs.declared.head.TableSize.{TableSize};
+ghost use Rattle.ssb_journal.specs.declared.head.TableMark.{TableMark};
 ghost use Rattle.ssb_trace.specs.Allowed.{IsClient};
 ghost use Rattle.ssb_trace.specs.TraceText.{trace_text};
 ghost use Rattle.ssb_journal.specs.Kept.{trace_of, HasNoRoom, IsGroupOf, KeepsCommits, KeepsWithOrWithout};
@@ -39,15 +39,15 @@ pub fn append_commits<D: Disk>(
     commits: Vec<Commit>,
 ) -> Result<Journal<D>, (DiskError, D)>
     requires { AllByRecursion (λ commit. IsClient commit.client) commits.items }
-    ensures acknowledged { IfOk result (λ after. (sizes : List TableSize) (before : List CommitRecord)
-        → KeepsCommits sizes before (D.seen journal) → KeepsCommits sizes (before ++ commits.items) (D.seen after)) }
+    ensures acknowledged { IfOk result (λ after. (marks : List TableMark) (before : List CommitRecord)
+        → KeepsCommits marks before (D.seen journal) → KeepsCommits marks (before ++ commits.items) (D.seen after)) }
     // A crash at any moment of the call leaves the commits from before it, with the new ones all or without them.
-    ensures any_moment { IfOk result (λ after. (sizes : List TableSize) (before : List CommitRecord)
-        → KeepsCommits sizes before (D.seen journal)
-        → LeavesOnly D.moment D.left_since journal after (KeepsWithOrWithout sizes before commits.items)) }
-    ensures any_moment_err { IfErr result (λ e. (sizes : List TableSize) (before : List CommitRecord)
-        → KeepsCommits sizes before (D.seen journal)
-        → LeavesOnly D.moment D.left_since journal e.1 (KeepsWithOrWithout sizes before commits.items)) }
+    ensures any_moment { IfOk result (λ after. (marks : List TableMark) (before : List CommitRecord)
+        → KeepsCommits marks before (D.seen journal)
+        → LeavesOnly D.moment D.left_since journal after (KeepsWithOrWithout marks before commits.items)) }
+    ensures any_moment_err { IfErr result (λ e. (marks : List TableMark) (before : List CommitRecord)
+        → KeepsCommits marks before (D.seen journal)
+        → LeavesOnly D.moment D.left_since journal e.1 (KeepsWithOrWithout marks before commits.items)) }
     // It does not give up by itself.
     ensures failed { IfErr result (λ e. e.0 ≡ DiskError.Failed → D.faults journal < D.faults e.1) }
     ensures full { IfErr result (λ e. e.0 ≡ DiskError.Full → HasNoRoom (D.seen journal) commits.items) }

@@ -1,63 +1,142 @@
-//! The first text of a journal: a title, and of each table how many bytes and rows its file has.
-ghost use Rattle.std.specs.Prelude.{◌≡◌, ◌⊎◌, ◌++◌, length, IfOk, IfErr, OnOk};
-ghost use Rattle.ssb_journal.specs.Heads.{head_text, size_line, IsHeadFault};
+//! The first text of a journal: a title, and of each table how many bytes and rows its file has, and the checksum of
+//! the bytes.
+ghost use Rattle.std.specs.Prelude.{◌≡◌, ◌⊎◌, ◌++◌, length, nat_eq, true, false, IfOk, IfErr, MatchOption, OnOk};
+ghost use Rattle.std.specs.List.{starts_with};
+ghost use Rattle.ssb_journal.specs.Heads.{checksum_part, head_text, mark_line, title, IsHeadFault, IsLineFault};
+ghost use Rattle.ssb_journal.specs.declared.head.HeadForm.{HeadForm as Form};
 
 use crate::fault::JournalFault;
 use itoa::Buffer;
 use ssb_schema::Table;
 use std::alloc::{AllocError, Global};
 
-/// How many bytes a table's file has, and how many rows.
+/// By what a journal knows a table: how many bytes its file has, how many rows, and the checksum of the bytes.
 #[derive(Clone, Copy, Debug, PartialEq, Eq)]
-pub struct TableSize {
+pub struct TableMark {
     pub table: Table,
     pub bytes: u64,
     pub rows: u64,
+    pub checksum: [u8; 16],
 }
 
-const TITLE: &[u8] = b"ssb_live journal 1\n";
+/// What a head tells of each table.
+#[derive(Clone, Copy, Debug, PartialEq, Eq)]
+pub enum HeadForm {
+    /// Form 1, of older journals: bytes and rows.
+    Sizes,
+    /// Form 2, of new journals: the checksum too.
+    Checksums,
+}
 
-fn push_size(head: &mut Vec<u8>, size: &TableSize) -> Result<(), AllocError>
-    ensures { OnOk result (head.new.items ≡ head.old.items ++ size_line size.now) }
+impl HeadForm {
+    // The first line of a head.
+    fn title(self) -> &'static [u8]
+        ensures { result.now ≡ title self }
+    {
+        match self {
+            HeadForm::Sizes => b"ssb_live journal 1\n",
+            HeadForm::Checksums => b"ssb_live journal 2\n",
+        }
+    }
+
+    // The form of a text that begins as a head.
+    fn of(text: &[u8]) -> Option<HeadForm>
+        ensures { MatchOption result ((form : Form) → starts_with nat_eq text.now (title form) ≡ false)
+            (λ form. starts_with nat_eq text.now (title form) ≡ true) }
+    {
+        if text.starts_with(HeadForm::Checksums.title()) {
+            return Some(HeadForm::Checksums);
+        }
+        if text.starts_with(HeadForm::Sizes.title()) {
+            return Some(HeadForm::Sizes);
+        }
+        None
+    }
+}
+
+// What a line tells behind the rows.
+fn push_checksum(
+    alloc: Global,
+    form: HeadForm,
+    head: &mut Vec<u8>,
+    mark: &TableMark,
+) -> Result<(), AllocError>
+    ensures { OnOk result (head.new.items ≡ head.old.items ++ checksum_part form mark.now) }
 {
-    head.extend_from_slice(size.table.name().as_bytes())?;
+    match form {
+        HeadForm::Sizes => Ok(()),
+        HeadForm::Checksums => {
+            head.push(b'|')?;
+            let digits = hex::encode(alloc, mark.checksum.as_slice())?;
+            head.extend_from_slice(digits.as_bytes())?;
+            Ok(())
+        }
+    }
+}
+
+fn push_mark(
+    alloc: Global,
+    form: HeadForm,
+    head: &mut Vec<u8>,
+    mark: &TableMark,
+) -> Result<(), AllocError>
+    ensures { OnOk result (head.new.items ≡ head.old.items ++ mark_line form mark.now) }
+{
+    head.extend_from_slice(mark.table.name().as_bytes())?;
     head.push(b'|')?;
-    head.extend_from_slice(Buffer::new().format(size.bytes).as_bytes())?;
+    head.extend_from_slice(Buffer::new().format(mark.bytes).as_bytes())?;
     head.push(b'|')?;
-    head.extend_from_slice(Buffer::new().format(size.rows).as_bytes())?;
+    head.extend_from_slice(Buffer::new().format(mark.rows).as_bytes())?;
+    push_checksum(alloc, form, head, mark)?;
     head.push(b'\n')?;
     Ok(())
 }
 
-/// The head of a journal over tables of these sizes.
-pub fn head_of(alloc: Global, sizes: &[TableSize]) -> Result<Vec<u8>, AllocError>
-    ensures { IfOk result (λ head. head.items ≡ head_text sizes.now) }
+/// The head of this form of a journal over tables of these marks.
+pub fn head_of(alloc: Global, form: HeadForm, marks: &[TableMark]) -> Result<Vec<u8>, AllocError>
+    ensures { IfOk result (λ head. head.items ≡ head_text form marks.now) }
 {
-    let mut head = Vec::from_slice(alloc, TITLE)?;
-    for size in sizes {
-        push_size(&mut head, size)?;
+    let mut head = Vec::from_slice(alloc, form.title())?;
+    for mark in marks {
+        push_mark(alloc, form, &mut head, mark)?;
     }
     Ok(head)
 }
 
-/// Whether a text is the head of a journal over tables of these sizes. One that begins as a head, and has not the line
-/// of a table in its place, is of other tables.
-pub fn check_head(alloc: Global, sizes: &[TableSize], text: &[u8]) -> Result<(), JournalFault>
-    ensures head { OnOk result (text.now ≡ head_text sizes.now) }
-    ensures fault { IfErr result (λ fault. (fault ≡ JournalFault.OutOfMemory) ⊎ IsHeadFault sizes.now text.now fault) }
+// Whether a text that begins as a head of this form is that of a journal over tables of these marks.
+fn check_lines(
+    alloc: Global,
+    form: HeadForm,
+    marks: &[TableMark],
+    text: &[u8],
+) -> Result<(), JournalFault>
+    requires { starts_with nat_eq text.now (title form) ≡ true }
+    ensures head { OnOk result (text.now ≡ head_text form marks.now) }
+    ensures fault { IfErr result (λ fault. (fault ≡ JournalFault.OutOfMemory)
+        ⊎ IsLineFault form marks.now text.now fault) }
 {
-    let mut head = Vec::from_slice(alloc, TITLE)?;
-    if !text.starts_with(&head) {
-        return Err(JournalFault::NotAJournal);
-    }
-    for size in sizes {
-        push_size(&mut head, size)?;
+    let mut head = Vec::from_slice(alloc, form.title())?;
+    for mark in marks {
+        push_mark(alloc, form, &mut head, mark)?;
         if !text.starts_with(&head) {
-            return Err(JournalFault::OtherTables(size.table));
+            return Err(JournalFault::OtherTables(mark.table));
         }
     }
     if text.len() > head.len() {
         return Err(JournalFault::NotAJournal);
     }
     Ok(())
+}
+
+/// The form of a head of a journal over tables of these marks. A text that begins as a head, and has not the line of a
+/// table in its place, is of other tables.
+pub fn check_head(alloc: Global, marks: &[TableMark], text: &[u8]) -> Result<HeadForm, JournalFault>
+    ensures head { IfOk result (λ form. text.now ≡ head_text form marks.now) }
+    ensures fault { IfErr result (λ fault. (fault ≡ JournalFault.OutOfMemory) ⊎ IsHeadFault marks.now text.now fault) }
+{
+    let Some(form) = HeadForm::of(text) else {
+        return Err(JournalFault::NotAJournal);
+    };
+    check_lines(alloc, form, marks, text)?;
+    Ok(form)
 }

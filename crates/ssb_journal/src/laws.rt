@@ -3,7 +3,7 @@ ghost use Rattle.std.specs.Prelude.{◌≡◌, List, ℕ, [], length, true, fals
 ghost use Rattle.journal.specs.Groups.{recovered, behind};
 ghost use Rattle.row_store.specs.History.{CommitRecord, IsPrefix};
 ghost use Rattle.ssb_journal.specs.declared.fault.JournalFault.{JournalFault};
-ghost use Rattle.ssb_journal.specs.declared.head.TableSize.{TableSize};
+ghost use Rattle.ssb_journal.specs.declared.head.TableMark.{TableMark};
 ghost use Rattle.ssb_journal.specs.declared.opening.KeptCommits.{KeptCommits};
 ghost use Rattle.ssb_journal.specs.Counts.{KeepsFirst};
 ghost use Rattle.ssb_journal.specs.Kept.{KeepsCommits};
@@ -12,16 +12,16 @@ ghost use Rattle.ssb_journal.specs.Texts.{IsJournalOf, IsNewJournal};
 
 use ssb_trace::one_reading;
 
-/// A file is a journal of one list of texts, over tables of one list of sizes.
+/// A file is a journal of one list of texts, over tables of one list of marks.
 pub fn one_list_of_texts()
-    ensures { (sizes : List TableSize) (file : List ℕ) (texts others : List (List ℕ))
-        → IsJournalOf sizes texts file → IsJournalOf sizes others file → texts ≡ others }
+    ensures { (marks : List TableMark) (file : List ℕ) (texts others : List (List ℕ))
+        → IsJournalOf marks texts file → IsJournalOf marks others file → texts ≡ others }
 {}
 
 /// A file keeps one list of commits: so what is read of it is what was appended.
 pub fn one_list_of_commits()
-    ensures { (sizes : List TableSize) (file : List ℕ) (commits others : List CommitRecord)
-        → KeepsCommits sizes commits file → KeepsCommits sizes others file → commits ≡ others }
+    ensures { (marks : List TableMark) (file : List ℕ) (commits others : List CommitRecord)
+        → KeepsCommits marks commits file → KeepsCommits marks others file → commits ≡ others }
 {
     one_list_of_texts();
     one_reading();
@@ -29,21 +29,21 @@ pub fn one_list_of_commits()
 
 /// A journal that is opened and then begun keeps the commits that were read.
 pub fn begun_journal_keeps()
-    ensures { (sizes : List TableSize) (kept : KeptCommits) (old new : List ℕ)
-        → IsKept sizes (recovered old) kept
+    ensures { (marks : List TableMark) (kept : KeptCommits) (old new : List ℕ)
+        → IsKept marks (recovered old) kept
         → (kept.is_new ≡ false → recovered new ≡ recovered old)
-        → (kept.is_new ≡ true → IsJournalOf sizes [] new)
-        → KeepsCommits sizes kept.commits.items new }
+        → (kept.is_new ≡ true → IsJournalOf marks [] new)
+        → KeepsCommits marks kept.commits.items new }
 {}
 
 /// A journal keeps the first commits of each log that begins with its commits.
 pub fn first_of_log()
-    ensures { (sizes : List TableSize) (commits log : List CommitRecord) (file : List ℕ)
-        → KeepsCommits sizes commits file → IsPrefix commits log → KeepsFirst (length commits) log file }
+    ensures { (marks : List TableMark) (commits log : List CommitRecord) (file : List ℕ)
+        → KeepsCommits marks commits file → IsPrefix commits log → KeepsFirst (length commits) log file }
 {}
 
 /// Nothing is told against a new journal, nor against what a crash leaves of one that is being made.
 pub fn new_journal_is_opened()
-    ensures { (sizes : List TableSize) (file : List ℕ) (fault : JournalFault)
-        → IsNewJournal sizes file → IsOpenFault sizes (recovered file) (behind file) fault → ⊥ }
+    ensures { (marks : List TableMark) (file : List ℕ) (fault : JournalFault)
+        → IsNewJournal marks file → IsOpenFault marks (recovered file) (behind file) fault → ⊥ }
 {}

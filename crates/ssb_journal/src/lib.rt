@@ -3,8 +3,8 @@
 //! ```text
 //! 1 000000000000179                        a group of `journal`: its gate and its length
 //! 1b2cf535f27731c974343645a3985328         the checksum of the text behind it, by MD5
-//! ssb_live journal 1                       the text of the first group, the head
-//! customer|31800|300                       of each table how many bytes and rows its file has
+//! ssb_live journal 2                       the text of the first group, the head
+//! customer|31800|300|4c7a ..               of each table how many bytes and rows its file has, and their checksum
 //! ..
 //! ```
 //!
@@ -29,10 +29,10 @@
 //! back as a [`LeftLog`]: whatever crashes then, so many commits are on the disk (`IsLeft`).
 //!
 //! ```text
-//! let OpenedJournal { found, kept, torn } = open(alloc, &sizes, disk)?;
+//! let OpenedJournal { found, kept, torn } = open(alloc, &marks, disk)?;
 //! let store = replay(alloc, base, hashing, &kept.commits)?;
 //! let torn = keeper.keep_torn(torn)?;
-//! let journal = begin::<D, Keeper>(alloc, &sizes, found, kept.is_new, &torn)?;
+//! let journal = begin::<D, Keeper>(alloc, &marks, found, kept.is_new, &torn)?;
 //! let shared = SharedJournal::new(JournaledLog::new(journal, source, count));
 //! let on_disk = shared.reach(rt, alloc, receipt.number)?;       // in each thread; then it is told
 //! let left = shared.into_left();                                // when no thread shares it any more
@@ -56,11 +56,11 @@ mod texts;
 pub use appending::append_commits;
 pub use checksum::{CHECKSUM_LINE, seal};
 pub use fault::JournalFault;
-pub use head::{TableSize, head_of};
+pub use head::{HeadForm, TableMark, head_of};
 pub use journaled_log::{JournaledLog, LeftLog};
 pub use on_disk::OnDisk;
 pub use opening::{JournalOpenFault, KeptCommits, OpenedJournal, begin, open};
 pub use replaying::{ReplayFault, replay};
 pub use shared_journal::{JournalFailed, SharedJournal};
 pub use source::LogSource;
-pub use texts::texts_of;
+pub use texts::{JournalTexts, texts_of};

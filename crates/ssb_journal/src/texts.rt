@@ -3,11 +3,11 @@ ghost use Rattle.std.specs.Prelude.{◌≡◌, ◌⊎◌, [], map, true, false, 
 ghost use Rattle.journal.specs.Groups.{lists};
 ghost use Rattle.ssb_journal.specs.Heads.{head_text};
 ghost use Rattle.ssb_journal.specs.Seals.{sealed};
-ghost use Rattle.ssb_journal.specs.Texts.{AreSealed, IsBeginning, IsDamaged, IsFileFault};
+ghost use Rattle.ssb_journal.specs.Texts.{AreSealed, IsBeginning, IsBeginningOf, IsDamaged, IsFileFault};
 
 use crate::checksum::{seal, unseal};
 use crate::fault::JournalFault;
-use crate::head::{TableSize, check_head, head_of};
+use crate::head::{HeadForm, TableMark, check_head, head_of};
 use journal::{CLOSED, behind_gate};
 use std::alloc::{AllocError, Global};
 
@@ -26,49 +26,76 @@ fn unsealed(alloc: Global, groups: &[Vec<u8>]) -> Result<Vec<Vec<u8>>, JournalFa
     Ok(texts)
 }
 
-/// The group of a head.
-pub(crate) fn head_group(alloc: Global, sizes: &[TableSize]) -> Result<Vec<u8>, AllocError>
-    ensures { IfOk result (λ group. group.items ≡ sealed (head_text sizes.now)) }
+/// The group of a head of this form.
+pub(crate) fn head_group(
+    alloc: Global,
+    form: HeadForm,
+    marks: &[TableMark],
+) -> Result<Vec<u8>, AllocError>
+    ensures { IfOk result (λ group. group.items ≡ sealed (head_text form marks.now)) }
 {
-    seal(alloc, &head_of(alloc, sizes)?)
+    seal(alloc, &head_of(alloc, form, marks)?)
 }
 
-// Whether bytes are what a crash may leave of a journal that is being made.
-fn is_beginning(alloc: Global, sizes: &[TableSize], bytes: &[u8]) -> Result<bool, AllocError>
-    ensures yes { IfOk result (λ is. is ≡ true → IsBeginning sizes.now bytes.now) }
-    ensures no { IfOk result (λ is. is ≡ false → IsBeginning sizes.now bytes.now → ⊥) }
+// Whether bytes are what a crash may leave of a journal that is being made with a head of this form.
+fn is_beginning_of(
+    alloc: Global,
+    form: HeadForm,
+    marks: &[TableMark],
+    bytes: &[u8],
+) -> Result<bool, AllocError>
+    ensures yes { IfOk result (λ is. is ≡ true → IsBeginningOf form marks.now bytes.now) }
+    ensures no { IfOk result (λ is. is ≡ false → IsBeginningOf form marks.now bytes.now → ⊥) }
 {
     if bytes.len() <= 1 {
         return Ok(true);
     }
-    let first = behind_gate(alloc, &head_group(alloc, sizes)?)?;
+    let first = behind_gate(alloc, &head_group(alloc, form, marks)?)?;
     let rest = &bytes[1..];
     Ok(first.starts_with(rest) || (bytes[0] == CLOSED && rest.len() <= first.len()))
 }
 
-/// The texts of a journal over tables of these sizes, but for its head. `None` where no group is there, and what is
-/// there is the beginning of a journal that is being made.
+// The same, where the head may be of an older form.
+fn is_beginning(alloc: Global, marks: &[TableMark], bytes: &[u8]) -> Result<bool, AllocError>
+    ensures yes { IfOk result (λ is. is ≡ true → IsBeginning marks.now bytes.now) }
+    ensures no { IfOk result (λ is. is ≡ false → IsBeginning marks.now bytes.now → ⊥) }
+{
+    if is_beginning_of(alloc, HeadForm::Checksums, marks, bytes)? {
+        return Ok(true);
+    }
+    is_beginning_of(alloc, HeadForm::Sizes, marks, bytes)
+}
+
+/// The form of a journal's head, and the texts behind it.
+#[derive(Drop)]
+pub struct JournalTexts {
+    pub form: HeadForm,
+    pub texts: Vec<Vec<u8>>,
+}
+
+/// The texts of a journal over tables of these marks, but for its head, whose form is told. `None` where no group is
+/// there, and what is there is the beginning of a journal that is being made.
 pub fn texts_of(
     alloc: Global,
-    sizes: &[TableSize],
+    marks: &[TableMark],
     groups: &[Vec<u8>],
     rest: &[u8],
-) -> Result<Option<Vec<Vec<u8>>>, JournalFault>
+) -> Result<Option<JournalTexts>, JournalFault>
     ensures texts { IfOk result (λ found. MatchOption found
-        ((lists groups.now ≡ []) × IsBeginning sizes.now rest.now)
-        (λ texts. AreSealed sizes.now (lists texts.items) (lists groups.now))) }
+        ((lists groups.now ≡ []) × IsBeginning marks.now rest.now)
+        (λ found. AreSealed found.form marks.now (lists found.texts.items) (lists groups.now))) }
     ensures fault { IfErr result (λ fault. (fault ≡ JournalFault.OutOfMemory)
-        ⊎ IsFileFault sizes.now (lists groups.now) rest.now fault) }
+        ⊎ IsFileFault marks.now (lists groups.now) rest.now fault) }
 {
     let mut texts = unsealed(alloc, groups)?;
     if texts.is_empty() {
-        return if is_beginning(alloc, sizes, rest)? {
+        return if is_beginning(alloc, marks, rest)? {
             Ok(None)
         } else {
             Err(JournalFault::NotAJournal)
         };
     }
     let head = texts.remove(0);
-    check_head(alloc, sizes, &head)?;
-    Ok(Some(texts))
+    let form = check_head(alloc, marks, &head)?;
+    Ok(Some(JournalTexts { form, texts }))
 }

@@ -15,7 +15,7 @@ pub block_starts : (carry : List ℕ) (source : Option (List ℕ)) → BlockSoFa
 block_starts carry None text is = cc is
 block_starts carry (Some rest) text is = (rest, refl, cc is)
 
-consumes_known : (old new : Option (List ℕ)) (rest bytes : List ℕ) → old ≡ Some rest → Consumes old new bytes
+pub consumes_known : (old new : Option (List ℕ)) (rest bytes : List ℕ) → old ≡ Some rest → Consumes old new bytes
     → (later : List ℕ) × (new ≡ Some later) × (rest ≡ bytes ++ later)
 consumes_known None new rest bytes is consumed = cc is
 consumes_known (Some all) None rest bytes is consumed = absurd consumed

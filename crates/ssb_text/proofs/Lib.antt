@@ -12,6 +12,7 @@ pub mod LineRecordLaws
 pub mod PlainLaws
 pub mod BlockReadingLaws
 pub mod BlockLaws
+pub mod ChecksumLaws
 pub mod ParsingLaws
 pub mod JoiningLaws
 pub mod AheadLaws

@@ -22,21 +22,21 @@ pub record Gives (old new : Option (List ℕ)) (blocks : List (List ℕ)) : Type
   pub ended : length blocks ≡ 0 → WasAll old new
 
 -- the first blocks of a source were read
-pub record IsBegun {R : Type 0} (remaining : R → Option (List ℕ)) (known : Option (List ℕ)) (reading : Reading R)
+pub record IsBegun {R H : Type 0} (remaining : R → Option (List ℕ)) (known : Option (List ℕ)) (reading : Reading R H)
     : Type 0 where
   pub no_lines : reading.lines.items ≡ []
   pub none_parsed : reading.parsed.items ≡ []
   pub gives : Gives known (bytes_left remaining reading.source) (block_bytes reading.blocks.items)
 
 -- what was parsed was joined to these lines, and the next blocks were read
-pub record GoesAhead {R : Type 0} (remaining : R → Option (List ℕ)) (limit : ℕ) (rows : List (List Value))
-    (parsed : List (Result Parsed ReadError)) (left : Option (List ℕ)) (ahead : ReadAhead R) : Type 0 where
+pub record GoesAhead {R H : Type 0} (remaining : R → Option (List ℕ)) (limit : ℕ) (rows : List (List Value))
+    (parsed : List (Result Parsed ReadError)) (left : Option (List ℕ)) (ahead : ReadAhead R H) : Type 0 where
   pub few : length ahead.lines.items ≤ limit
   pub joins : Joins IsParsedOk parsed rows (map line_values ahead.lines.items)
   pub gives : Gives left (bytes_left remaining ahead.source) (block_bytes ahead.blocks.items)
 
 -- the same, and the blocks that were read before were parsed
-pub record TakesStep {R : Type 0} (remaining : R → Option (List ℕ)) (limit : ℕ) (old new : Reading R) : Type 0 where
+pub record TakesStep {R H : Type 0} (remaining : R → Option (List ℕ)) (limit : ℕ) (old new : Reading R H) : Type 0 where
   pub few : length new.lines.items ≤ limit
   pub joins : Joins IsParsedOk old.parsed.items (map line_values old.lines.items) (map line_values new.lines.items)
   pub gives : Gives (bytes_left remaining old.source) (bytes_left remaining new.source) (block_bytes new.blocks.items)

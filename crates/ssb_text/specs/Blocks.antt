@@ -25,7 +25,7 @@ AreCut [] rest = Unit {0}
 AreCut (b ∷ bs) rest = (starts_line (joined bs ++ rest) ≡ true) × AreCut bs rest
 
 -- the bytes that no block has given yet, if the source's are known
-abbrev pub bytes_left : {R : Type 0} → (R → Option (List ℕ)) → Blocks R → Option (List ℕ)
+abbrev pub bytes_left : {R H : Type 0} → (R → Option (List ℕ)) → Blocks R H → Option (List ℕ)
 bytes_left remaining blocks = prepend_known blocks.carry.items (remaining blocks.source)
 
 -- of whatever bytes were left, these stood first, and behind them a line starts, or nothing stands
@@ -41,3 +41,14 @@ GivesBlocks old new blocks = (text : List ℕ) → old ≡ Some text
 -- no bytes were left, and none are
 abbrev pub WasAll : Option (List ℕ) → Option (List ℕ) → Type 0
 WasAll old new = (text : List ℕ) → old ≡ Some text → (text ≡ []) × (new ≡ Some [])
+
+-- of this text the source's bytes are left, and those before them were hashed
+abbrev pub HasHashed : {R H : Type 0} → (R → Option (List ℕ)) → (H → List ℕ → Type 0) → List ℕ → Blocks R H → Type 0
+HasHashed remaining holds text blocks =
+    (front : List ℕ) × (rest : List ℕ) × (remaining blocks.source ≡ Some rest) × (text ≡ front ++ rest)
+    × holds blocks.hash front
+
+-- whatever the text is of which the bytes were hashed before, they are now
+abbrev pub HashesOn : {R H : Type 0} → (R → Option (List ℕ)) → (H → List ℕ → Type 0) → Blocks R H → Blocks R H → Type 0
+HashesOn remaining holds old new = (text : List ℕ) → HasHashed remaining holds text old
+    → HasHashed remaining holds text new

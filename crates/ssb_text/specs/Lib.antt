@@ -12,6 +12,7 @@ pub mod Piece
 pub mod TableText
 pub mod RoundTrip
 pub mod Appended
+pub mod Checksums
 -- how the code reads lines in blocks
 pub mod Blocks
 pub mod BlockReading

@@ -1,16 +1,17 @@
 //! The lines of a whole text, where one thread reads and joins blocks while others parse.
 
-ghost use Rattle.std.specs.Prelude.{◌⊎◌, ◌<◌, ◌≤◌, ◌^◌, IfErr, IfOk, IfSome, length, map};
+ghost use Rattle.std.specs.Prelude.{◌≡◌, ◌⊎◌, ◌<◌, ◌≤◌, ◌^◌, ℕ, List, [], Some, IfErr, IfOk, IfSome, length, map};
 ghost use Rattle.std.specs.List.{AllZip};
 ghost use Rattle.ssb_schema.specs.Rows.{line_values};
 ghost use Rattle.ssb_schema.specs.declared.table.Table.TheVariants as table;
 ghost use Rattle.ssb_text.specs.Tables.{IsFirstFault, IsReadFault, SpellsRows};
-ghost use Rattle.ssb_text.specs.Blocks.{bytes_left};
+ghost use Rattle.ssb_text.specs.Blocks.{HasHashed, HashesOn, bytes_left};
 ghost use Rattle.ssb_text.specs.Ahead.{GoesAhead, IsBegun, TakesStep};
 ghost use Rattle.ssb_text.specs.Joining.{Joins, Stops};
 ghost use Rattle.ssb_text.specs.Parsing.{IsParsedOk};
 
 use crate::blocks::{Block, BlockError, Blocks};
+use crate::checksum::{HashedRows, TableHash};
 use crate::error::LoadError;
 use crate::joining::join_blocks;
 use crate::parsing::{Parsed, parse_blocks};
@@ -27,19 +28,19 @@ const BLOCKS: usize = 8;
 /// How far a text was read: the lines of its first blocks, what was parsed of the next ones, the bytes of those behind
 /// them, and the source of the rest.
 #[derive(Drop)]
-pub(crate) struct Reading<R> {
+pub(crate) struct Reading<R, H> {
     pub(crate) lines: Vec<Line>,
     pub(crate) parsed: Vec<Result<Parsed, ReadError>>,
     pub(crate) blocks: Vec<Block>,
-    pub(crate) source: Blocks<R>,
+    pub(crate) source: Blocks<R, H>,
 }
 
 /// What one thread does while others parse: the lines with those that were parsed before, and the next blocks.
 #[derive(Drop)]
-pub(crate) struct ReadAhead<R> {
+pub(crate) struct ReadAhead<R, H> {
     pub(crate) lines: Vec<Line>,
     pub(crate) blocks: Vec<Block>,
-    pub(crate) source: Blocks<R>,
+    pub(crate) source: Blocks<R, H>,
 }
 
 // The fault where no block could be read.
@@ -53,8 +54,14 @@ fn unread(why: BlockError) -> LoadError
 }
 
 // The first blocks of a text.
-fn begin<R: Read + Drop>(alloc: Global, block: u32, source: R) -> Result<Reading<R>, LoadError>
+fn begin<R: Read + Drop, H: TableHash>(
+    alloc: Global,
+    block: u32,
+    source: R,
+) -> Result<Reading<R, H>, LoadError>
     ensures begun { IfOk result (IsBegun R.remaining (R.remaining source)) }
+    ensures hashed { IfOk result (λ reading. (text : List ℕ) → R.remaining source ≡ Some text
+        → HasHashed R.remaining H.holds text reading.source) }
     ensures fault { IfErr result (IsReadFault table.Lineorder) }
 {
     let mut source = Blocks::new(alloc, source, block);
@@ -70,17 +77,18 @@ fn begin<R: Read + Drop>(alloc: Global, block: u32, source: R) -> Result<Reading
 }
 
 // Joins what was parsed before, and reads the next blocks into its buffers.
-fn go_ahead<R: Read + Drop>(
+fn go_ahead<R: Read + Drop, H: TableHash>(
     alloc: Global,
     limit: usize,
     mut lines: Vec<Line>,
     parsed: Vec<Result<Parsed, ReadError>>,
-    mut source: Blocks<R>,
-) -> Result<ReadAhead<R>, LoadError>
+    mut source: Blocks<R, H>,
+) -> Result<ReadAhead<R, H>, LoadError>
     requires small { limit < 2 ^ 32 }
     requires few { length lines.items ≤ limit }
     ensures ahead { IfOk result (GoesAhead R.remaining limit (map line_values lines.items) parsed.items
         (bytes_left R.remaining source)) }
+    ensures hashed { IfOk result (λ ahead. HashesOn R.remaining H.holds source ahead.source) }
     ensures stops { IfErr result (Stops IsParsedOk parsed.items limit (map line_values lines.items)) }
 {
     let rooms = join_blocks(alloc, &mut lines, parsed, limit)?;
@@ -95,15 +103,16 @@ fn go_ahead<R: Read + Drop>(
 }
 
 // Parses the blocks that were read, and goes ahead meanwhile.
-fn step<R: Read + Drop>(
+fn step<R: Read + Drop, H: TableHash>(
     rt: &(impl Threads + Sync),
     alloc: Global,
     limit: usize,
-    reading: Reading<R>,
-) -> Result<Reading<R>, LoadError>
+    reading: Reading<R, H>,
+) -> Result<Reading<R, H>, LoadError>
     requires small { limit < 2 ^ 32 }
     requires few { length reading.lines.items ≤ limit }
     ensures step { IfOk result (TakesStep R.remaining limit reading) }
+    ensures hashed { IfOk result (λ next. HashesOn R.remaining H.holds reading.source next.source) }
     ensures stops { IfErr result (Stops IsParsedOk reading.parsed.items limit (map line_values reading.lines.items)) }
 {
     let Reading {
@@ -118,11 +127,12 @@ fn step<R: Read + Drop>(
             ensures { IfOk result (λ parsed. AllZip (λ block read. IsParsedOk block.bytes.items read) blocks.items
                 parsed.items) }
         { parse_blocks(rt, alloc, blocks) },
-        move || -> Result<ReadAhead<R>, LoadError>
+        move || -> Result<ReadAhead<R, H>, LoadError>
             requires small { limit < 2 ^ 32 }
             requires few { length lines.items ≤ limit }
             ensures ahead { IfOk result (GoesAhead R.remaining limit (map line_values lines.items) parsed.items
                 (bytes_left R.remaining source)) }
+            ensures hashed { IfOk result (λ ahead. HashesOn R.remaining H.holds source ahead.source) }
             ensures stops { IfErr result (Stops IsParsedOk parsed.items limit (map line_values lines.items)) }
         { go_ahead(alloc, limit, lines, parsed, source) },
     );
@@ -138,37 +148,52 @@ fn step<R: Read + Drop>(
     })
 }
 
-// The lines of a text of which all blocks were parsed.
-fn finish<R>(alloc: Global, limit: usize, reading: Reading<R>) -> Result<Vec<Line>, LoadError>
-where
-    R: Drop,
+// The lines of a text of which all blocks were parsed, and what its bytes are hashed to.
+fn finish<R: Read + Drop, H: TableHash>(
+    alloc: Global,
+    limit: usize,
+    reading: Reading<R, H>,
+) -> Result<HashedRows<Line, H::Checksum>, LoadError>
     requires small { limit < 2 ^ 32 }
     requires few { length reading.lines.items ≤ limit }
-    ensures few { IfOk result (λ lines. length lines.items ≤ limit) }
-    ensures joined { IfOk result (λ lines. Joins IsParsedOk reading.parsed.items (map line_values reading.lines.items)
-        (map line_values lines.items)) }
+    ensures few { IfOk result (λ read. length read.rows.items ≤ limit) }
+    ensures joined { IfOk result (λ read. Joins IsParsedOk reading.parsed.items (map line_values reading.lines.items)
+        (map line_values read.rows.items)) }
+    ensures checksum { IfOk result (λ read. (text : List ℕ) → HasHashed R.remaining H.holds text reading.source
+        → bytes_left R.remaining reading.source ≡ Some [] → H.is_checksum text read.checksum) }
     ensures stops { IfErr result (Stops IsParsedOk reading.parsed.items limit (map line_values reading.lines.items)) }
 {
-    let mut lines = reading.lines;
-    join_blocks(alloc, &mut lines, reading.parsed, limit)?;
-    Ok(lines)
+    let Reading {
+        mut lines,
+        parsed,
+        blocks: _,
+        source,
+    } = reading;
+    join_blocks(alloc, &mut lines, parsed, limit)?;
+    Ok(HashedRows {
+        rows: lines,
+        checksum: source.finish(),
+    })
 }
 
-/// The lines that a lineorder text spells, or its first fault. One thread reads and joins while others parse.
-pub(crate) fn read_lines<R: Read + Drop>(
+/// The lines that a lineorder text spells, and what its bytes are hashed to; or its first fault. One thread reads,
+/// hashes and joins while others parse.
+pub(crate) fn read_lines<R: Read + Drop, H: TableHash>(
     rt: &(impl Threads + Sync),
     alloc: Global,
     limit: usize,
     block: u32,
     source: R,
-) -> Result<Vec<Line>, LoadError>
+) -> Result<HashedRows<Line, H::Checksum>, LoadError>
     requires { limit < 2 ^ 32 }
-    ensures rows { IfOk result (λ rows. IfSome (R.remaining source)
-        (λ text. SpellsRows table.Lineorder limit text (map line_values rows.items))) }
+    ensures rows { IfOk result (λ read. IfSome (R.remaining source)
+        (λ text. SpellsRows table.Lineorder limit text (map line_values read.rows.items))) }
+    ensures checksum { IfOk result (λ read. (text : List ℕ) → R.remaining source ≡ Some text
+        → H.is_checksum text read.checksum) }
     ensures fault { IfErr result (λ e. IsReadFault table.Lineorder e
         ⊎ IfSome (R.remaining source) (λ text. IsFirstFault table.Lineorder limit text e)) }
 {
-    let mut reading = begin(alloc, block, source)?;
+    let mut reading: Reading<R, H> = begin(alloc, block, source)?;
     for _ in 0..u64::MAX {
         if reading.blocks.is_empty() {
             return finish(alloc, limit, reading);

@@ -5,10 +5,12 @@
 //! blocks side by side then need ask nothing of what stands on either side of a cut. A text without line feeds is one
 //! block.
 
-ghost use Rattle.std.specs.Prelude.{◌≡◌, ◌<◌, ◌≤◌, ◌+◌, ℕ, List, Some, IfOk, IfSome, MatchOption, length, map, slice_index, take, drop, vec_len};
+ghost use Rattle.std.specs.Prelude.{◌≡◌, ◌<◌, ◌≤◌, ◌+◌, ℕ, List, [], Some, IfOk, IfSome, MatchOption, length, map};
+ghost use Rattle.std.specs.Prelude.{slice_index, take, drop, vec_len};
 ghost use Rattle.std.specs.Io.KnownBytes.{Consumes, IsAtEnd};
 ghost use Rattle.ssb_text.specs.BlockReading.{ReadsMore};
 
+use crate::checksum::TableHash;
 use ssb_schema::Line;
 use std::alloc::Global;
 use std::io::Read;
@@ -43,8 +45,10 @@ fn room_in(alloc: Global, rooms: &mut Vec<Block>) -> Block {
 
 /// The bytes of a source, given block by block. Each block but the first begins with a line feed.
 #[derive(Drop)]
-pub struct Blocks<R> {
+pub(crate) struct Blocks<R, H> {
     source: R,
+    // Of all that was read.
+    hash: H,
     // What was read behind the last block.
     carry: Vec<u8>,
     // How many bytes are asked of the source at once, and how many at most.
@@ -102,27 +106,46 @@ fn last_feed(bytes: &[u8]) -> Option<usize>
     bytes.iter().rposition(|b| *b == b'\n')
 }
 
-impl<R: Read> Blocks<R> {
-    ghost use Rattle.ssb_text.specs.Blocks.{GivesBlock, GivesBlocks, WasAll, bytes_left};
+impl<R: Read, H: TableHash> Blocks<R, H> {
+    ghost use Rattle.ssb_text.specs.Blocks.{GivesBlock, GivesBlocks, HasHashed, HashesOn, WasAll, bytes_left};
 
     /// The blocks of a source, of which none was given. At most so many bytes are asked of it at once, and one at least:
     /// a block has about as many where the source gives them and its lines are shorter.
-    pub fn new(alloc: Global, source: R, most: u32) -> Blocks<R>
-        ensures { (text : List ℕ) → R.remaining source ≡ Some text → bytes_left R.remaining result ≡ Some text }
+    pub(crate) fn new(alloc: Global, source: R, most: u32) -> Blocks<R, H>
+        ensures left { (text : List ℕ) → R.remaining source ≡ Some text → bytes_left R.remaining result ≡ Some text }
+        ensures hashed { (text : List ℕ) → R.remaining source ≡ Some text
+            → HasHashed R.remaining H.holds text result }
     {
         Blocks {
             source,
+            hash: H::new(),
             carry: Vec::new(alloc),
             asked: FIRST.min(most),
             most,
         }
     }
 
+    // Reads more of the source behind the bytes that are there, hashes that, and says how many bytes it is.
+    fn read_on(&mut self, block: &mut Vec<u8>) -> Result<usize, BlockError>
+        ensures read { IfOk result (ReadsMore (R.remaining self.old.source) (R.remaining self.new.source)
+            block.old.items block.new.items) }
+        ensures hashed { IfOk result (λ count. HashesOn R.remaining H.holds self.old self.new) }
+        ensures carry { self.new.carry ≡ self.old.carry }
+    {
+        let from = block.len();
+        let count = read_more(&mut self.source, block, self.asked)?;
+        self.hash.update(&block[from..]);
+        self.asked = next_asked(self.asked, self.most, count);
+        Ok(count)
+    }
+
     /// The next block, in place of what the buffer held, or none where all bytes were given. After an error there are no
     /// more to be asked for.
-    pub fn next_block(&mut self, room: Vec<u8>) -> Result<Option<Vec<u8>>, BlockError>
-        ensures { IfOk result (λ found. MatchOption found (WasAll (bytes_left R.remaining self.old) (bytes_left R.remaining self.new))
+    pub(crate) fn next_block(&mut self, room: Vec<u8>) -> Result<Option<Vec<u8>>, BlockError>
+        ensures given { IfOk result (λ found. MatchOption found
+            (WasAll (bytes_left R.remaining self.old) (bytes_left R.remaining self.new))
             (λ block. GivesBlock (bytes_left R.remaining self.old) (bytes_left R.remaining self.new) block.items)) }
+        ensures hashed { IfOk result (λ found. HashesOn R.remaining H.holds self.old self.new) }
     {
         let mut block = room;
         block.clear();
@@ -131,8 +154,7 @@ impl<R: Read> Blocks<R> {
         }
         for _ in 0..u64::MAX {
             let from = block.len();
-            let count = read_more(&mut self.source, &mut block, self.asked)?;
-            self.asked = next_asked(self.asked, self.most, count);
+            let count = self.read_on(&mut block)?;
             if count == 0 {
                 if block.is_empty() {
                     return Ok(None);
@@ -151,7 +173,7 @@ impl<R: Read> Blocks<R> {
     }
 
     /// The next blocks, up to so many, put into the buffers of earlier ones: none where all bytes were given.
-    pub fn next_blocks(
+    pub(crate) fn next_blocks(
         &mut self,
         alloc: Global,
         count: usize,
@@ -162,6 +184,7 @@ impl<R: Read> Blocks<R> {
             (bytes_left R.remaining self.new) (map (λ block. block.bytes.items) blocks.items)) }
         ensures ended { IfOk result (λ blocks. vec_len blocks ≡ 0
             → WasAll (bytes_left R.remaining self.old) (bytes_left R.remaining self.new)) }
+        ensures hashed { IfOk result (λ blocks. HashesOn R.remaining H.holds self.old self.new) }
     {
         let mut blocks = Vec::new(alloc);
         for _ in 0..count {
@@ -176,5 +199,24 @@ impl<R: Read> Blocks<R> {
             }
         }
         Ok(blocks)
+    }
+}
+
+impl<R: Read + Drop, H: TableHash> Blocks<R, H> {
+    ghost use Rattle.ssb_text.specs.Blocks.{HasHashed, bytes_left};
+
+    /// What all the bytes are hashed to, once all were given.
+    pub(crate) fn finish(self) -> H::Checksum
+        ensures { (text : List ℕ) → HasHashed R.remaining H.holds text self
+            → bytes_left R.remaining self ≡ Some [] → H.is_checksum text result }
+    {
+        let Blocks {
+            source: _,
+            hash,
+            carry: _,
+            asked: _,
+            most: _,
+        } = self;
+        hash.finish()
     }
 }

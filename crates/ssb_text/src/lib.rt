@@ -15,6 +15,9 @@
 //! and want of memory may come before it. It says nothing of blocks: that they change nothing rests on the law of
 //! [`records_of_appended`].
 //!
+//! [`load_with_checksums`] gives the checksum of each file's bytes too, which are hashed as they are read; of [`load`]
+//! no byte is. A file has one checksum (`specs/Checksums`), however its bytes came and were parted.
+//!
 //! That of [`write_rows`]: on `Ok` the bytes added are the rows' text, and each row is one that its table may have;
 //! after a failed write they are a part of it from its beginning. It takes no memory. The law of reading and writing,
 //! [`tables_are_read_back`]: the texts of a base spell this base, and no other rows; and nothing is refused of what
@@ -22,7 +25,8 @@
 //!
 //! The definitions stand in `specs/`, from the bottom up: `Records` (the records of a text), `TextLines` (its lines),
 //! `Spelling` (what a field spells), `Row` (a record's row, or its first fault), `Tables` (a file's rows) and `Load`
-//! (the base of five files); `Written` and `Piece` (what is written), `TableText` (the text of rows) and `RoundTrip`.
+//! (the base of five files); `Checksums` (those of the files); `Written` and `Piece` (what is written), `TableText`
+//! (the text of rows) and `RoundTrip`.
 //!
 //! `load(rt, alloc, Limits::standard(), 4_194_304, Tables { customer, supplier, part, date, lineorder })?` gives the
 //! base of five open files, and `write_rows(&mut file, base.customers().rows())?` writes the rows of the first. Of the
@@ -32,6 +36,7 @@
 mod ahead;
 mod blocks;
 mod cells;
+mod checksum;
 mod customer;
 mod date;
 mod error;
@@ -55,7 +60,7 @@ pub use error::{LineFault, LoadError};
 pub use fields::{field_at, has_columns, trimmed_at};
 pub use law::{has_its_lines, records_of_appended, records_of_lines, tables_are_read_back};
 pub use line::line_from;
-pub use loading::{Tables, load};
+pub use loading::{Tables, load, load_with_checksums};
 pub use piece::{Piece, WriteFault, write_bytes, write_pieces};
 pub use plain::is_plain_text;
 pub use records::{ReadError, next_record, record_reader};

@@ -8,7 +8,7 @@ use crate::tests::own_log::{A_LOOK, OwnLog, own_commits};
 use journal::{Journal, KeepsTorn};
 use ssb_audit::Trace;
 use ssb_journal::{
-    JournaledLog, OpenedJournal, SharedJournal, TableSize, append_commits, begin, open,
+    JournaledLog, OpenedJournal, SharedJournal, TableMark, append_commits, begin, open,
 };
 use ssb_schema::{Items, Refresh, Table};
 use ssb_trace::write_trace;
@@ -33,10 +33,11 @@ pub(crate) const A_GROUP: usize = 4;
 /// So many calls make a run.
 pub(crate) const CALLS: usize = NEW + A_GROUP * GROUPS;
 
-const SIZES: [TableSize; 1] = [TableSize {
+const MARKS: [TableMark; 1] = [TableMark {
     table: Table::Customer,
     bytes: 31800,
     rows: 300,
+    checksum: [7; 16],
 }];
 
 /// The refreshes of a run: one adds order 1, the next order 2, and so on.
@@ -64,14 +65,14 @@ impl KeepsTorn for InMemory {
 // A new journal of no commits.
 fn new_journal(
     alloc: Global,
-    sizes: &[TableSize],
+    marks: &[TableMark],
     refused: Option<usize>,
 ) -> Result<Journal<TearingDisk>, Fail>
     ensures { IfOk result (λ journal. KeepsFirst 0 [] (disk_bytes journal)) }
 {
     let Ok(OpenedJournal { found, kept, torn }) = open(
         alloc,
-        sizes,
+        marks,
         TearingDisk::new(alloc, b"", refused)?,
     ) else {
         return Err(Fail::from("not opened"));
@@ -80,7 +81,7 @@ fn new_journal(
         return Err(Fail::from("not new"));
     }
     let torn = InMemory.keep_torn(torn)?;
-    match begin::<TearingDisk, InMemory>(alloc, sizes, found, true, &torn) {
+    match begin::<TearingDisk, InMemory>(alloc, marks, found, true, &torn) {
         Ok(journal) => Ok(journal),
         Err((error, _)) => Err(Fail::from(error)),
     }
@@ -92,7 +93,7 @@ pub(crate) fn new_log<'a>(
     refreshes: &'a [Arc<Refresh>],
     refused: Option<usize>,
 ) -> Result<JournaledLog<TearingDisk, OwnLog<'a>>, Fail> {
-    let journal = new_journal(alloc, &SIZES, refused)?;
+    let journal = new_journal(alloc, &MARKS, refused)?;
     Ok(JournaledLog::new(journal, OwnLog::new(refreshes), 0))
 }
 
@@ -116,7 +117,7 @@ pub(crate) fn kept_in(alloc: Global, bytes: &[u8]) -> Result<usize, Fail> {
             kept,
             torn: _,
         },
-    ) = open(alloc, &SIZES, TearingDisk::new(alloc, bytes, None)?)
+    ) = open(alloc, &MARKS, TearingDisk::new(alloc, bytes, None)?)
     else {
         return Err(Fail::from("not opened again"));
     };
@@ -137,13 +138,13 @@ pub(crate) fn kept_in(alloc: Global, bytes: &[u8]) -> Result<usize, Fail> {
 pub(crate) fn mended(alloc: Global, bytes: &[u8]) -> Result<Journal<TearingDisk>, Fail> {
     let Ok(OpenedJournal { found, kept, torn }) = open(
         alloc,
-        &SIZES,
+        &MARKS,
         TearingDisk::new(alloc, bytes, None)?,
     ) else {
         return Err(Fail::from("not opened again"));
     };
     let torn = InMemory.keep_torn(torn)?;
-    match begin::<TearingDisk, InMemory>(alloc, &SIZES, found, kept.is_new, &torn) {
+    match begin::<TearingDisk, InMemory>(alloc, &MARKS, found, kept.is_new, &torn) {
         Ok(journal) => Ok(journal),
         Err((error, _)) => Err(Fail::from(error)),
     }

@@ -1,10 +1,11 @@
-//! How much is read: tables within the limits of a base, and records of a script, also of a reader that never ends.
+//! How much is read: tables within the limits of a base, and to which checksums; records of a script, also of a reader
+//! that never ends.
 
 use crate::tests::{reads, same};
-use small_data::tables;
+use small_data::{LINEORDER, tables};
 use ssb_base::Limits;
 use ssb_script::{ScriptError, read_script};
-use ssb_text::load;
+use ssb_text::{Tables, load, load_with_checksums};
 use std::alloc::Global;
 use std::io::{self, Read};
 use std::test::Fail;
@@ -32,6 +33,44 @@ fn a_table_past_its_limit_is_told_at_the_first_row_behind_it(rt: HostRuntime) ->
         (4, 3, "24 Row lineorder 4 9 TooManyRows lineorder"),
     ] {
         reads(&rt, &loaded(&rt, rt.alloc(), rows, lines)?, told);
+    }
+    Ok(())
+}
+
+// How many bytes the lines have that are the small data set's so many times, and what they and its customers are hashed
+// to, within blocks of so many bytes.
+fn hashed<R: Threads + Sync>(
+    rt: &R,
+    alloc: Global,
+    block: u32,
+    times: usize,
+) -> Result<(usize, u128, u128), Fail> {
+    let limits = Limits::new(4, 100_000, 1).ok_or("limits")?;
+    let text = LINEORDER.repeat(alloc, times)?;
+    let tables = Tables {
+        lineorder: text.as_bytes(),
+        ..tables()
+    };
+    match load_with_checksums(rt, alloc, limits, block, tables) {
+        Ok((_, of)) => Ok((
+            text.len(),
+            u128::from_be_bytes(of.lineorder),
+            u128::from_be_bytes(of.customer),
+        )),
+        Err(_) => Err("tables")?,
+    }
+}
+
+// `md5sum` gave these, and for the lines, of two pieces and a part, `split -b 1048576` before it.
+#[test]
+fn a_table_has_the_checksum_of_its_pieces(rt: HostRuntime) -> Result<(), Fail> {
+    let wanted = (
+        2_214_000,
+        0x9812_f9ea_5514_de87_5163_d909_0c35_28d9,
+        0xb4e7_e836_3e0a_ec2f_4094_1aed_1695_5e6c,
+    );
+    for block in [64, 1_000_000, 4_000_000] {
+        same(&rt, &hashed(&rt, rt.alloc(), block, 9000)?, &wanted);
     }
     Ok(())
 }

@@ -17,18 +17,18 @@ returns-in_err-folder-clause-fault g c =
     = λ texts are. find_fault_tells texts _ _ c.in_err-folder.field-0.0 c.in_err-folder.ensures.fault in
     rw is here
 
-pub returns-in_err-base-clause-fault : goal.returns-in_err-base-clause-fault
-returns-in_err-base-clause-fault g c =
-    let is : c.from_residual-in_err-base.result ≡ Err (Program c.in_err-base.field-0.0) = search rules in
+pub returns-in_err-read-clause-fault : goal.returns-in_err-read-clause-fault
+returns-in_err-read-clause-fault g c =
+    let is : c.from_residual-in_err-read.result ≡ Err (Program c.in_err-read.field-0.0) = search rules in
     let here : (texts : Table → List ℕ) → AreTexts g.I.Read.remaining c.args.tables texts
     → TellsExportFault texts (g.P.OpensJournal.holds c.args.place.now.journal.now)
-    (g.P.OpensJournal.is_taken c.args.place.now.journal.now) (Program c.in_err-base.field-0.0)
-    = λ texts are status. c.in_err-base.ensures.data status texts are in
+    (g.P.OpensJournal.is_taken c.args.place.now.journal.now) (Program c.in_err-read.field-0.0)
+    = λ texts are status. c.in_err-read.ensures.data status texts are in
     rw is here
 
-pub returns-in_err-base-2-clause-fault : goal.returns-in_err-base-2-clause-fault
-returns-in_err-base-2-clause-fault g c =
-    let is : c.from_residual-in_err-base-2.result ≡ Err (Program common.OutOfMemory) = search rules in
+pub returns-in_err-base-clause-fault : goal.returns-in_err-base-clause-fault
+returns-in_err-base-clause-fault g c =
+    let is : c.from_residual-in_err-base.result ≡ Err (Program common.OutOfMemory) = search rules in
     let here : (texts : Table → List ℕ) → AreTexts g.I.Read.remaining c.args.tables texts
     → TellsExportFault texts (g.P.OpensJournal.holds c.args.place.now.journal.now)
     (g.P.OpensJournal.is_taken c.args.place.now.journal.now) (Program common.OutOfMemory)
@@ -45,14 +45,16 @@ pub returns-clause-exported : goal.returns-clause-exported
 returns-clause-exported g c =
     on_ok _ _ c.export_into.result
     (λ is texts are.
-    exports texts _ c.in_ok-base.base c.in_ok-base-2.base.value _ _ _ (c.in_ok-base.ensures.base texts are)
-    c.table_sizes-sizes.ensures c.in-Ok.ensures.held c.in_ok-base-2.ensures.ok is)
+    exports texts _ c.in_ok-read.read.0 c.in_ok-base.base.value _ _ _ (c.in_ok-read.ensures.base texts are)
+    c.table_marks-marks.ensures.marks (c.table_marks-marks.ensures.checksums texts (c.in_ok-read.ensures.checksums texts are))
+    c.in-Ok.ensures.held c.in_ok-base.ensures.ok is)
     c.export_into.ensures.exported
 
 pub returns-clause-fault : goal.returns-clause-fault
 returns-clause-fault g c =
     if_err _ _ _ c.export_into.result
     (λ why is told texts are.
-    fill_fault_tells texts _ _ c.in_ok-base.base c.in_ok-base-2.base.value _ _ why (c.in_ok-base.ensures.base texts are)
-    c.table_sizes-sizes.ensures c.in-Ok.ensures.held c.in_ok-base-2.ensures.ok is told)
+    fill_fault_tells texts _ _ c.in_ok-read.read.0 c.in_ok-base.base.value _ _ why (c.in_ok-read.ensures.base texts are)
+    c.table_marks-marks.ensures.marks (c.table_marks-marks.ensures.checksums texts (c.in_ok-read.ensures.checksums texts are))
+    c.in-Ok.ensures.held c.in_ok-base.ensures.ok is told)
     c.export_into.ensures.fault c.export_into.ensures.journal

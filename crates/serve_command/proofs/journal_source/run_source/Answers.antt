@@ -7,7 +7,7 @@ use Rattle.serve_command.proofs.journal_source.run_source.Goals as goal
 -- the file was read, and is as it was
 pub run_journaled-requires-clause-kept : goal.run_journaled-requires-clause-kept
 run_journaled-requires-clause-kept g c κs within =
-    subst (λ file. IsKept c.args.source.sizes.now (recovered file) c.in-Ok.opened.kept) (sym c.in-Ok.ensures.same)
+    subst (λ file. IsKept c.args.source.marks.now (recovered file) c.in-Ok.opened.kept) (sym c.in-Ok.ensures.same)
     c.in-Ok.ensures.kept
 
 pub returns-in-Ok-run_journaled-clause-served : goal.returns-in-Ok-run_journaled-clause-served

@@ -132,11 +132,11 @@ returns-clause-any_moment g c =
     (later_begins c.in_ok-begun.begun.reader now.reader later) begins) in
     rw c.in_ok-closed.ensures.journal.0
     (kept_throughout g.D.Disk.moment g.D.Disk.left_since found c.in_ok-begun.begun.journal now.disk
-    (IsAsItWasOrNew c.args.recovered.sizes.now groups) c.in_ok-begun.begun.count now.count kept.commits.items
+    (IsAsItWasOrNew c.args.recovered.marks.now groups) c.in_ok-begun.begun.count now.count kept.commits.items
     now.reader.seen log c.in_ok-begun.ensures.any_moment
     (omega (arith, c.in_ok-begun.ensures.count, kept.commits.ok.0, kept.commits.ok.1))
     c.in_ok-ended.ensures.since begins
-    (λ file left. as_it_was c.args.recovered.sizes.now kept groups log file c.first_of_log.ensures c.requires.kept
+    (λ file left. as_it_was c.args.recovered.marks.now kept groups log file c.first_of_log.ensures c.requires.kept
     goes_on left))
 
 pub returns-in_default-clause-any_moment_err : goal.returns-in_default-clause-any_moment_err
@@ -144,7 +144,7 @@ returns-in_default-clause-any_moment_err g c =
     let found = c.args.recovered.opened.found in
     rw (c.new.ensures, c.into_disk-disk.ensures.same)
     (kept_in_beginning g.D.Disk.moment g.D.Disk.left_since found c.in_ok-begun.begun.journal
-    c.args.recovered.sizes.now c.args.recovered.opened.kept (recovered_groups (g.D.Disk.seen found))
+    c.args.recovered.marks.now c.args.recovered.opened.kept (recovered_groups (g.D.Disk.seen found))
     c.first_of_log.ensures c.requires.kept c.in_ok-begun.ensures.any_moment)
 
 pub returns-then-not-all_are_kept-clause-any_moment_err : goal.returns-then-not-all_are_kept-clause-any_moment_err
@@ -154,7 +154,7 @@ returns-then-not-all_are_kept-clause-any_moment_err g c =
     let begun = c.in_ok-begun.begun in
     let left = c.in_ok-ended.left in
     rw c.new-then-not-all_are_kept.ensures
-    (kept_since g.D.Disk.moment g.D.Disk.left_since found begun.journal left.disk c.args.recovered.sizes.now kept
+    (kept_since g.D.Disk.moment g.D.Disk.left_since found begun.journal left.disk c.args.recovered.marks.now kept
     (recovered_groups (g.D.Disk.seen found)) begun.count begun.reader.seen c.first_of_log.ensures c.requires.kept
     c.in_ok-begun.ensures.any_moment
     (omega (arith, c.in_ok-begun.ensures.count, kept.commits.ok.0, kept.commits.ok.1)) c.in_ok-begun.ensures.seen
@@ -181,7 +181,7 @@ returns-in_err-ended-clause-any_moment_err g c =
     (IfSome_then c.in_err-ended.field-0.0.disk
     {P = HasKept g.D.Disk.moment g.D.Disk.left_since begun.journal begun.count begun.reader.seen}
     {Q = IsFoundOrKept g.D.Disk.moment g.D.Disk.left_since found kept.commits.items} c.in_err-ended.ensures.since_err
-    (λ disk has. kept_since g.D.Disk.moment g.D.Disk.left_since found begun.journal disk c.args.recovered.sizes.now kept
+    (λ disk has. kept_since g.D.Disk.moment g.D.Disk.left_since found begun.journal disk c.args.recovered.marks.now kept
     (recovered_groups (g.D.Disk.seen found)) begun.count begun.reader.seen c.first_of_log.ensures c.requires.kept
     c.in_ok-begun.ensures.any_moment
     (omega (arith, c.in_ok-begun.ensures.count, kept.commits.ok.0, kept.commits.ok.1)) c.in_ok-begun.ensures.seen has))
@@ -204,7 +204,7 @@ returns-in_err-closed-clause-any_moment_err g c =
     let left = c.in_ok-ended.left in
     let is : c.from_residual-in_err-closed.result ≡ Err c.in_err-closed.field-0.0 = search rules in
     rw (is, c.in_err-closed.ensures.handed)
-    (kept_since g.D.Disk.moment g.D.Disk.left_since found begun.journal left.disk c.args.recovered.sizes.now kept
+    (kept_since g.D.Disk.moment g.D.Disk.left_since found begun.journal left.disk c.args.recovered.marks.now kept
     (recovered_groups (g.D.Disk.seen found)) begun.count begun.reader.seen c.first_of_log.ensures c.requires.kept
     c.in_ok-begun.ensures.any_moment
     (omega (arith, c.in_ok-begun.ensures.count, kept.commits.ok.0, kept.commits.ok.1)) c.in_ok-begun.ensures.seen

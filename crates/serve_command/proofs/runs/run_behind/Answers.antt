@@ -1,5 +1,4 @@
-use Rattle.std.proofs.Common.{◌≡◌, ◌∙◌, Err, inl, inr, rules, sym}
-use Rattle.serve_command.proofs.JournalLaws.{goes_on_from, refuses_file}
+use Rattle.std.proofs.Common.{◌≡◌, Err, inl, inr, rules}
 use Rattle.serve_command.proofs.runs.run_behind.Goals as goal
 
 pub returns-in_err-disk-clause-refused : goal.returns-in_err-disk-clause-refused
@@ -9,10 +8,8 @@ returns-in_err-disk-clause-refused g c =
 
 pub returns-in-Err-clause-refused : goal.returns-in-Err-clause-refused
 returns-in-Err-clause-refused g c = λ status.
-    inr (refuses_file _ _ _ _ _ (c.requires.same ∙ sym c.deref.ensures) c.table_sizes-sizes.ensures
-    c.in_ok-disk.ensures.held (c.in-Err.ensures.refused status))
+    inr (record { file = _; is_file = c.in_ok-disk.ensures.held; refused = c.in-Err.ensures.refused status })
 
 pub returns-clause-run : goal.returns-clause-run
 returns-clause-run g c =
-    goes_on_from g.S.Speaker.spoken _ _ _ _ _ _ _ _ _ (c.requires.same ∙ sym c.deref.ensures)
-    c.table_sizes-sizes.ensures c.in_ok-disk.ensures.held c.in-Ok.ensures.served
+    record { file = _; is_file = c.in_ok-disk.ensures.held; goes_on = c.in-Ok.ensures.served }

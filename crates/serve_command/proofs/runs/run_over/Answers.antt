@@ -25,20 +25,34 @@ returns-in_err-tables-clause-refused g c =
     (c.in_err-tables.ensures.refused status texts are)) in
     rw is here
 
+pub returns-in_err-loaded-clause-refused : goal.returns-in_err-loaded-clause-refused
+returns-in_err-loaded-clause-refused g c =
+    let is : c.from_residual-in_err-loaded.result ≡ Err (Program c.in_err-loaded.field-0.0) = search rules in
+    let here : serving_status (Program c.in_err-loaded.field-0.0) ≡ 1 → (texts : Table → List ℕ)
+    → AreTexts g.I.Read.remaining c.args.tables texts
+    → AreRefused texts c.args.settings.standing.items
+    (option_map (λ place. g.P.OpensJournal.holds place.file.now) c.args.place)
+    (IfSome c.args.place (λ place. g.P.OpensJournal.is_taken place.file.now))
+    = λ status texts are. refused_base texts c.args.settings.standing.items _ _
+    (subst (λ s. AreRefusedToServe texts ⊎ MayNotStandToServe texts s) c.deref.ensures.value
+    (c.in_err-loaded.ensures.refused status texts are)) in
+    rw is here
+
 pub returns-in-Some-clause-run : goal.returns-in-Some-clause-run
 returns-in-Some-clause-run g c =
     rw c.in-Some.is (each_over_journal g.S.Speaker.spoken (λ run. run.left.items) (λ run. run.log) c.run_behind.result
-    (AreTexts g.I.Read.remaining c.args.tables) _ c.in_ok-tables.tables.loaded c.args.speakers.items
-    c.args.settings.dispatchers c.in_ok-tables.ensures.base c.run_behind.ensures.run)
+    (AreTexts g.I.Read.remaining c.args.tables) _ c.in_ok-tables.tables.loaded c.in_ok-tables.tables.marks
+    c.args.speakers.items c.args.settings.dispatchers c.in_ok-tables.ensures.base c.in_ok-tables.ensures.marked
+    c.in_ok-tables.ensures.checked c.run_behind.ensures.run)
 
 pub returns-in-Some-clause-refused : goal.returns-in-Some-clause-refused
 returns-in-Some-clause-refused g c =
     rw c.in-Some.is (each_refused serving_status c.run_behind.result (AreTexts g.I.Read.remaining c.args.tables)
-    c.args.settings.standing.items _ _ c.in_ok-tables.tables.loaded c.in_ok-tables.ensures.base
-    c.run_behind.ensures.refused)
+    c.args.settings.standing.items _ _ c.in_ok-tables.tables.loaded c.in_ok-tables.tables.marks c.in_ok-tables.ensures.base
+    c.in_ok-tables.ensures.marked c.in_ok-tables.ensures.checked c.run_behind.ensures.refused)
 
 pub returns-clause-run : goal.returns-clause-run
 returns-clause-run g c =
     rw c.in-None.is (each_over_none g.S.Speaker.spoken (λ run. run.left.items) (λ run. run.log) c.run_without.result
-    (AreTexts g.I.Read.remaining c.args.tables) c.in_ok-tables.tables.loaded c.args.speakers.items
-    c.args.settings.dispatchers c.in_ok-tables.ensures.base c.run_without.ensures.run)
+    (AreTexts g.I.Read.remaining c.args.tables) c.in_ok-loaded.loaded c.args.speakers.items
+    c.args.settings.dispatchers c.in_ok-loaded.ensures.base c.run_without.ensures.run)

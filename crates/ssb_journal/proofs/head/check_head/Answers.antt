@@ -1,15 +1,14 @@
-use Rattle.std.proofs.Common.{◌≡◌, false, refl, sym, ◌∙◌, ap, inr, arith, nat_eq}
+use Rattle.std.proofs.Common.{◌≡◌, true, nat_eq, Err, inl, inr, ⊎_elim, rules}
 use Rattle.std.specs.List.{starts_with}
-use Rattle.ssb_journal.proofs.HeadLaws.{is_other, whole_head}
+use Rattle.ssb_journal.specs.Heads.{title}
 use Rattle.ssb_journal.proofs.head.check_head.Goals as goal
 
-pub returns-then-not-starts_with-2-clause-fault : goal.returns-then-not-starts_with-2-clause-fault
-returns-then-not-starts_with-2-clause-fault c =
-    let l = c.loop-size in
-    let other : starts_with nat_eq c.args.text.now c.push_size.new.head.items ≡ false = ap (starts_with nat_eq c.args.text.now) (sym c.deref-in-loop-size.ensures.value) ∙ sym c.starts_with-in-loop-size.ensures.value ∙ c.if-not-starts_with-2.true in
-    inr (_, refl, is_other c.args.sizes.now l.size-index _ c.loop-size-test.true l.head.items c.push_size.new.head.items l.invariant.head c.in_ok-push_size.ensures c.args.text.now l.invariant.begins other)
+pub check_lines-requires : goal.check_lines-requires
+check_lines-requires c = rw c.in-Some.is at c.of.ensures
 
-pub returns-clause-head : goal.returns-clause-head
-returns-clause-head c =
-    let l = c.loop-size in
-    whole_head c.args.sizes.now l.size-index l.head.items c.args.text.now c.loop-size-test.false l.invariant.head l.invariant.begins (omega arith)
+pub returns-in_err-check_lines-clause-fault : goal.returns-in_err-check_lines-clause-fault
+returns-in_err-check_lines-clause-fault c =
+    let is : c.from_residual.result ≡ Err c.in_err-check_lines.field-0.0 = search rules in
+    let begins : starts_with nat_eq c.args.text.now (title c.in-Some.form) ≡ true = rw c.in-Some.is at c.of.ensures in
+    rw is (⊎_elim (λ memory. inl memory) (λ fault. inr (inr (c.in-Some.form, begins, fault)))
+    c.in_err-check_lines.ensures.fault)

@@ -5,11 +5,11 @@ use Rattle.ssb_journal.specs.Kept.{KeepsCommits}
 use Rattle.ssb_journal.proofs.laws.first_of_log.Goals as goal
 
 pub returns : goal.returns
-returns c sizes commits log file kept begins =
+returns c marks commits log file kept begins =
     let whole : log ≡ commits ++ begins.rest = begins.whole in
     let first : take (length commits) log ≡ commits = ap (take (length commits)) whole ∙ take_at commits begins.rest (length commits) refl in
     record {
-      sizes = sizes;
-      keeps = subst (λ (cs : List CommitRecord). KeepsCommits sizes cs file) (sym first) kept;
+      marks = marks;
+      keeps = subst (λ (cs : List CommitRecord). KeepsCommits marks cs file) (sym first) kept;
       inside = omega (arith, ap length whole, length-append commits begins.rest);
     }

@@ -9,5 +9,5 @@ opened [] = refl
 opened (text ∷ texts) = ap (λ t. t ∷ map (drop 33) (map sealed texts)) (drop-sealed text) ∙ ap (λ ts. text ∷ ts) (opened texts)
 
 pub returns : goal.returns
-returns c sizes file texts others one other =
-    sym (opened texts) ∙ ap (λ (groups : List (List ℕ)). map (drop 33) (drop 1 groups)) (sym one ∙ other) ∙ opened others
+returns c marks file texts others one other =
+    sym (opened texts) ∙ ap (λ (groups : List (List ℕ)). map (drop 33) (drop 1 groups)) (sym one.1 ∙ other.1) ∙ opened others

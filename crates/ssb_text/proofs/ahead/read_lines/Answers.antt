@@ -1,4 +1,4 @@
-use Rattle.std.proofs.Common.{◌≡◌, ◌∙◌, sym, ◌≤◌, length, map, Err, arith, rules}
+use Rattle.std.proofs.Common.{◌≡◌, ◌∙◌, sym, ◌≤◌, length, map, ap, Some, Err, arith, rules}
 use Rattle.std.proofs.lemmas.List.{length-map}
 use Rattle.std.specs.Vec.{vec_len}
 use Rattle.ssb_schema.specs.Rows.{line_values}
@@ -17,6 +17,7 @@ loop-init g c =
       few = few;
       so_far = rw (begun.no_lines, begun.none_parsed) (reading_begun IsParsedOk known _
           (block_bytes reading.blocks.items) begun.gives);
+      hashed = c.in_ok-reading.ensures.hashed;
     }
 
 pub returns-then-is_empty-clause-rows : goal.returns-then-is_empty-clause-rows
@@ -27,10 +28,22 @@ returns-then-is_empty-clause-rows g c =
     let empty : vec_len reading.blocks ≡ 0 = search rules in
     let none : length waiting ≡ 0 = length-map reading.blocks.items (λ b. b.bytes.items)
     ∙ sym reading.blocks.ok.0 ∙ empty in
-    if_ok c.finish.result _ _ _ (λ lines few joins. reading_all IsParsedOk c.args.limit known _
-    (map line_values reading.lines.items) (map line_values lines.items) reading.parsed.items waiting
-    c.loop.invariant.so_far none joins (omega (arith, few, length-map lines.items line_values)))
+    if_ok c.finish.result _ _ _ (λ read few joins. reading_all IsParsedOk c.args.limit known _
+    (map line_values reading.lines.items) (map line_values read.rows.items) reading.parsed.items waiting
+    c.loop.invariant.so_far none joins (omega (arith, few, length-map read.rows.items line_values)))
     c.finish.ensures.few c.finish.ensures.joined
+
+pub returns-then-is_empty-clause-checksum : goal.returns-then-is_empty-clause-checksum
+returns-then-is_empty-clause-checksum g c =
+    let reading = c.loop.reading in
+    let waiting = block_bytes reading.blocks.items in
+    let empty : vec_len reading.blocks ≡ 0 = search rules in
+    let none : length waiting ≡ 0 = length-map reading.blocks.items (λ b. b.bytes.items)
+    ∙ sym reading.blocks.ok.0 ∙ empty in
+    if_ok c.finish.result _ _ _ (λ read few checksum text is.
+    let here = c.loop.invariant.so_far text is in
+    checksum text (c.loop.invariant.hashed text is) (here.left_is ∙ ap Some (here.ended none)))
+    c.finish.ensures.few c.finish.ensures.checksum
 
 pub returns-then-is_empty-clause-fault : goal.returns-then-is_empty-clause-fault
 returns-then-is_empty-clause-fault g c =
@@ -62,4 +75,5 @@ loop-preserved g c =
       so_far = reading_step IsParsedOk known _ _ (map line_values old.lines.items) (map line_values new.lines.items)
           old.parsed.items new.parsed.items (block_bytes old.blocks.items) (block_bytes new.blocks.items)
           c.loop.invariant.so_far step.joins step.gives step.parsed;
+      hashed = λ text is. c.in_ok-reading-2.ensures.hashed text (c.loop.invariant.hashed text is);
     }

@@ -1,5 +1,5 @@
 use Rattle.std.proofs.Common.{◌≡◌, []}
-use Rattle.ssb_text.specs.Blocks.{bytes_left}
+use Rattle.ssb_text.specs.Blocks.{HashesOn, bytes_left}
 use Rattle.ssb_text.proofs.BlockLaws.{BlockSoFar}
 use Rattle.ssb_text.proofs.blocks.Blocks.next_block.Given as goal
 
@@ -7,4 +7,5 @@ abbrev pub invariant-loop : goal.invariant-loop
 invariant-loop g l = record {
   none : l.self.carry.items ≡ [];
   so_far : BlockSoFar (bytes_left g.R.Read.remaining l.fn.self) (g.R.Read.remaining l.self.source) l.block.items;
+  hashed : HashesOn g.R.Read.remaining g.H.TableHash.holds l.fn.self l.self;
 }

@@ -1,5 +1,5 @@
 use Rattle.std.proofs.Common.{◌≡◌, map, length}
-use Rattle.ssb_text.specs.Blocks.{GivesBlocks, bytes_left}
+use Rattle.ssb_text.specs.Blocks.{GivesBlocks, HashesOn, bytes_left}
 use Rattle.ssb_text.proofs.blocks.Blocks.next_blocks.Given as goal
 
 abbrev pub invariant-loop : goal.invariant-loop
@@ -7,4 +7,5 @@ invariant-loop g l = record {
   count : length l.blocks.items ≡ l.counter;
   given : GivesBlocks (bytes_left g.R.Read.remaining l.fn.self) (bytes_left g.R.Read.remaining l.self)
       (map (λ block. block.bytes.items) l.blocks.items);
+  hashed : HashesOn g.R.Read.remaining g.H.TableHash.holds l.fn.self l.self;
 }
