@@ -34,7 +34,7 @@ block_more old before after block more count so_far read text is =
           ∙ ap (λ (front : List ℕ). front ++ next.0) (sym read.behind),
     )
 
-end_known : (known : Option (List ℕ)) (rest : List ℕ) → known ≡ Some rest → IsAtEnd known → rest ≡ []
+pub end_known : (known : Option (List ℕ)) (rest : List ℕ) → known ≡ Some rest → IsAtEnd known → rest ≡ []
 end_known None rest is ended = cc is
 end_known (Some all) rest is ended = let same : all ≡ rest = cc is in sym same ∙ ended
 

@@ -20,7 +20,7 @@ use Rattle.ssb_text.specs.declared.loading.Tables.{Tables}
 use Rattle.ssb_text.proofs.BlockLaws.{consumes_known}
 use Rattle.ssb_text.proofs.LoadLaws.{each_table}
 
-all-push : {X : Type 0} (P : X → Type 0) (xs : List X) (x : X) → AllByRecursion P xs → P x
+pub all-push : {X : Type 0} (P : X → Type 0) (xs : List X) (x : X) → AllByRecursion P xs → P x
     → AllByRecursion P (xs ++ x ∷ [])
 all-push P [] x all here = (here, tt)
 all-push P (y ∷ ys) x all here = (all.0, all-push P ys x all.1 here)

@@ -13,6 +13,8 @@ pub mod PlainLaws
 pub mod BlockReadingLaws
 pub mod BlockLaws
 pub mod ChecksumLaws
+pub mod HeadsLaws
+pub mod LayoutLaws
 pub mod ParsingLaws
 pub mod JoiningLaws
 pub mod AheadLaws

@@ -13,6 +13,7 @@ pub mod TableText
 pub mod RoundTrip
 pub mod Appended
 pub mod Checksums
+pub mod Layouts
 -- how the code reads lines in blocks
 pub mod Blocks
 pub mod BlockReading
@@ -20,3 +21,4 @@ pub mod Lines
 pub mod Parsing
 pub mod Joining
 pub mod Ahead
+pub mod HeadsReading

@@ -15,6 +15,10 @@
 //! and want of memory may come before it. It says nothing of blocks: that they change nothing rests on the law of
 //! [`records_of_appended`].
 //!
+//! Files in another layout, with another delimiter or a line of heads above the rows, are [`TableFiles`]: their rows
+//! ([`TableFiles::into_rows`]) are read as those of any file, with a bar in the place of each delimiter
+//! (`specs/Layouts`).
+//!
 //! [`load_with_checksums`] gives the checksum of each file's bytes too, which are hashed as they are read; of [`load`]
 //! no byte is. A file has one checksum (`specs/Checksums`), however its bytes came and were parted.
 //!
@@ -25,8 +29,8 @@
 //!
 //! The definitions stand in `specs/`, from the bottom up: `Records` (the records of a text), `TextLines` (its lines),
 //! `Spelling` (what a field spells), `Row` (a record's row, or its first fault), `Tables` (a file's rows) and `Load`
-//! (the base of five files); `Checksums` (those of the files); `Written` and `Piece` (what is written), `TableText`
-//! (the text of rows) and `RoundTrip`.
+//! (the base of five files); `Layouts` (what a file's rows are) and `Checksums`; `Written` and `Piece` (what is
+//! written), `TableText` (the text of rows) and `RoundTrip`.
 //!
 //! `load(rt, alloc, Limits::standard(), 4_194_304, Tables { customer, supplier, part, date, lineorder })?` gives the
 //! base of five open files, and `write_rows(&mut file, base.customers().rows())?` writes the rows of the first. Of the
@@ -34,6 +38,7 @@
 #![tactic(auto)]
 
 mod ahead;
+mod barred;
 mod blocks;
 mod cells;
 mod checksum;
@@ -41,8 +46,10 @@ mod customer;
 mod date;
 mod error;
 mod fields;
+mod heads;
 mod joining;
 mod law;
+mod layout;
 mod line;
 mod loading;
 mod parsing;
@@ -55,10 +62,13 @@ mod rows;
 mod spelling;
 mod supplier;
 mod table;
+mod table_files;
 
+pub use barred::Barred;
 pub use error::{LineFault, LoadError};
 pub use fields::{field_at, has_columns, trimmed_at};
 pub use law::{has_its_lines, records_of_appended, records_of_lines, tables_are_read_back};
+pub use layout::{Delimiter, TableLayout};
 pub use line::line_from;
 pub use loading::{Tables, load, load_with_checksums};
 pub use piece::{Piece, WriteFault, write_bytes, write_pieces};
@@ -67,3 +77,4 @@ pub use records::{ReadError, next_record, record_reader};
 pub use row::TableRow;
 pub use rows::{are_table_rows, write_row, write_rows};
 pub use spelling::{text, trimmed};
+pub use table_files::TableFiles;

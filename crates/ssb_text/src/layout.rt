@@ -1,0 +1,100 @@
+//! How the files of tables are laid out.
+
+ghost use Rattle.std.specs.Prelude.{◌≡◌, IfSome, true};
+ghost use Rattle.ssb_text.specs.Layouts as spec;
+
+/// The byte of a bar.
+pub(crate) const BAR: u8 = b'|';
+
+const TAB: u8 = b'\t';
+
+/// What parts the fields of a table's rows: a byte of ASCII that is no digit, no letter, no quote and no end of a line.
+/// A bar parts them whatever else does: no text of a row has one, since rows are told, sent and written with bars.
+#[derive(Clone, Copy, Debug, PartialEq, Eq)]
+pub struct Delimiter {
+    byte: u8,
+}
+
+// Whether a byte ends a line.
+fn ends_line(byte: u8) -> bool
+    ensures { result ≡ spec.ends_line byte }
+{
+    byte == b'\n' || byte == b'\r'
+}
+
+// Whether a byte is a quote.
+fn is_quote(byte: u8) -> bool
+    ensures { result ≡ spec.is_quote byte }
+{
+    byte == b'"' || byte == b'\''
+}
+
+// Whether a byte can part fields.
+fn can_part(byte: u8) -> bool
+    ensures { result ≡ spec.can_part byte }
+{
+    byte.is_ascii() && !byte.is_ascii_alphanumeric() && !is_quote(byte) && !ends_line(byte)
+}
+
+impl Delimiter {
+    /// The benchmark's.
+    pub fn bar() -> Delimiter
+        ensures { result.byte ≡ 124 }
+    {
+        Delimiter { byte: BAR }
+    }
+
+    /// The delimiter that a word names: the character itself, or `tab` or `\t`.
+    pub fn of_word(word: &str) -> Option<Delimiter>
+        ensures { IfSome result (λ delimiter. spec.can_part delimiter.byte ≡ true) }
+    {
+        match word {
+            "tab" | "\\t" => Some(Delimiter { byte: TAB }),
+            _ => match word.as_bytes() {
+                [byte] if can_part(*byte) => Some(Delimiter { byte: *byte }),
+                _ => None,
+            },
+        }
+    }
+
+    /// Its byte.
+    pub fn byte(self) -> u8
+        ensures { result ≡ self.byte }
+    {
+        self.byte
+    }
+
+    /// Whether a byte parts fields.
+    pub(crate) fn parts(self, byte: u8) -> bool
+        ensures { result ≡ spec.parts self byte }
+    {
+        byte == self.byte || byte == BAR
+    }
+}
+
+/// How the files of tables are laid out.
+#[derive(Clone, Copy, Debug, PartialEq, Eq)]
+pub struct TableLayout {
+    pub delimiter: Delimiter,
+    /// Whether a line of heads stands above the rows.
+    pub has_heads: bool,
+}
+
+impl TableLayout {
+    /// The benchmark's: bars, and no heads.
+    pub fn benchmark() -> TableLayout
+        ensures { result ≡ spec.benchmark_layout }
+    {
+        TableLayout {
+            delimiter: Delimiter::bar(),
+            has_heads: false,
+        }
+    }
+
+    /// Whether it is the benchmark's.
+    pub fn is_benchmark(self) -> bool
+        ensures { result ≡ spec.is_benchmark self }
+    {
+        self.delimiter.byte == BAR && !self.has_heads
+    }
+}
