@@ -101,8 +101,9 @@ as a plain file. An OUT that has bytes in it is refused, and so are two ends tha
 A client sends the records of a script. A request is a line 'query|NAME' or 'query|NAME|CONSTANT..', or the lines from
 'ask' to 'answer' or from 'begin' to 'commit'. Its reply comes before the server waits for the next request: one line,
 or for each question a line that says how many rows follow. The 1 to 16 questions from 'ask' to 'answer' are all answered
-after the same commits. A request with a fault is answered 'fault: ..', and does nothing. The end of the input ends the
-session. At a terminal the word 'help' shows the queries and their constants.
+after the same commits. A request with a fault is answered 'fault: ..', and does nothing. 'format|NAME' changes how
+replies are written: report, table, csv, json, markdown or bars. The end of the input ends the session. At a terminal
+the word 'help' shows the queries and their constants.
 
 With --journal the commits are kept in FILE, which is created if it does not exist. 'committed N' is sent when commit N
 is on the disk; an answer is sent when all commits that it contains are. The next server with this FILE and the same
@@ -142,6 +143,7 @@ answer asks them together: all are answered after the same commits. begin, then 
 withdraw|KEY, then commit is one refresh; nothing of it is done without the commit.
 
   abort       drops the refresh, or the questions, that were begun
+  format csv  from then on replies are written so; also table, json, markdown and bars, and report, as at the beginning
   timing      from then on shows how many seconds each reply took; again: no more
   status      shows what the server has done, its memory, and how long ago the last reply came
   help        shows this

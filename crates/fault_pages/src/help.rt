@@ -105,7 +105,8 @@ impl ListsFaults for ScriptHelp<'static> {
     fn next(&self) -> Option<ScriptHelp<'static>> {
         Some(match self {
             ScriptHelp::Record(_, _, _) => ScriptHelp::Words,
-            ScriptHelp::Words => ScriptHelp::Alone("LO_TAX"),
+            ScriptHelp::Words => ScriptHelp::Format,
+            ScriptHelp::Format => ScriptHelp::Alone("LO_TAX"),
             ScriptHelp::Alone(_) => ScriptHelp::Key,
             ScriptHelp::Key => ScriptHelp::LineCount(3),
             ScriptHelp::LineCount(_) => ScriptHelp::LineNumber(C_CITY),

@@ -16,6 +16,7 @@ use Rattle.ssb_text.proofs.WrittenLaws.{appends_none}
 use Rattle.stream_sessions.specs.Conversation.{Converses, ConversesUntil}
 use Rattle.stream_sessions.specs.Events.{Event, most_covered}
 use Rattle.stream_sessions.specs.Session.{Serves, Breaks}
+use Rattle.stream_sessions.specs.Speaking.{InSession, first_format, speaking}
 use Rattle.stream_sessions.specs.declared.outcome.Served.{Served}
 use Rattle.stream_sessions.specs.declared.outcome.SessionError.{SessionError}
 use Rattle.stream_sessions.specs.declared.outcome.SessionFault.TheVariants as fault
@@ -39,24 +40,27 @@ not_begun : (number : ℕ) (client : TokenRecord) (unread before : Option (List 
     → HasEnded (Err (record { answered = 0; fault = fault.OutOfMemory })) number client client unread before before
 not_begun number client unread before = (
   unread,
-  record {
-    text = [];
-    is = record {
-      bytes = [];
-      read = nothing_read unread;
-      requests = [];
-      rest = [];
-      cut = record { joined = refl; each = tt; unfinished = nothing_is_unfinished };
-      between = client;
-      replies = [];
-      answered = refl;
-      count = refl;
-      line = [];
-      breaks = (omega arith, inl refl, refl);
-      told = refl;
-    };
-    written = appends_none before;
-  },
+  (
+    first_format,
+    record {
+      text = [];
+      is = record {
+        bytes = [];
+        read = nothing_read unread;
+        requests = [];
+        rest = [];
+        cut = record { joined = refl; each = tt; unfinished = nothing_is_unfinished };
+        between = speaking client first_format;
+        replies = [];
+        answered = refl;
+        count = refl;
+        line = [];
+        breaks = (omega arith, inl refl, refl);
+        told = refl;
+      };
+      written = appends_none before;
+    },
+  ),
 )
 
 -- nothing was read, written or done
@@ -66,47 +70,62 @@ pub nothing_streamed : (number : ℕ) (client : TokenRecord) (unread before : Op
 nothing_streamed number client unread before = record {
   ended = not_begun number client unread before;
   events = [];
-  conversed = (false, record { more = []; behind = refl; is = (refl, refl, refl) });
+  conversed = (first_format, (false, record { more = []; behind = refl; is = (refl, refl, refl) }));
   told_is = refl;
 }
 
 -- how a session ended over a wire, of which the other bytes are known
 has_ended : (outcome : Result Served SessionError) (number : ℕ) (old new : TokenRecord)
     (unread was rest before began after now : Option (List ℕ)) → was ≡ unread → began ≡ before → now ≡ after
-    → IfOk outcome (λ served. Serves served number old new was rest began now)
-    → IfErr outcome (λ error. Breaks error number old new was rest began now)
+    → IfOk outcome (λ served. InSession old new (λ first last. Serves served number first last was rest began now))
+    → IfErr outcome (λ error. InSession old new (λ first last. Breaks error number first last was rest began now))
     → HasEnded outcome number old new unread before after
 has_ended (Ok served) number old new unread was rest before began after now same same_too same_then serves breaks = (
   rest,
-  subst (λ (w : Option (List ℕ)). Serves served number old new w rest before after) same
-      (subst (λ (w : Option (List ℕ)). Serves served number old new was rest w after) same_too
-      (subst (λ (w : Option (List ℕ)). Serves served number old new was rest began w) same_then serves)),
+  subst (λ (w : Option (List ℕ)). InSession old new (λ first last. Serves served number first last w rest before after))
+      same
+      (subst
+      (λ (w : Option (List ℕ)). InSession old new (λ first last. Serves served number first last was rest w after))
+      same_too
+      (subst
+      (λ (w : Option (List ℕ)). InSession old new (λ first last. Serves served number first last was rest began w))
+      same_then serves)),
 )
 has_ended (Err error) number old new unread was rest before began after now same same_too same_then serves breaks = (
   rest,
-  subst (λ (w : Option (List ℕ)). Breaks error number old new w rest before after) same
-      (subst (λ (w : Option (List ℕ)). Breaks error number old new was rest w after) same_too
-      (subst (λ (w : Option (List ℕ)). Breaks error number old new was rest began w) same_then breaks)),
+  subst (λ (w : Option (List ℕ)). InSession old new (λ first last. Breaks error number first last w rest before after))
+      same
+      (subst
+      (λ (w : Option (List ℕ)). InSession old new (λ first last. Breaks error number first last was rest w after))
+      same_too
+      (subst
+      (λ (w : Option (List ℕ)). InSession old new (λ first last. Breaks error number first last was rest began w))
+      same_then breaks)),
 )
 
 -- and what went over it
 has_conversed : (outcome : Result Served SessionError) (number : ℕ) (old new : TokenRecord) (before after : List Event)
-    → before ≡ [] → OnOk outcome (Converses true number old new before after [])
-    → IfErr outcome (λ error. ConversesUntil error.fault number old new before after [])
+    → before ≡ [] → OnOk outcome (InSession old new (λ first last. Converses true number first last before after []))
+    → IfErr outcome
+    (λ error. InSession old new (λ first last. ConversesUntil error.fault number first last before after []))
     → HasConversed outcome number old new [] after
 has_conversed (Ok served) number old new before after none whole part =
-    subst (λ (es : List Event). Converses true number old new es after []) none whole
+    subst (λ (es : List Event). InSession old new (λ first last. Converses true number first last es after [])) none
+    whole
 has_conversed (Err error) number old new before after none whole part =
-    subst (λ (es : List Event). ConversesUntil error.fault number old new es after []) none part
+    subst
+    (λ (es : List Event). InSession old new (λ first last. ConversesUntil error.fault number first last es after []))
+    none part
 
 -- a session over a wire that was made of a reader and a writer
 pub has_streamed : (outcome : Result Served SessionError) (number told : ℕ) (old new : TokenRecord)
     (unread before after was rest began now : Option (List ℕ)) (start events : List Event) → was ≡ unread
     → began ≡ before → start ≡ [] → after ≡ now
-    → IfOk outcome (λ served. Serves served number old new was rest began now)
-    → IfErr outcome (λ error. Breaks error number old new was rest began now)
-    → OnOk outcome (Converses true number old new start events [])
-    → IfErr outcome (λ error. ConversesUntil error.fault number old new start events [])
+    → IfOk outcome (λ served. InSession old new (λ first last. Serves served number first last was rest began now))
+    → IfErr outcome (λ error. InSession old new (λ first last. Breaks error number first last was rest began now))
+    → OnOk outcome (InSession old new (λ first last. Converses true number first last start events []))
+    → IfErr outcome
+    (λ error. InSession old new (λ first last. ConversesUntil error.fault number first last start events []))
     → told ≡ most_covered events → HasStreamed number old new unread before after outcome told
 has_streamed outcome number told old new unread before after was rest began now start events same same_too none
     same_then serves breaks whole part told_is = record {

@@ -7,6 +7,7 @@ use Rattle.serve_command.specs.declared.speakers.SessionEnd.TheVariants.{Last}
 use Rattle.stream_sessions.specs.Conversation.{Converses, ConversesUntil}
 use Rattle.stream_sessions.specs.Events.{Event, most_covered}
 use Rattle.stream_sessions.specs.Session.{Serves, Breaks}
+use Rattle.stream_sessions.specs.Speaking.{InSession}
 use Rattle.stream_sessions.specs.declared.outcome.Served.{Served}
 use Rattle.stream_sessions.specs.declared.outcome.SessionError.{SessionError}
 
@@ -15,15 +16,19 @@ use Rattle.stream_sessions.specs.declared.outcome.SessionError.{SessionError}
 abbrev pub HasEnded : Result Served SessionError → ℕ → TokenRecord → TokenRecord → Option (List ℕ) → Option (List ℕ)
     → Option (List ℕ) → Type 0
 HasEnded (Ok served) number old new unread before after =
-    (left : Option (List ℕ)) × Serves served number old new unread left before after
+    (left : Option (List ℕ))
+    × InSession old new (λ first last. Serves served number first last unread left before after)
 HasEnded (Err error) number old new unread before after =
-    (left : Option (List ℕ)) × Breaks error number old new unread left before after
+    (left : Option (List ℕ))
+    × InSession old new (λ first last. Breaks error number first last unread left before after)
 
 -- what went over its wire is a conversation, to its end or until it broke; no reply is held any more, but where writing
 -- failed
 abbrev pub HasConversed : Result Served SessionError → ℕ → TokenRecord → TokenRecord → List Event → List Event → Type 0
-HasConversed (Ok served) number old new before after = Converses true number old new before after []
-HasConversed (Err error) number old new before after = ConversesUntil error.fault number old new before after []
+HasConversed (Ok served) number old new before after =
+    InSession old new (λ first last. Converses true number first last before after [])
+HasConversed (Err error) number old new before after =
+    InSession old new (λ first last. ConversesUntil error.fault number first last before after [])
 
 -- a session over ends that were opened for it: how it ended, what its input had, the known bytes of its output before
 -- and after, and what went over its wire, the newest first

@@ -1,14 +1,18 @@
--- No answer has a float.
+-- No answer and no reply has a float.
 use Rattle.std.proofs.Common.{◌≡◌, ℕ, ℤ, pos, negsuc, Bool, true, false, List, [], ◌∷◌, ◌++◌, map, Option, Some, None}
-use Rattle.std.proofs.Common.{refl, codes, if◌then◌else◌}
+use Rattle.std.proofs.Common.{Result, Ok, Err, refl, codes, if◌then◌else◌}
 use Rattle.serde_json.specs.Data.{Data, put}
 use Rattle.serde_json.specs.View.{items_of}
 use Rattle.serde_json.specs.Written.{has_float, items_have_float, members_have_float}
+use Rattle.row_store.specs.declared.commit.Receipt.{Receipt}
+use Rattle.row_store.specs.declared.refusal.RefreshError.{RefreshError}
+use Rattle.row_store.specs.declared.refusal.RefreshError.TheVariants.{Refused, OutOfMemory}
 use Rattle.ssb_answers.specs.declared.answer.Answer.{Answer}
 use Rattle.ssb_answers.specs.declared.answer.Answer.TheVariants.{Rows, Unserved}
 use Rattle.ssb_answers.specs.declared.answer.ResultRow.{ResultRow}
 use Rattle.ssb_formats.specs.Cells.{heads_of}
-use Rattle.ssb_formats.specs.JsonText.{answer_members, row_data, sum_data, text_data, value_data}
+use Rattle.ssb_formats.specs.JsonText.{answer_members, list_data, row_data, sum_data, text_data, value_data}
+use Rattle.ssb_formats.specs.ReplyJson.{answer_data, refreshed_members}
 use Rattle.ssb_questions.specs.Queries.{plan_over}
 use Rattle.ssb_questions.specs.Query.{sum_first}
 use Rattle.ssb_questions.specs.declared.query.Query.{Query}
@@ -57,3 +61,11 @@ titled_exact title (Rows question at rows) =
     (rw (items_exact value_data question.1 value_exact)
     (rw (items_exact (row_data question.0) rows (row_exact question.0)) refl))
 titled_exact title (Unserved question cause) = rw (items_exact value_data question.1 value_exact) refl
+
+pub answers_exact : (answers : List Answer) → has_float (list_data (map answer_data answers)) ≡ false
+answers_exact answers = items_exact answer_data answers answer_exact
+
+pub refreshed_exact : (reply : Result Receipt RefreshError) → members_have_float (refreshed_members reply) ≡ false
+refreshed_exact (Ok receipt) = refl
+refreshed_exact (Err (Refused at action cause)) = refl
+refreshed_exact (Err OutOfMemory) = refl

@@ -1,3 +1,4 @@
 pub mod CellLaws
 pub mod JsonLaws
 pub mod ShownLaws
+pub mod TextLaws

@@ -10,3 +10,6 @@ pub mod Markup
 pub mod HtmlText
 pub mod Formats
 pub mod Titled
+pub mod ReplyFormats
+pub mod ReplyJson
+pub mod ReplyTexts

@@ -120,7 +120,8 @@ pub(crate) fn push_shown(
     }
 }
 
-fn outcome(written: Result<(), WriteFault>) -> Result<(), FormatFault>
+/// What a failed write is called here.
+pub(crate) fn outcome(written: Result<(), WriteFault>) -> Result<(), FormatFault>
     ensures { is_err result ≡ is_err written }
 {
     match written {
@@ -129,6 +130,7 @@ fn outcome(written: Result<(), WriteFault>) -> Result<(), FormatFault>
     }
 }
 
+/// Writes a text.
 pub(crate) fn write_text<W: Write>(writer: &mut W, text: &[u8]) -> Result<(), FormatFault>
     ensures { Shows (W.contents writer.old) (W.contents writer.new) result text.now }
 {
@@ -209,7 +211,8 @@ fn write_opening<W: Write>(alloc: Global, writer: &mut W, format: Format) -> Res
     }
 }
 
-fn write_parted<W: Write>(
+/// Writes answers in a format, one after another.
+pub(crate) fn write_parted<W: Write>(
     alloc: Global,
     writer: &mut W,
     format: Format,

@@ -148,7 +148,10 @@ fn unserved_members(
     Ok(members)
 }
 
-fn answer_members(alloc: Global, answer: &Answer) -> Result<Map<String, Json>, AllocError>
+pub(crate) fn answer_members(
+    alloc: Global,
+    answer: &Answer,
+) -> Result<Map<String, Json>, AllocError>
     ensures { IfOk result (λ members. members_view members.entries ≡ answer_members answer.now) }
 {
     match answer {
@@ -157,8 +160,8 @@ fn answer_members(alloc: Global, answer: &Answer) -> Result<Map<String, Json>, A
     }
 }
 
-// An object, and the end of its line.
-fn object_line(alloc: Global, members: Map<String, Json>) -> Result<Vec<u8>, AllocError>
+/// An object, and the end of its line.
+pub(crate) fn object_line(alloc: Global, members: Map<String, Json>) -> Result<Vec<u8>, AllocError>
     requires { members_have_float (members_view members.entries) ≡ false }
     ensures { IfOk result (λ text. text.items ≡ object_line (members_view members.entries)) }
 {

@@ -6,6 +6,10 @@
 //! (cells below one another), `TableText`, `BarsText`, `CsvText`, `JsonText`, `MarkdownText`, `HtmlText`; `Formats`,
 //! which has them all; and `Titled`.
 //!
+//! A live session has six of these formats ([`ReplyFormat`], `specs/ReplyFormats`), in which it tells its client each
+//! reply: answers, receipts, refusals, faults ([`write_reply_as`] and its neighbours). The contract is again the exact
+//! text (`specs/ReplyTexts`, `ReplyJson`).
+//!
 //! ```text
 //! write_formatted(alloc, &mut output, Format::Csv, answers)?;             // D_YEAR,C_NATION,LO_REVENUE-LO_SUPPLYCOST
 //!                                                                         // 1997,UNITED STATES,-1330
@@ -23,10 +27,15 @@ mod html_text;
 mod json_text;
 mod markdown_text;
 mod markup;
+mod reply;
+mod reply_format;
+mod reply_json;
 mod table_text;
 mod title;
 mod titled;
 
 pub use fault::FormatFault;
 pub use format::{Format, write_formatted};
+pub use reply::{write_aborted_as, write_answers_as, write_fault_as, write_format, write_reply_as};
+pub use reply_format::{REPLY_FORMATS, ReplyFormat};
 pub use titled::write_board;

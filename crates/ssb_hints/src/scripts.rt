@@ -18,6 +18,8 @@ pub enum ScriptHelp<'a> {
     Record(&'a str, u64, &'a str),
     /// The words that records begin with.
     Words,
+    /// The names of formats are wanted.
+    Format,
     /// A word that stands alone.
     Alone(&'a str),
     /// A key is wanted.
@@ -41,8 +43,11 @@ impl<'a> fmt::Display for ScriptHelp<'a> {
                 write!(f, "{path} record {number} is {record}")
             }
             ScriptHelp::Words => f.write_str(
-                "a record begins with query, ask, answer, begin, add, amend, line, withdraw, commit or abort, in small \
-                 letters and without spaces",
+                "a record begins with query, ask, answer, begin, add, amend, line, withdraw, commit or abort, in a live \
+                 session also with format, in small letters and without spaces",
+            ),
+            ScriptHelp::Format => f.write_str(
+                "format stands alone, in a live session; it takes report, table, csv, json, markdown or bars",
             ),
             ScriptHelp::Alone(word) => write!(f, "{word} takes no fields"),
             ScriptHelp::Key => f.write_str("withdraw takes one field, the key of an order"),
@@ -73,8 +78,9 @@ impl<'a> fmt::Display for ScriptHelp<'a> {
 }
 
 // The words that records begin with.
-const WORDS: [&str; 10] = [
+const WORDS: [&str; 11] = [
     "query", "begin", "add", "amend", "line", "withdraw", "commit", "ask", "answer", "abort",
+    "format",
 ];
 
 // The column of a `line` record that is no number where one is wanted.
@@ -141,6 +147,7 @@ fn help_with_fields<E: Write>(
         }
         ["line", rest @ ..] => help_with_line(record, rest.len(), err),
         ["withdraw", ..] => help_with_key(record, err),
+        ["format", ..] => write_line(err, &ScriptHelp::Format),
         [word] if stands_alone(word) => write_line(err, &ScriptHelp::Place(word)),
         [word, ..] if stands_alone(word) => write_line(err, &ScriptHelp::Alone(word)),
         [word, ..] => help_with_word(alloc, word, err),

@@ -17,4 +17,4 @@ pub mod laws;
 mod refresh;
 
 pub use answer::{write_after_bars, write_answer, write_answers, write_row};
-pub use refresh::{write_aborted, write_receipt, write_refusal, write_reply};
+pub use refresh::{write_aborted, write_cause, write_receipt, write_refusal, write_reply};

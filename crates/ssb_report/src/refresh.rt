@@ -30,8 +30,8 @@ pub fn write_aborted<W: Write>(writer: &mut W) -> Result<(), WriteFault>
     write_pieces(writer, &[Piece::Text("aborted\n")])
 }
 
-// The number and the name of a cause, with its key where it has one.
-fn write_cause<W: Write>(writer: &mut W, cause: Cause) -> Result<(), WriteFault>
+/// Writes the number and the name of a cause, with its key where it has one. It takes no memory.
+pub fn write_cause<W: Write>(writer: &mut W, cause: Cause) -> Result<(), WriteFault>
     ensures { Writes (W.contents writer.old) (W.contents writer.new) result (cause_text cause) }
 {
     match cause {

@@ -1,87 +1,115 @@
--- From the loop of scripts to the answer of one request.
-use Rattle.std.proofs.Common.{◌≡◌, ℕ, ◌+◌, List, ◌++◌, take, drop, length, Option, Some, true, false, refl, sym, ap}
-use Rattle.std.proofs.Common.{◌∙◌, subst, inl, inr}
+-- From the things that a request asks to the answer of it.
+use Rattle.std.proofs.Common.{◌≡◌, ℕ, List, [], ◌∷◌, ◌++◌, take, length, Some, true, false, refl, sym, ap}
+use Rattle.std.proofs.Common.{◌∙◌, ◌⊎◌, subst, inl, inr, append_assoc, append-nil}
 use Rattle.std.proofs.Math.Seq.{take-append_seam}
-use Rattle.std.proofs.lemmas.List.{take-append-drop}
+use Rattle.std.proofs.lemmas.List.Concat.{flat_map-append}
+use Rattle.history.specs.Members.{number_of}
 use Rattle.history.specs.Tokens.{TokenRecord}
-use Rattle.ssb_audit.specs.declared.trace.Told.{Told}
+use Rattle.ssb_formats.specs.ReplyTexts.{format_shown, replies_shown, reply_shown}
+use Rattle.ssb_formats.specs.declared.reply_format.ReplyFormat.{ReplyFormat}
+use Rattle.ssb_report.specs.Replies.{Reply}
 use Rattle.ssb_script.specs.Requests.{RequestRecord}
 use Rattle.ssb_script.specs.Scripts.{SpellsScript, IsScriptFault, most_records}
 use Rattle.ssb_script.specs.declared.error.ScriptError.{ScriptError}
-use Rattle.ssb_report.specs.Replies.{Reply}
-use Rattle.stream_sessions.specs.Served.{AreServed, Serves, Ends}
-use Rattle.stream_sessions.specs.declared.serve_error.ServeError.{ServeError}
-use Rattle.stream_sessions.specs.declared.serve_error.ServeError.TheVariants as stop
-use Rattle.stream_sessions.specs.Answers.{HasFault, is_of_text, BreaksOff}
+use Rattle.ssb_text.specs.Written.{AppendsPart}
+use Rattle.stream_sessions.specs.Answers.{BreaksOff, HasFault, is_of_text}
 use Rattle.stream_sessions.specs.FaultLine.{fault_line}
+use Rattle.stream_sessions.specs.FormatRequest.{NamesFormat, NamesNone}
+use Rattle.stream_sessions.specs.Replying.{LacksReply}
+use Rattle.stream_sessions.specs.Served.{AreServed, IsServed}
+use Rattle.stream_sessions.specs.Speaking.{speaking}
 use Rattle.stream_sessions.specs.Steps.{AddsAnswer, AddsNothing}
+use Rattle.stream_sessions.proofs.RequestLaws.{served_more}
 
 no_is : false ≡ true → ⊥
 no_is e = cc
 
--- a script that was served whole is a request that was answered
-pub adds_report : (number : ℕ) (request : List ℕ) (old new : TokenRecord) (asked : List RequestRecord)
-    (told_old told_new : Option (List Told)) (before after : List ℕ)
-    → SpellsScript most_records request asked
-    → Serves number old new asked told_old told_new (Some before) (Some after)
-    → AddsAnswer number request old new before after
-adds_report number request old new asked told_old told_new before after spelled serves = record {
-  text = _;
+-- one thing more was served, to the same client
+pub served_next : (old mid new : TokenRecord) (front : List RequestRecord) (given : List Reply) (one : RequestRecord)
+    (reply : Reply)
+    → AreServed (number_of old.who) old front given mid → mid.who ≡ old.who
+    → IsServed (number_of mid.who) mid one reply new
+    → AreServed (number_of old.who) old (front ++ one ∷ []) (given ++ reply ∷ []) new
+served_next old mid new front given one reply are same next =
+    served_more (number_of old.who) old mid new front given one reply are
+    (subst (λ who. IsServed (number_of who) mid one reply new) same next)
+
+-- and one reply more is shown
+pub shown_next : (format : ReplyFormat) (given : List Reply) (reply : Reply) (start before after : List ℕ)
+    → before ≡ start ++ replies_shown format given → after ≡ before ++ reply_shown format reply
+    → after ≡ start ++ replies_shown format (given ++ reply ∷ [])
+shown_next format given reply start before after so_far added =
+    added ∙ ap (λ t. t ++ reply_shown format reply) so_far
+    ∙ append_assoc start (replies_shown format given) (reply_shown format reply)
+    ∙ ap (λ t. start ++ t) (sym (flat_map-append (reply_shown format) given (reply ∷ [])
+    ∙ ap (λ t. replies_shown format given ++ t) (append-nil (reply_shown format reply))))
+
+-- all that was asked was served, and is a request that was answered
+pub adds_replies : (number : ℕ) (request : List ℕ) (old new : TokenRecord) (format : ReplyFormat)
+    (asked front : List RequestRecord) (given : List Reply) (before after : List ℕ)
+    → SpellsScript most_records request asked → asked ≡ front → AreServed number old front given new
+    → after ≡ before ++ replies_shown format given
+    → AddsAnswer number request (speaking old format) (speaking new format) before after
+adds_replies number request old new format asked front given before after spelled whole are added = record {
+  text = replies_shown format given;
   answered = inl (record {
-    asked = asked;
-    spelled = spelled;
-    replies = serves.replies;
-    served = serves.served;
+    asked = front;
+    spelled = subst (SpellsScript most_records request) whole spelled;
+    replies = given;
+    served = are;
     report = refl;
+    stays = refl;
   });
-  added = serves.written;
+  added = added;
 }
 
--- one whose first requests were served is one that broke off
-in_part : (number : ℕ) (request : List ℕ) (old new : TokenRecord) (asked : List RequestRecord) (count : ℕ)
-    (replies : List Reply)
-    → SpellsScript most_records request asked
-    → AreServed number old (take count asked) replies new → BreaksOff number request old new
-in_part number request old new asked count replies spelled served = inr (record {
-  asked = take count asked;
-  left = drop count asked;
-  spelled = subst (SpellsScript most_records request) (sym (take-append-drop count asked)) spelled;
-  replies = replies;
-  served = served;
+-- one whose first things were served is one that broke off
+in_part : (request : List ℕ) (old mid new : TokenRecord) (format : ReplyFormat) (asked front rest : List RequestRecord)
+    (one : RequestRecord) (given : List Reply)
+    → SpellsScript most_records request asked → asked ≡ front ++ one ∷ rest
+    → AreServed (number_of old.who) old front given mid → mid.who ≡ old.who
+    → (new ≡ mid) ⊎ ((reply : Reply) × IsServed (number_of mid.who) mid one reply new)
+    → BreaksOff (number_of old.who) request (speaking old format) (speaking new format)
+in_part request old mid new format asked front rest one given spelled whole are same (inl unchanged) = inr (record {
+  asked = front;
+  left = one ∷ rest;
+  spelled = subst (SpellsScript most_records request) whole spelled;
+  replies = given;
+  served = subst (AreServed (number_of old.who) old front given) (sym unchanged) are;
+  stays = refl;
+})
+in_part request old mid new format asked front rest one given spelled whole are same (inr last) = inr (record {
+  asked = front ++ one ∷ [];
+  left = rest;
+  spelled = subst (SpellsScript most_records request) (whole ∙ sym (append_assoc front (one ∷ []) rest)) spelled;
+  replies = given ++ last.0 ∷ [];
+  served = served_next old mid new front given one last.0 are same last.1;
+  stays = refl;
 })
 
-broke_off : (error : ServeError) (number : ℕ) (request : List ℕ) (old new : TokenRecord) (asked : List RequestRecord)
-    (told_old told_new : Option (List Told)) (before after : Option (List ℕ))
-    → SpellsScript most_records request asked
-    → Ends error number old new asked told_old told_new before after → BreaksOff number request old new
-broke_off (stop.Write done) number request old new asked told_old told_new before after spelled ends =
-    in_part number request old new asked (done + 1) _ spelled ends.served
-broke_off (stop.OutOfMemory done) number request old new asked told_old told_new before after spelled ends =
-    in_part number request old new asked done _ spelled ends.1.served
+-- what was added is cut off again
+cut_off : (start shown so_far written after part : List ℕ) → so_far ≡ start ++ shown → written ≡ so_far ++ part
+    → after ≡ take (length start) written → after ≡ start
+cut_off start shown so_far written after part is added cut =
+    cut ∙ ap (take (length start)) (added ∙ ap (λ t. t ++ part) is ∙ append_assoc start shown part)
+    ∙ take-append_seam start (shown ++ part)
 
--- what was added of its report is cut off again
-cut_off : (error : ServeError) (number : ℕ) (old new : TokenRecord) (asked : List RequestRecord)
-    (told_old told_new : Option (List Told)) (before written : List ℕ)
-    → Ends error number old new asked told_old told_new (Some before) (Some written)
-    → take (length before) written ≡ before
-cut_off (stop.Write done) number old new asked told_old told_new before written ends =
-    ap (take (length before)) ends.written ∙ take-append_seam before _
-cut_off (stop.OutOfMemory done) number old new asked told_old told_new before written ends =
-    ap (take (length before)) ends.1.written ∙ take-append_seam before _
-
-pub adds_nothing : (error : ServeError) (number : ℕ) (request : List ℕ) (old new : TokenRecord)
-    (asked : List RequestRecord) (told_old told_new : Option (List Told)) (before written after : List ℕ)
-    → SpellsScript most_records request asked
-    → Ends error number old new asked told_old told_new (Some before) (Some written)
-    → after ≡ take (length before) written
-    → AddsNothing number request old new before after
-adds_nothing error number request old new asked told_old told_new before written after spelled ends cut = record {
-  broken = broke_off error number request old new asked told_old told_new (Some before) (Some written) spelled ends;
-  added = cut ∙ cut_off error number old new asked told_old told_new before written ends;
-}
+pub adds_nothing : (request : List ℕ) (old mid new : TokenRecord) (format : ReplyFormat)
+    (asked front rest : List RequestRecord) (one : RequestRecord) (given : List Reply)
+    (start so_far written after : List ℕ)
+    → SpellsScript most_records request asked → asked ≡ front ++ one ∷ rest
+    → AreServed (number_of old.who) old front given mid → mid.who ≡ old.who
+    → so_far ≡ start ++ replies_shown format given → LacksReply (number_of mid.who) mid new one so_far written
+    → after ≡ take (length start) written
+    → AddsNothing (number_of old.who) request (speaking old format) (speaking new format) start after
+adds_nothing request old mid new format asked front rest one given start so_far written after spelled whole are same
+    is lacks cut = record {
+      broken = in_part request old mid new format asked front rest one given spelled whole are same lacks.done;
+      added = cut_off start (replies_shown format given) so_far written after lacks.part is lacks.added cut;
+    }
 
 -- what is told of a request is its first fault
-fault_of : (request : List ℕ) (fault : ScriptError) → IsScriptFault most_records request fault
+pub fault_of : (request : List ℕ) (fault : ScriptError) → IsScriptFault most_records request fault
     → is_of_text fault ≡ true → HasFault request fault
 fault_of request fault is told = elim is [
   | inl read ↦ absurd (no_is (sym (ap is_of_text read) ∙ told))
@@ -91,21 +119,33 @@ fault_of request fault is told = elim is [
   ]
 ]
 
--- a fault that was told, and one for whose line there was no memory
-pub adds_line : (number : ℕ) (request : List ℕ) (client : TokenRecord) (fault : ScriptError) (before after : List ℕ)
-    → IsScriptFault most_records request fault → is_of_text fault ≡ true → after ≡ before ++ fault_line fault
-    → AddsAnswer number request client client before after
-adds_line number request client fault before after is told added = record {
-  text = fault_line fault;
-  answered = inr (record {
-    fault = fault;
-    has = fault_of request fault is told;
-    line = refl;
-    unchanged = refl;
-  });
+-- a fault that was told, a format that is the client's from here on, and one for whose line there was no memory
+pub adds_line : (number : ℕ) (request : List ℕ) (client : TokenRecord) (format : ReplyFormat) (fault : ScriptError)
+    (before after : List ℕ)
+    → HasFault request fault → NamesNone request → after ≡ before ++ fault_line format fault
+    → AddsAnswer number request (speaking client format) (speaking client format) before after
+adds_line number request client format fault before after has other added = record {
+  text = fault_line format fault;
+  answered = inr (inl (record { fault = fault; has = has; other = other; line = refl; unchanged = refl }));
   added = added;
 }
 
-pub adds_no_line : (number : ℕ) (request : List ℕ) (client : TokenRecord) (before after : List ℕ) → after ≡ before
-    → AddsNothing number request client client before after
-adds_no_line number request client before after same = record { broken = inl refl; added = same }
+pub adds_format : (number : ℕ) (request : List ℕ) (client : TokenRecord) (format named : ReplyFormat)
+    (before after : List ℕ)
+    → NamesFormat request named → after ≡ before ++ format_shown named
+    → AddsAnswer number request (speaking client format) (speaking client named) before after
+adds_format number request client format named before after names added = record {
+  text = format_shown named;
+  answered = inr (inr (record { names = names; told = refl; unchanged = refl }));
+  added = added;
+}
+
+pub adds_no_line : (number : ℕ) (request : List ℕ) (client : TokenRecord) (format : ReplyFormat)
+    (text before written after : List ℕ) (count : ℕ)
+    → count ≡ length before → AppendsPart (Some before) (Some written) text → after ≡ take count written
+    → AddsNothing number request (speaking client format) (speaking client format) before after
+adds_no_line number request client format text before written after count many part cut = record {
+  broken = inl refl;
+  added = cut ∙ ap (λ (n : ℕ). take n written) many ∙ ap (take (length before)) part.appends
+      ∙ take-append_seam before part.part;
+}

@@ -8,16 +8,17 @@ use Rattle.std.proofs.KnownBytes.{Consumes-trans}
 use Rattle.std.proofs.Math.Seq.{take-length, take-append_seam, get_or-append_seam}
 use Rattle.std.proofs.lemmas.Option.{slice_get_read}
 use Rattle.stream_sessions.specs.declared.outcome.Ending.{Ending}
-use Rattle.history.specs.Tokens.{TokenRecord}
 use Rattle.ssb_script.specs.Cutting.{IsRequest, IsUnfinished, IsCutInto}
 use Rattle.ssb_script.proofs.RequestLaws.{concat-push, nothing_is_unfinished}
 use Rattle.ssb_script.proofs.TakingLaws.{all_behind, less_behind}
+use Rattle.ssb_formats.specs.declared.reply_format.ReplyFormat.{ReplyFormat}
 use Rattle.ssb_text.specs.Written.{AppendsPart}
 use Rattle.ssb_text.proofs.WrittenLaws.{appends_both}
 use Rattle.stream_sessions.specs.Answers.{AreAnswered, BreaksOff}
 use Rattle.stream_sessions.specs.FaultLine.{too_long_line}
 use Rattle.stream_sessions.specs.Session.{all_of, answered_at, last_line, IsServed, IsBroken, IsWritten, IsLast}
 use Rattle.stream_sessions.specs.Session.{BreaksSo, EndsSo, Serves, Breaks}
+use Rattle.stream_sessions.specs.Speaking.{SpeakingRecord}
 use Rattle.stream_sessions.specs.Steps.{HandsOn, Steps, Fails, FailsAt, FailsWriting, IsHeld, EndsHeld}
 use Rattle.stream_sessions.specs.declared.outcome.Ending.TheVariants as ending
 use Rattle.stream_sessions.specs.declared.outcome.Served.{Served}
@@ -52,7 +53,7 @@ kept_on : (told handed held more kept : List ℕ) → told ≡ handed ++ held �
 kept_on told handed held more kept whole parted =
     append_assoc handed more kept ∙ ap (λ t. handed ++ t) (sym parted) ∙ sym whole ∙ sym (append-nil told)
 
-pub ends_with_rest : (number : ℕ) (old now new : TokenRecord) (unread left next before out after : Option (List ℕ))
+pub ends_with_rest : (number : ℕ) (old now new : SpeakingRecord) (unread left next before out after : Option (List ℕ))
     (held kept : List ℕ) (done : ℕ)
     → IsThrough number old now unread left before out held done
     → Steps step.Rest number now new left next out after held kept
@@ -85,7 +86,8 @@ ends_with_rest number old now new unread left next before out after held kept do
       };
     }
 
-pub ends_with_nothing : (number : ℕ) (old now new : TokenRecord) (unread left next before out after : Option (List ℕ))
+pub ends_with_nothing : (number : ℕ) (old now new : SpeakingRecord)
+    (unread left next before out after : Option (List ℕ))
     (held kept : List ℕ) (done : ℕ)
     → IsThrough number old now unread left before out held done
     → Steps step.Nothing number now new left next out after held kept
@@ -115,7 +117,7 @@ ends_with_nothing number old now new unread left next before out after held kept
       };
     }
 
-pub ends_too_long : (number : ℕ) (old now new : TokenRecord) (unread left next before out after : Option (List ℕ))
+pub ends_too_long : (number : ℕ) (old now new : SpeakingRecord) (unread left next before out after : Option (List ℕ))
     (held kept : List ℕ) (done : ℕ)
     → IsThrough number old now unread left before out held done
     → Steps step.TooLong number now new left next out after held kept
@@ -136,8 +138,9 @@ ends_too_long number old now new unread left next before out after held kept don
         answered = subst (AreAnswered number old through.requests through.replies) (sym steps.so.3) through.answered;
         count = as_many number old now through.requests through.replies through.answered ∙ through.count;
         told = sym
-            (told_on (concat through.replies) through.handed held steps.handed.handed steps.kept too_long_line kept
-            through.whole steps.handed.whole steps.so.4);
+            (told_on (concat through.replies) through.handed held steps.handed.handed steps.kept
+            (too_long_line now.format) kept through.whole steps.handed.whole steps.so.4)
+            ∙ ap (λ (client : SpeakingRecord). concat through.replies ++ too_long_line client.format) (sym steps.so.3);
       };
     }
 
@@ -152,7 +155,7 @@ part_on a b c handed held first second = record {
 }
 
 -- replies could not be written
-breaks_writing : (why : SessionFault) (number : ℕ) (old now new : TokenRecord)
+breaks_writing : (why : SessionFault) (number : ℕ) (old now new : SpeakingRecord)
     (unread left next before out after : Option (List ℕ))
     (held : List ℕ) (done : ℕ)
     → IsThrough number old now unread left before out held done
@@ -180,7 +183,7 @@ breaks_writing why number old now new unread left next before out after held don
     }
 
 -- a session that broke behind its requests, with some bytes read
-broken_at : (why : SessionFault) (number : ℕ) (old now new : TokenRecord)
+broken_at : (why : SessionFault) (number : ℕ) (old now new : SpeakingRecord)
     (unread left next before out after : Option (List ℕ))
     (held kept bytes rest : List ℕ) (requests : List (List ℕ)) (done : ℕ)
     → (through : IsThrough number old now unread left before out held done)
@@ -218,7 +221,7 @@ seam requests request done count = slice_get_read (requests ++ request ∷ []) (
     ∙ get_or-append_seam requests request [] request))
 
 -- memory ran out in a request
-broken_in_request : (number : ℕ) (old now new : TokenRecord) (unread left next before out after : Option (List ℕ))
+broken_in_request : (number : ℕ) (old now new : SpeakingRecord) (unread left next before out after : Option (List ℕ))
     (held kept bytes : List ℕ) (done : ℕ)
     → IsThrough number old now unread left before out held done
     → Consumes left next bytes → HandsOn out after held kept → IsRequest bytes → BreaksOff number bytes now new
@@ -240,7 +243,7 @@ broken_in_request number old now new unread left next before out after held kept
     )
 
 -- memory ran out in the rest
-broken_in_rest : (number : ℕ) (old now new : TokenRecord) (unread left next before out after : Option (List ℕ))
+broken_in_rest : (number : ℕ) (old now new : SpeakingRecord) (unread left next before out after : Option (List ℕ))
     (held kept bytes : List ℕ) (done : ℕ)
     → IsThrough number old now unread left before out held done
     → Consumes left next bytes → HandsOn out after held kept → IsUnfinished bytes → 0 < length bytes
@@ -261,7 +264,7 @@ broken_in_rest number old now new unread left next before out after held kept by
       refl,
     )
 
-breaks_at : (why : SessionFault) (number : ℕ) (old now new : TokenRecord)
+breaks_at : (why : SessionFault) (number : ℕ) (old now new : SpeakingRecord)
     (unread left next before out after : Option (List ℕ))
     (held kept : List ℕ) (done : ℕ)
     → IsThrough number old now unread left before out held done
@@ -291,7 +294,7 @@ breaks_at fault.OutOfMemory number old now new unread left next before out after
       ]
     ]
 
-pub breaks_held : (why : SessionFault) (number : ℕ) (old now new : TokenRecord)
+pub breaks_held : (why : SessionFault) (number : ℕ) (old now new : SpeakingRecord)
     (unread left next before out after : Option (List ℕ))
     (held kept : List ℕ) (done : ℕ)
     → IsThrough number old now unread left before out held done
@@ -306,7 +309,7 @@ breaks_held why number old now new unread left next before out after held kept d
 ]
 
 -- no more requests are served than can be counted
-pub ends_at_bound : (number : ℕ) (old now : TokenRecord) (unread left before out : Option (List ℕ)) (held : List ℕ)
+pub ends_at_bound : (number : ℕ) (old now : SpeakingRecord) (unread left before out : Option (List ℕ)) (held : List ℕ)
     (done : ℕ)
     → IsThrough number old now unread left before out held done
     → EndsHeld (Err (record { answered = done; fault = fault.Read })) number old now unread left before out held
@@ -332,7 +335,7 @@ ends_at_bound number old now unread left before out held done through = inr (rec
 
 -- The last replies are handed on, or not.
 
-pub serves : (served : Served) (number : ℕ) (old new : TokenRecord) (unread left before out after : Option (List ℕ))
+pub serves : (served : Served) (number : ℕ) (old new : SpeakingRecord) (unread left before out after : Option (List ℕ))
     (held : List ℕ)
     → IsHeld before out held (IsServed served number old new unread left) → Appends out after held
     → Serves served number old new unread left before after
@@ -359,12 +362,12 @@ answered_are_more : (how : Ending) (requests : List (List ℕ)) (rest : List ℕ
 answered_are_more ending.InputEnded requests rest = all_are_more requests rest
 answered_are_more ending.RequestTooLong requests rest = omega arith
 
-last_is : (how : Ending) (unread : Option (List ℕ)) (bytes rest : List ℕ) → EndsSo how unread bytes rest
-    → IsLast rest (last_line how)
-last_is ending.InputEnded unread bytes rest ends = inl refl
-last_is ending.RequestTooLong unread bytes rest ends = inr (ends.0, refl)
+last_is : (format : ReplyFormat) (how : Ending) (unread : Option (List ℕ)) (bytes rest : List ℕ)
+    → EndsSo how unread bytes rest → IsLast format rest (last_line format how)
+last_is format ending.InputEnded unread bytes rest ends = inl refl
+last_is format ending.RequestTooLong unread bytes rest ends = inr (ends.0, refl)
 
-pub served_in_vain : (served : Served) (number : ℕ) (old new : TokenRecord)
+pub served_in_vain : (served : Served) (number : ℕ) (old new : SpeakingRecord)
     (unread left before out after : Option (List ℕ))
     (held : List ℕ)
     → IsHeld before out held (IsServed served number old new unread left) → AppendsPart out after held
@@ -386,11 +389,11 @@ served_in_vain served number old new unread left before out after held ends writ
         answered = subst (λ all. AreAnswered number old all is.replies new)
             (sym (first_answered served.ending is.requests is.rest served.answered many)) is.answered;
         count = is.count;
-        line = last_line served.ending;
+        line = last_line new.format served.ending;
         breaks = (
           omega (arith, many, answered_are_more served.ending is.requests is.rest),
           inl refl,
-          last_is served.ending unread is.bytes is.rest is.ends,
+          last_is new.format served.ending unread is.bytes is.rest is.ends,
         );
         told = is.told;
       };
@@ -398,7 +401,7 @@ served_in_vain served number old new unread left before out after held ends writ
     }
 
 -- a session that broke before its last replies were handed on
-pub breaks : (why : SessionFault) (done number : ℕ) (old new : TokenRecord)
+pub breaks : (why : SessionFault) (done number : ℕ) (old new : SpeakingRecord)
     (unread left before out after : Option (List ℕ))
     (held : List ℕ)
     → (why ≡ fault.Write → ⊥)
@@ -419,7 +422,7 @@ breaks fault.OutOfMemory done number old new unread left before out after held o
 
 -- what breaks at a read or for want of memory may break at a write
 breaks_likewise : (why : SessionFault) (number : ℕ) (requests : List (List ℕ)) (rest : List ℕ) (done : ℕ)
-    (between new : TokenRecord)
+    (between new : SpeakingRecord)
     (line : List ℕ)
     → BreaksSo why number requests rest done between new line
     → BreaksSo fault.Write number requests rest done between new line
@@ -428,7 +431,7 @@ breaks_likewise fault.Read number requests rest done between new line so =
 breaks_likewise fault.Write number requests rest done between new line so = so
 breaks_likewise fault.OutOfMemory number requests rest done between new line so = (so.0, so.1, inl so.2)
 
-pub broken_in_vain : (why : SessionFault) (done number : ℕ) (old new : TokenRecord)
+pub broken_in_vain : (why : SessionFault) (done number : ℕ) (old new : SpeakingRecord)
     (unread left before out after : Option (List ℕ))
     (held : List ℕ)
     → IsHeld before out held (IsBroken (record { answered = done; fault = why }) number old new unread left)
@@ -455,7 +458,7 @@ broken_in_vain why done number old new unread left before out after held ends wr
     }
 
 -- a session that broke at a write, by what was written of its replies
-breaks_there : (error : SessionError) (number : ℕ) (old new : TokenRecord) (unread left before out : Option (List ℕ))
+breaks_there : (error : SessionError) (number : ℕ) (old new : SpeakingRecord) (unread left before out : Option (List ℕ))
     (held : List ℕ)
     → error.fault ≡ fault.Write
     → IsHeld before out held (IsBroken error number old new unread left)
@@ -471,7 +474,7 @@ breaks_there error number old new unread left before out held is ends = record {
   });
 }
 
-pub broken_writing : (error : SessionError) (number : ℕ) (old new : TokenRecord)
+pub broken_writing : (error : SessionError) (number : ℕ) (old new : SpeakingRecord)
     (unread left before out : Option (List ℕ))
     (held : List ℕ)
     → error.fault ≡ fault.Write
@@ -483,7 +486,7 @@ broken_writing error number old new unread left before out held is ends = elim e
 ]
 
 -- one that broke before, whose last replies were handed on, or not
-still_held : (error : SessionError) (number : ℕ) (old new : TokenRecord) (unread left before out : Option (List ℕ))
+still_held : (error : SessionError) (number : ℕ) (old new : SpeakingRecord) (unread left before out : Option (List ℕ))
     (held : List ℕ)
     → (error.fault ≡ fault.Write → ⊥)
     → EndsHeld (Err error) number old new unread left before out held
@@ -493,7 +496,7 @@ still_held error number old new unread left before out held other ends = elim en
   | inr behind ↦ behind
 ]
 
-pub broken : (error : SessionError) (number : ℕ) (old new : TokenRecord)
+pub broken : (error : SessionError) (number : ℕ) (old new : SpeakingRecord)
     (unread left before out after : Option (List ℕ))
     (held : List ℕ)
     → (error.fault ≡ fault.Write → ⊥)
@@ -503,7 +506,7 @@ broken error number old new unread left before out after held other ends written
     breaks error.fault error.answered number old new unread left before out after held other
     (still_held error number old new unread left before out held other ends) written
 
-pub broken_twice : (error : SessionError) (number : ℕ) (old new : TokenRecord)
+pub broken_twice : (error : SessionError) (number : ℕ) (old new : SpeakingRecord)
     (unread left before out after : Option (List ℕ))
     (held : List ℕ)
     → (error.fault ≡ fault.Write → ⊥)

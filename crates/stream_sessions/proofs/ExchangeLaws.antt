@@ -2,12 +2,12 @@
 use Rattle.std.proofs.Common.{◌≡◌, ℕ, true, false, List, [], ◌∷◌, ◌++◌, refl, sym, ap, ◌∙◌, subst, inl, inr, append-nil}
 use Rattle.std.proofs.Common.{append_assoc}
 use Rattle.std.specs.List.{concat}
-use Rattle.history.specs.Tokens.{TokenRecord}
 use Rattle.ssb_script.proofs.RequestLaws.{concat-push}
 use Rattle.stream_sessions.specs.Conversation.{AddsReply, IsConversation}
 use Rattle.stream_sessions.specs.Events.{Event, Looks, Takes, Passes}
 use Rattle.stream_sessions.specs.Exchange.{HasReplies, HasRepliesToLast, TellsReplies, passed}
 use Rattle.stream_sessions.specs.FaultLine.{too_long_line}
+use Rattle.stream_sessions.specs.Speaking.{SpeakingRecord}
 use Rattle.stream_sessions.proofs.SessionLaws.{answered_push, each_push}
 
 -- what is held goes on so behind what was passed on
@@ -18,7 +18,7 @@ behind given was text kept is = ap (λ t. given ++ t) is ∙ sym (append_assoc g
 moved : (given text held : List ℕ) → held ≡ [] → (given ++ text) ++ held ≡ given ++ text
 moved given text held none = ap (λ t. (given ++ text) ++ t) none ∙ append-nil (given ++ text)
 
-tells : (events : List Event) (number : ℕ) (old now : TokenRecord) (held : List ℕ)
+tells : (events : List Event) (number : ℕ) (old now : SpeakingRecord) (held : List ℕ)
     → IsConversation false number old events now held → HasReplies number old now events held
 tells [] number old now held c = record {
   requests = [];
@@ -65,7 +65,7 @@ not_ended : true ≡ false → ⊥
 not_ended e = cc
 
 -- what comes of the last bytes, behind what was passed on
-adds_behind : (number : ℕ) (bytes : List ℕ) (old new : TokenRecord) (given was kept whole : List ℕ)
+adds_behind : (number : ℕ) (bytes : List ℕ) (old new : SpeakingRecord) (given was kept whole : List ℕ)
     → given ++ was ≡ whole → AddsReply true number bytes old new was kept
     → AddsReply true number bytes old new whole (given ++ kept)
 adds_behind number bytes old new given was kept whole all adds = elim adds [
@@ -79,17 +79,19 @@ adds_behind number bytes old new given was kept whole all adds = elim adds [
       broken = nothing.broken;
       added = ap (λ t. given ++ t) nothing.added ∙ all;
     }))
-    | inr long ↦ inr (inr (long.0, behind given was too_long_line kept long.1 ∙ ap (λ t. t ++ too_long_line) all))
+    | inr long ↦
+        let line = too_long_line old.format in
+        inr (inr (long.0, behind given was line kept long.1 ∙ ap (λ t. t ++ line) all))
   ]
 ]
 
 -- nothing is taken back
-adds_moved : (number : ℕ) (bytes : List ℕ) (old new : TokenRecord) (whole one other : List ℕ)
+adds_moved : (number : ℕ) (bytes : List ℕ) (old new : SpeakingRecord) (whole one other : List ℕ)
     → other ≡ one → AddsReply true number bytes old new whole one → AddsReply true number bytes old new whole other
 adds_moved number bytes old new whole one other is adds =
     subst (AddsReply true number bytes old new whole) (sym is) adds
 
-tells_to_last : (events : List Event) (number : ℕ) (old now : TokenRecord) (held : List ℕ)
+tells_to_last : (events : List Event) (number : ℕ) (old now : SpeakingRecord) (held : List ℕ)
     → IsConversation true number old events now held → HasRepliesToLast number old now events held
 tells_to_last [] number old now held c = absurd (not_ended c.0)
 tells_to_last (Looks at_hand ∷ earlier) number old now held c = absurd (not_ended c.0)

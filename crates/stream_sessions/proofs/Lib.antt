@@ -1,8 +1,11 @@
 pub mod RequestLaws
 pub mod MomentLaws
+mod FormatLaws
+mod FaultTextLaws
 mod AnswerLaws
 mod StepLaws
 mod SessionLaws
+mod SpeakingLaws
 mod ConversationLaws
 mod EndLaws
 mod ExchangeLaws

@@ -150,7 +150,8 @@ same_count number old new (request ∷ requests) (reply ∷ replies) are =
     ap suc (same_count number are.0 new requests replies are.2)
 
 -- one request more
-served_more : (number : ℕ) (old mid new : TokenRecord) (requests : List RequestRecord) (replies : List Reply) (request : RequestRecord)
+pub served_more : (number : ℕ) (old mid new : TokenRecord) (requests : List RequestRecord) (replies : List Reply)
+    (request : RequestRecord)
     (reply : Reply)
     → AreServed number old requests replies mid → IsServed number mid request reply new
     → AreServed number old (requests ++ request ∷ []) (replies ++ reply ∷ []) new

@@ -5,17 +5,17 @@ use Rattle.std.proofs.Math.Seq.{take-length, take-append_seam}
 use Rattle.std.specs.List.{AllByRecursion, concat}
 use Rattle.std.specs.Io.KnownBytes.{Appends, Consumes}
 use Rattle.std.proofs.KnownBytes.{Consumes-nil, Consumes-trans}
-use Rattle.history.specs.Tokens.{TokenRecord}
 use Rattle.ssb_script.specs.Cutting.{IsRequest}
 use Rattle.ssb_script.proofs.RequestLaws.{concat-push}
 use Rattle.ssb_text.proofs.WrittenLaws.{appends_none, appends_both}
 use Rattle.stream_sessions.specs.Answers.{IsAnswered, AreAnswered}
 use Rattle.stream_sessions.specs.Session.{all_of}
+use Rattle.stream_sessions.specs.Speaking.{SpeakingRecord}
 use Rattle.stream_sessions.specs.Steps.{Steps}
 use Rattle.stream_sessions.specs.declared.step.Step.TheVariants as step
 
 -- all requests that were read were answered, and the last replies are held
-pub record IsThrough (number : ℕ) (old now : TokenRecord) (unread left before after : Option (List ℕ))
+pub record IsThrough (number : ℕ) (old now : SpeakingRecord) (unread left before after : Option (List ℕ))
     (held : List ℕ) (done : ℕ) : Type 0 where
   pub requests : List (List ℕ)
   pub each : AllByRecursion IsRequest requests
@@ -27,7 +27,7 @@ pub record IsThrough (number : ℕ) (old now : TokenRecord) (unread left before 
   pub written : Appends before after handed
   pub whole : concat replies ≡ handed ++ held
 
-pub through_none : (number : ℕ) (old : TokenRecord) (unread before : Option (List ℕ)) (held : List ℕ) → held ≡ []
+pub through_none : (number : ℕ) (old : SpeakingRecord) (unread before : Option (List ℕ)) (held : List ℕ) → held ≡ []
     → IsThrough number old old unread unread before before held 0
 through_none number old unread before held none = record {
   requests = [];
@@ -42,7 +42,7 @@ through_none number old unread before held none = record {
 }
 
 -- one request more
-pub answered_push : (number : ℕ) (old mid new : TokenRecord) (requests texts : List (List ℕ)) (request text : List ℕ)
+pub answered_push : (number : ℕ) (old mid new : SpeakingRecord) (requests texts : List (List ℕ)) (request text : List ℕ)
     → AreAnswered number old requests texts mid → IsAnswered number request mid new text
     → AreAnswered number old (requests ++ request ∷ []) (texts ++ text ∷ []) new
 answered_push number old mid new [] [] request text are next =
@@ -53,7 +53,7 @@ answered_push number old mid new (first ∷ requests) (one ∷ texts) request te
     (are.0, are.1, answered_push number are.0 mid new requests texts request text are.2 next)
 
 -- as many replies as requests
-pub as_many : (number : ℕ) (old new : TokenRecord) (requests texts : List (List ℕ))
+pub as_many : (number : ℕ) (old new : SpeakingRecord) (requests texts : List (List ℕ))
     → AreAnswered number old requests texts new
     → length texts ≡ length requests
 as_many number old new [] [] are = refl
@@ -75,7 +75,7 @@ told_on told handed held more kept text now whole parted added =
     ∙ ap (λ t. t ++ text) (sym (append_assoc handed more kept))
     ∙ append_assoc (handed ++ more) kept text ∙ ap (λ t. (handed ++ more) ++ t) (sym added)
 
-pub through_next : (number : ℕ) (old now new : TokenRecord) (unread left next before out after : Option (List ℕ))
+pub through_next : (number : ℕ) (old now new : SpeakingRecord) (unread left next before out after : Option (List ℕ))
     (held kept : List ℕ) (done : ℕ)
     → IsThrough number old now unread left before out held done
     → Steps step.Request number now new left next out after held kept

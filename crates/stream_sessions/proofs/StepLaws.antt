@@ -1,14 +1,14 @@
 -- One step of a session.
 use Rattle.std.proofs.Common.{◌≡◌, ℕ, Bool, true, false, List, ◌++◌, Option, Result, Ok, Err, refl, subst, sym, ◌∙◌}
 use Rattle.std.proofs.Common.{inl, inr}
-use Rattle.std.specs.Prelude.{IfErr, IfOk, MatchResult}
+use Rattle.std.specs.Prelude.{MatchResult}
 use Rattle.std.specs.Io.KnownBytes.{Consumes}
-use Rattle.history.specs.Tokens.{TokenRecord}
 use Rattle.ssb_script.specs.NextRequest.{IsRequestFault}
 use Rattle.ssb_script.specs.declared.request_error.RequestError.{RequestError}
 use Rattle.ssb_script.specs.declared.request_error.RequestError.TheVariants as error
 use Rattle.stream_sessions.specs.FaultLine.{too_long_line}
 use Rattle.stream_sessions.specs.Session.{most_bytes}
+use Rattle.stream_sessions.specs.Speaking.{SpeakingRecord}
 use Rattle.stream_sessions.specs.Steps.{AddsNothing, HandsOn, IsText, Steps, Fails}
 use Rattle.stream_sessions.specs.declared.outcome.SessionFault.{SessionFault}
 use Rattle.stream_sessions.specs.declared.outcome.SessionFault.TheVariants as fault
@@ -16,7 +16,7 @@ use Rattle.stream_sessions.specs.declared.step.Step.{Step}
 use Rattle.stream_sessions.specs.declared.step.Step.TheVariants as step
 
 -- memory ran out for the answer to a text, and the replies before it are held
-pub runs_out : (number : ℕ) (old new : TokenRecord) (unread left before after : Option (List ℕ))
+pub runs_out : (number : ℕ) (old new : SpeakingRecord) (unread left before after : Option (List ℕ))
     (held kept now bytes read : List ℕ)
     → HandsOn before after held kept → Consumes unread left bytes → IsText unread bytes → read ≡ bytes
     → AddsNothing number read old new kept now
@@ -29,7 +29,7 @@ runs_out number old new unread left before after held kept now bytes read hands 
 })
 
 -- the same of the step and the number as they are known
-pub steps_so : (this is : Step) (one number : ℕ) (old new : TokenRecord) (unread left before after : Option (List ℕ))
+pub steps_so : (this is : Step) (one number : ℕ) (old new : SpeakingRecord) (unread left before after : Option (List ℕ))
     (held kept : List ℕ)
     → this ≡ is → one ≡ number → Steps this one old new unread left before after held kept
     → Steps is number old new unread left before after held kept
@@ -37,7 +37,7 @@ steps_so this is one number old new unread left before after held kept same numb
     subst (λ n. Steps is n old new unread left before after held kept) numbered
     (subst (λ s. Steps s one old new unread left before after held kept) same steps)
 
-pub fails_so : (why : SessionFault) (one number : ℕ) (old new : TokenRecord)
+pub fails_so : (why : SessionFault) (one number : ℕ) (old new : SpeakingRecord)
     (unread left before after : Option (List ℕ))
     (held kept : List ℕ)
     → one ≡ number → Fails why one old new unread left before after held kept
@@ -46,12 +46,12 @@ fails_so why one number old new unread left before after held kept numbered fail
     subst (λ n. Fails why n old new unread left before after held kept) numbered fails
 
 -- the next request is too long, and that is told; or memory ran out for it, and the replies before it are held
-pub too_long_told : (result : Result Step SessionFault) (found : RequestError) (number : ℕ) (old : TokenRecord)
+pub too_long_told : (result : Result Step SessionFault) (found : RequestError) (number : ℕ) (old : SpeakingRecord)
     (unread left before after : Option (List ℕ))
     (held kept now bytes : List ℕ)
     → HandsOn before after held kept → Consumes unread left bytes → found ≡ error.TooLong
     → IsRequestFault found most_bytes unread bytes
-    → MatchResult result (λ is. (is ≡ step.TooLong) × (now ≡ kept ++ too_long_line))
+    → MatchResult result (λ is. (is ≡ step.TooLong) × (now ≡ kept ++ too_long_line old.format))
     (λ why. (why ≡ fault.OutOfMemory) × (now ≡ kept))
     → MatchResult result (λ is. Steps is number old old unread left before after held now)
     (λ why. Fails why number old old unread left before after held now)
@@ -80,16 +80,6 @@ pub where_known : (P : Option (List ℕ) → Option (List ℕ) → Type 0) (unre
     → now ≡ unread → after ≡ written → P now written → P unread after
 where_known P unread now written after same kept holds =
     subst (λ (u : Option (List ℕ)). P u after) same (subst (P now) (sym kept) holds)
-
--- what holds at success and at each failure, of each alone
-pub if_ok : {T E : Type 0} (result : Result T E) (P : T → Type 0) (Q : E → Type 0) → MatchResult result P Q → IfOk result P
-if_ok (Ok value) P Q holds = holds
-if_ok (Err error) P Q holds = tt
-
-pub if_err : {T E : Type 0} (result : Result T E) (P : T → Type 0) (Q : E → Type 0) → MatchResult result P Q
-    → IfErr result Q
-if_err (Ok value) P Q holds = tt
-if_err (Err error) P Q holds = holds
 
 no_is : false ≡ true → ⊥
 no_is e = cc

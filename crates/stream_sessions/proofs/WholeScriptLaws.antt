@@ -4,8 +4,9 @@ use Rattle.std.specs.List.{AllZip, concat, flat_map}
 use Rattle.std.proofs.lemmas.Grind.{flat_map-append}
 use Rattle.history.specs.Tokens.{TokenRecord}
 use Rattle.ssb_script.proofs.ScriptLaws.{script_of_requests_of}
-use Rattle.ssb_report.specs.Replies.{Reply, reply_text}
-use Rattle.ssb_report.specs.Report.{report_of}
+use Rattle.ssb_formats.specs.ReplyTexts.{replies_shown, reply_shown}
+use Rattle.ssb_formats.specs.declared.reply_format.ReplyFormat.{ReplyFormat}
+use Rattle.ssb_report.specs.Replies.{Reply}
 use Rattle.ssb_script.specs.Requests.{RequestRecord}
 use Rattle.ssb_script.specs.Scripts.{SpellsScript, most_records}
 use Rattle.ssb_script.specs.declared.error.ScriptError.{ScriptError}
@@ -14,13 +15,16 @@ use Rattle.ssb_script.proofs.OneReadingLaws.{asks_nothing, one_reading}
 use Rattle.stream_sessions.specs.Served.{AreServed}
 use Rattle.stream_sessions.specs.Answers.{AreAnswered, HasFault, IsAnswered}
 use Rattle.stream_sessions.specs.Session.{all_of}
+use Rattle.stream_sessions.specs.Speaking.{SpeakingRecord}
 use Rattle.stream_sessions.specs.WholeScripts.{HasRepliesOfScript}
+use Rattle.stream_sessions.proofs.FormatLaws.{spelled_names_none}
 
--- a client was served all this, and this is the report
-record IsToldAll (number : ℕ) (old new : TokenRecord) (wanted : List RequestRecord) (text : List ℕ) : Type 0 where
+-- a client was served all this, these are the replies in its format, and the format stays
+record IsToldAll (number : ℕ) (old new : SpeakingRecord) (wanted : List RequestRecord) (text : List ℕ) : Type 0 where
   replies : List Reply
-  served : AreServed number old wanted replies new
-  told : text ≡ report_of replies
+  served : AreServed number old.token wanted replies new.token
+  told : text ≡ replies_shown old.format replies
+  stays : new.format ≡ old.format
 
 -- what is served in turn is served as one
 served_both : (number : ℕ) (old mid new : TokenRecord) (first more : List RequestRecord) (one two : List Reply)
@@ -32,17 +36,20 @@ served_both number old mid new (request ∷ first) more [] two a b = absurd a
 served_both number old mid new (request ∷ first) more (reply ∷ one) two a b =
     (a.0, a.1, served_both number a.0 mid new first more one two a.2 b)
 
-told_both : (number : ℕ) (old mid new : TokenRecord) (first more : List RequestRecord) (text texts : List ℕ)
+told_both : (number : ℕ) (old mid new : SpeakingRecord) (first more : List RequestRecord) (text texts : List ℕ)
     → IsToldAll number old mid first text → IsToldAll number mid new more texts
     → IsToldAll number old new (first ++ more) (text ++ texts)
 told_both number old mid new first more text texts a b = record {
   replies = a.replies ++ b.replies;
-  served = served_both number old mid new first more a.replies b.replies a.served b.served;
+  served = served_both number old.token mid.token new.token first more a.replies b.replies a.served b.served;
   told = ap (λ t. t ++ texts) a.told
-      ∙ (ap (λ t. report_of a.replies ++ t) b.told ∙ sym (flat_map-append reply_text a.replies b.replies));
+      ∙ (ap (λ t. replies_shown old.format a.replies ++ t) b.told
+      ∙ (ap (λ (format : ReplyFormat). replies_shown old.format a.replies ++ replies_shown format b.replies) a.stays
+      ∙ sym (flat_map-append (reply_shown old.format) a.replies b.replies)));
+  stays = b.stays ∙ a.stays;
 }
 
--- a request that spells a script is not refused, and is told what that asks
+-- a request that spells a script is not refused, names no format, and is told what that asks
 not_refused : (request : List ℕ) (asked : List RequestRecord) (fault : ScriptError)
     → SpellsScript most_records request asked → HasFault request fault → ⊥
 not_refused request asked fault spells (inl first) =
@@ -50,23 +57,32 @@ not_refused request asked fault spells (inl first) =
 not_refused request asked fault spells (inr open_end) =
     (spelled_has_no_fault request most_records asked spells).1 fault open_end
 
-request_told : (number : ℕ) (request : List ℕ) (old new : TokenRecord) (text : List ℕ) (asked : List RequestRecord)
+request_told : (number : ℕ) (request : List ℕ) (old new : SpeakingRecord) (text : List ℕ)
+    (asked : List RequestRecord)
     → SpellsScript most_records request asked → IsAnswered number request old new text
     → IsToldAll number old new asked text
 request_told number request old new text asked spells (inl reported) = record {
   replies = reported.replies;
-  served = subst (λ all. AreServed number old all reported.replies new)
+  served = subst (λ all. AreServed number old.token all reported.replies new.token)
       (one_reading request most_records most_records reported.asked asked reported.spelled spells) reported.served;
   told = reported.report;
+  stays = reported.stays;
 }
-request_told number request old new text asked spells (inr refused) =
+request_told number request old new text asked spells (inr (inl refused)) =
     absurd (not_refused request asked refused.fault spells refused.has)
+request_told number request old new text asked spells (inr (inr given)) =
+    absurd (spelled_names_none most_records request asked spells new.format given.names)
 
-requests_told : (number : ℕ) (old new : TokenRecord) (requests texts : List (List ℕ))
+requests_told : (number : ℕ) (old new : SpeakingRecord) (requests texts : List (List ℕ))
     (each : List (List RequestRecord))
     → AllZip (SpellsScript most_records) requests each → AreAnswered number old requests texts new
     → IsToldAll number old new (flat_map (λ r. r) each) (concat texts)
-requests_told number old new [] [] [] spells are = record { replies = []; served = are; told = refl }
+requests_told number old new [] [] [] spells are = record {
+  replies = [];
+  served = ap (λ (client : SpeakingRecord). client.token) are;
+  told = refl;
+  stays = ap (λ (client : SpeakingRecord). client.format) are;
+}
 requests_told number old new [] (text ∷ texts) each spells are = absurd are
 requests_told number old new [] [] (asked ∷ each) spells are = absurd spells
 requests_told number old new (request ∷ requests) texts [] spells are = absurd spells
@@ -113,5 +129,9 @@ replies_of_script text number old new requests texts rest wanted cut none marks 
     let parts = script_of_requests_of most_records text requests rest wanted cut none marks spells in
     let all = all_spell requests parts.each rest parts.last parts.spelled parts.spelled_last in
     let told = requests_told number old new (all_of requests rest) texts all.parts all.each are in
-    let same : flat_map (λ r. r) all.parts ≡ wanted = all.joined ∙ sym parts.joined in
-    (told.replies, subst (λ all. AreServed number old all told.replies new) same told.served, told.told)
+    let same : flat_map (λ r. r) all.parts ≡ wanted = all.joined ∙ sym parts.joined in (
+      told.replies,
+      subst (λ all. AreServed number old.token all told.replies new.token) same told.served,
+      told.told,
+      told.stays,
+    )

@@ -1,14 +1,15 @@
 -- What a request of a live session is answered.
 use Rattle.std.specs.Prelude.{◌≡◌, ℕ, List, [], ◌∷◌, ◌++◌, ◌⊎◌, Bool, true, false}
-use Rattle.history.specs.Tokens.{TokenRecord}
+use Rattle.ssb_formats.specs.ReplyTexts.{format_shown, replies_shown}
 use Rattle.ssb_report.specs.Replies.{Reply}
-use Rattle.ssb_report.specs.Report.{report_of}
 use Rattle.ssb_script.specs.Requests.{RequestRecord}
 use Rattle.ssb_script.specs.Scripts.{SpellsScript, IsFirstFault, EndsOpen, most_records}
 use Rattle.ssb_script.specs.declared.error.ScriptError.{ScriptError}
 use Rattle.ssb_script.specs.declared.error.ScriptError.TheVariants as script
-use Rattle.stream_sessions.specs.Served.{AreServed}
 use Rattle.stream_sessions.specs.FaultLine.{fault_line}
+use Rattle.stream_sessions.specs.FormatRequest.{NamesFormat, NamesNone}
+use Rattle.stream_sessions.specs.Served.{AreServed}
+use Rattle.stream_sessions.specs.Speaking.{SpeakingRecord}
 
 -- whether a fault is one of a text, and not of what kept it from being read
 abbrev pub is_of_text : ScriptError → Bool
@@ -20,41 +21,52 @@ is_of_text _ = true
 abbrev pub HasFault : List ℕ → ScriptError → Type 0
 HasFault text fault = IsFirstFault most_records text fault ⊎ EndsOpen most_records text fault
 
--- the client was served all that a request asks, as the loop of scripts serves it, and this is the report
-pub record IsReported (number : ℕ) (request : List ℕ) (old new : TokenRecord) (text : List ℕ) : Type 0 where
+-- the client was served all that a request asks, as the loop of scripts serves it, and these are the replies in its
+-- format
+pub record IsReported (number : ℕ) (request : List ℕ) (old new : SpeakingRecord) (text : List ℕ) : Type 0 where
   pub asked : List RequestRecord
   pub spelled : SpellsScript most_records request asked
   pub replies : List Reply
-  pub served : AreServed number old asked replies new
-  pub report : text ≡ report_of replies
+  pub served : AreServed number old.token asked replies new.token
+  pub report : text ≡ replies_shown old.format replies
+  pub stays : new.format ≡ old.format
 
--- a request has a fault, and this is its line; nothing was done
-pub record IsRefused (request : List ℕ) (old new : TokenRecord) (text : List ℕ) : Type 0 where
+-- a request has a fault, names no format, and is told that in the client's format; nothing was done
+pub record IsRefused (request : List ℕ) (old new : SpeakingRecord) (text : List ℕ) : Type 0 where
   pub fault : ScriptError
   pub has : HasFault request fault
-  pub line : text ≡ fault_line fault
+  pub other : NamesNone request
+  pub line : text ≡ fault_line old.format fault
   pub unchanged : new ≡ old
 
+-- a request names a format, which is the client's from here on, and this is told in it; nothing else was done
+pub record IsGivenFormat (request : List ℕ) (old new : SpeakingRecord) (text : List ℕ) : Type 0 where
+  pub names : NamesFormat request new.format
+  pub told : text ≡ format_shown new.format
+  pub unchanged : new.token ≡ old.token
+
 -- a client's request was answered by this text
-abbrev pub IsAnswered : ℕ → List ℕ → TokenRecord → TokenRecord → List ℕ → Type 0
-IsAnswered number request old new text = IsReported number request old new text ⊎ IsRefused request old new text
+abbrev pub IsAnswered : ℕ → List ℕ → SpeakingRecord → SpeakingRecord → List ℕ → Type 0
+IsAnswered number request old new text =
+    IsReported number request old new text ⊎ (IsRefused request old new text ⊎ IsGivenFormat request old new text)
 
 -- requests were answered by these texts, each of which finds the client as the one before it left it
-abbrev pub AreAnswered : ℕ → TokenRecord → List (List ℕ) → List (List ℕ) → TokenRecord → Type 0
+abbrev pub AreAnswered : ℕ → SpeakingRecord → List (List ℕ) → List (List ℕ) → SpeakingRecord → Type 0
 AreAnswered number old [] [] new = new ≡ old
 AreAnswered number old (request ∷ requests) (text ∷ texts) new =
-    (between : TokenRecord) × IsAnswered number request old between text
+    (between : SpeakingRecord) × IsAnswered number request old between text
     × AreAnswered number between requests texts new
 AreAnswered number old [] (text ∷ texts) new = ⊥
 AreAnswered number old (request ∷ requests) [] new = ⊥
 
 -- a request was not answered for want of memory: the client was served none of it, or the first of what it asks
-pub record IsServedInPart (number : ℕ) (request : List ℕ) (old new : TokenRecord) : Type 0 where
+pub record IsServedInPart (number : ℕ) (request : List ℕ) (old new : SpeakingRecord) : Type 0 where
   pub asked : List RequestRecord
   pub left : List RequestRecord
   pub spelled : SpellsScript most_records request (asked ++ left)
   pub replies : List Reply
-  pub served : AreServed number old asked replies new
+  pub served : AreServed number old.token asked replies new.token
+  pub stays : new.format ≡ old.format
 
-abbrev pub BreaksOff : ℕ → List ℕ → TokenRecord → TokenRecord → Type 0
+abbrev pub BreaksOff : ℕ → List ℕ → SpeakingRecord → SpeakingRecord → Type 0
 BreaksOff number request old new = (new ≡ old) ⊎ IsServedInPart number request old new

@@ -1,11 +1,11 @@
 -- What a client wrote and what it was told, over a session's wire.
 use Rattle.std.specs.Prelude.{◌≡◌, ℕ, true, false, List, [], ◌∷◌, ◌++◌}
 use Rattle.std.specs.List.{AllByRecursion, concat}
-use Rattle.history.specs.Tokens.{TokenRecord}
 use Rattle.ssb_script.specs.Cutting.{IsRequest}
 use Rattle.stream_sessions.specs.Answers.{AreAnswered}
 use Rattle.stream_sessions.specs.Conversation.{AddsReply, IsConversation}
 use Rattle.stream_sessions.specs.Events.{Event, Looks, Takes, Passes}
+use Rattle.stream_sessions.specs.Speaking.{SpeakingRecord}
 
 -- all bytes that were taken
 abbrev pub taken : List Event → List ℕ
@@ -22,7 +22,7 @@ passed (Takes bytes ∷ earlier) = passed earlier
 passed (Passes text covered ∷ earlier) = passed earlier ++ text
 
 -- what was taken is requests, each of which was answered; what was passed on, and then what is held, is their replies
-pub record HasReplies (number : ℕ) (old now : TokenRecord) (events : List Event) (held : List ℕ) : Type 0 where
+pub record HasReplies (number : ℕ) (old now : SpeakingRecord) (events : List Event) (held : List ℕ) : Type 0 where
   pub requests : List (List ℕ)
   pub each : AllByRecursion IsRequest requests
   pub took : taken events ≡ concat requests
@@ -31,19 +31,19 @@ pub record HasReplies (number : ℕ) (old now : TokenRecord) (events : List Even
   pub told : passed events ++ held ≡ concat replies
 
 -- the same, and then what comes of the last bytes that were taken
-pub record HasRepliesToLast (number : ℕ) (old now : TokenRecord) (events : List Event) (held : List ℕ) : Type 0 where
+pub record HasRepliesToLast (number : ℕ) (old now : SpeakingRecord) (events : List Event) (held : List ℕ) : Type 0 where
   pub requests : List (List ℕ)
   pub each : AllByRecursion IsRequest requests
   pub last : List ℕ
   pub took : taken events ≡ concat requests ++ last
   pub replies : List (List ℕ)
-  pub between : TokenRecord
+  pub between : SpeakingRecord
   pub answered : AreAnswered number old requests replies between
   pub told : AddsReply true number last between now (concat replies) (passed events ++ held)
 
 -- in a conversation all requests that were taken were answered, in order, and nothing else was told
 abbrev pub TellsReplies : List Event → Type 0
 TellsReplies events =
-    (number : ℕ) (old now : TokenRecord) (held : List ℕ)
+    (number : ℕ) (old now : SpeakingRecord) (held : List ℕ)
     → (IsConversation false number old events now held → HasReplies number old now events held)
     × (IsConversation true number old events now held → HasRepliesToLast number old now events held)

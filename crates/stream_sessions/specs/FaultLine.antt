@@ -1,4 +1,4 @@
--- The line that tells a request's fault.
+-- What is told of a request's fault.
 use Rattle.std.specs.Prelude.{ℕ, List, [], ◌∷◌, ◌++◌, codes, decimal}
 use Rattle.std.specs.List.{concat}
 use Rattle.ssb_schema.specs.Columns.{column_name, table_name}
@@ -6,7 +6,8 @@ use Rattle.ssb_schema.specs.declared.fault.SchemaFault.{SchemaFault}
 use Rattle.ssb_schema.specs.declared.fault.SchemaFault.TheVariants as schema
 use Rattle.ssb_script.specs.declared.error.ScriptError.{ScriptError}
 use Rattle.ssb_script.specs.declared.error.ScriptError.TheVariants as script
-use Rattle.ssb_text.specs.Numbers.{line_feed}
+use Rattle.ssb_formats.specs.ReplyTexts.{fault_shown}
+use Rattle.ssb_formats.specs.declared.reply_format.ReplyFormat.{ReplyFormat}
 
 -- the number, the name and the values of a fault of the schema
 abbrev pub schema_text : SchemaFault → List ℕ
@@ -37,13 +38,10 @@ fault_text script.NoAnswer = codes "77 NoAnswer"
 fault_text (script.TooManyQuestions record_number) = concat (codes "78 TooManyQuestions " ∷ decimal record_number ∷ [])
 fault_text script.OutOfMemory = codes "out of memory"
 
--- the line of a fault
-abbrev pub line_of_fault : List ℕ → List ℕ
-line_of_fault text = codes "fault: " ++ text ++ line_feed
+-- what is told of a fault
+abbrev pub fault_line : ReplyFormat → ScriptError → List ℕ
+fault_line format fault = fault_shown format (fault_text fault)
 
-abbrev pub fault_line : ScriptError → List ℕ
-fault_line fault = line_of_fault (fault_text fault)
-
--- the line of a request that is too long
-abbrev pub too_long_line : List ℕ
-too_long_line = line_of_fault (codes "76 RequestTooLong")
+-- what is told of a request that is too long
+abbrev pub too_long_line : ReplyFormat → List ℕ
+too_long_line format = fault_shown format (codes "76 RequestTooLong")

@@ -4,6 +4,9 @@ pub mod Keeping
 pub mod OneRequest
 pub mod Moment
 pub mod FaultLine
+pub mod Speaking
+pub mod FormatRequest
+pub mod Replying
 pub mod Events
 pub mod Answers
 pub mod Session

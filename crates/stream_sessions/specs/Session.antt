@@ -2,12 +2,13 @@
 use Rattle.std.specs.Prelude.{◌≡◌, ◌≤◌, ℕ, ◌+◌, List, [], ◌∷◌, ◌++◌, ◌⊎◌, length, take, Option, Some, slice_get}
 use Rattle.std.specs.List.{concat}
 use Rattle.std.specs.Io.KnownBytes.{Appends, Consumes}
-use Rattle.history.specs.Tokens.{TokenRecord}
 use Rattle.ssb_script.specs.NextRequest.{IsAllOf, IsLessThan}
 use Rattle.ssb_script.specs.Cutting.{IsCutInto}
+use Rattle.ssb_formats.specs.declared.reply_format.ReplyFormat.{ReplyFormat}
 use Rattle.ssb_text.specs.Written.{AppendsPart}
 use Rattle.stream_sessions.specs.Answers.{AreAnswered, BreaksOff}
 use Rattle.stream_sessions.specs.FaultLine.{too_long_line}
+use Rattle.stream_sessions.specs.Speaking.{SpeakingRecord}
 use Rattle.stream_sessions.specs.declared.outcome.Ending.{Ending}
 use Rattle.stream_sessions.specs.declared.outcome.Ending.TheVariants as ending
 use Rattle.stream_sessions.specs.declared.outcome.Served.{Served}
@@ -29,10 +30,10 @@ abbrev pub answered_at : Ending → List (List ℕ) → List ℕ → List (List 
 answered_at ending.InputEnded requests rest = all_of requests rest
 answered_at ending.RequestTooLong requests rest = requests
 
--- what is written behind the replies
-abbrev pub last_line : Ending → List ℕ
-last_line ending.InputEnded = []
-last_line ending.RequestTooLong = too_long_line
+-- what is written behind the replies, in the client's format
+abbrev pub last_line : ReplyFormat → Ending → List ℕ
+last_line format ending.InputEnded = []
+last_line format ending.RequestTooLong = too_long_line format
 
 -- when a session ends so: all that the client wrote was read; or the next request has more bytes than it may have
 abbrev pub EndsSo : Ending → Option (List ℕ) → List ℕ → List ℕ → Type 0
@@ -40,7 +41,7 @@ EndsSo ending.InputEnded unread bytes rest = IsAllOf unread bytes
 EndsSo ending.RequestTooLong unread bytes rest = (length rest ≡ most_bytes) × IsLessThan unread bytes
 
 -- a session was served to its end: the bytes that it read were answered request by request, and this is what it told
-pub record IsServed (served : Served) (number : ℕ) (old new : TokenRecord) (unread left : Option (List ℕ))
+pub record IsServed (served : Served) (number : ℕ) (old new : SpeakingRecord) (unread left : Option (List ℕ))
     (text : List ℕ) : Type 0 where
   pub bytes : List ℕ
   pub read : Consumes unread left bytes
@@ -51,44 +52,45 @@ pub record IsServed (served : Served) (number : ℕ) (old new : TokenRecord) (un
   pub replies : List (List ℕ)
   pub answered : AreAnswered number old (answered_at served.ending requests rest) replies new
   pub count : length replies ≡ served.answered
-  pub told : text ≡ concat replies ++ last_line served.ending
+  pub told : text ≡ concat replies ++ last_line new.format served.ending
 
 -- the same, and it was written
-pub record Serves (served : Served) (number : ℕ) (old new : TokenRecord) (unread left before after : Option (List ℕ)) :
-    Type 0 where
+pub record Serves (served : Served) (number : ℕ) (old new : SpeakingRecord)
+    (unread left before after : Option (List ℕ)) : Type 0 where
   pub text : List ℕ
   pub is : IsServed served number old new unread left text
   pub written : Appends before after text
 
 -- where the client is when the next text is not answered: as it was, or in the midst of it
-abbrev pub StopsAt : ℕ → List (List ℕ) → ℕ → TokenRecord → TokenRecord → Type 0
+abbrev pub StopsAt : ℕ → List (List ℕ) → ℕ → SpeakingRecord → SpeakingRecord → Type 0
 StopsAt number texts done between new =
     (new ≡ between)
     ⊎ ((request : List ℕ) × (slice_get texts done ≡ Some request) × BreaksOff number request between new)
 
 -- what is told behind the replies: nothing; or, where the next request is too long, that
-abbrev pub IsLast : List ℕ → List ℕ → Type 0
-IsLast rest line = (line ≡ []) ⊎ ((length rest ≡ most_bytes) × (line ≡ too_long_line))
+abbrev pub IsLast : ReplyFormat → List ℕ → List ℕ → Type 0
+IsLast format rest line = (line ≡ []) ⊎ ((length rest ≡ most_bytes) × (line ≡ too_long_line format))
 
 -- where a session breaks that answered so many: at a read, with all requests answered that were read; or else with
 -- all of them, or all but the last
-abbrev pub BreaksSo : SessionFault → ℕ → List (List ℕ) → List ℕ → ℕ → TokenRecord → TokenRecord → List ℕ → Type 0
+abbrev pub BreaksSo : SessionFault → ℕ → List (List ℕ) → List ℕ → ℕ → SpeakingRecord → SpeakingRecord → List ℕ → Type 0
 BreaksSo fault.Read number requests rest done between new line =
     (done ≡ length requests) × (new ≡ between) × (line ≡ [])
 BreaksSo fault.Write number requests rest done between new line =
-    (length requests ≤ done + 1) × StopsAt number (all_of requests rest) done between new × IsLast rest line
+    (length requests ≤ done + 1) × StopsAt number (all_of requests rest) done between new
+    × IsLast new.format rest line
 BreaksSo fault.OutOfMemory number requests rest done between new line =
     (length requests ≤ done + 1) × StopsAt number (all_of requests rest) done between new × (line ≡ [])
 
 -- a session broke: of the bytes that it read, the first requests were answered, and this is what it told
-pub record IsBroken (error : SessionError) (number : ℕ) (old new : TokenRecord) (unread left : Option (List ℕ))
+pub record IsBroken (error : SessionError) (number : ℕ) (old new : SpeakingRecord) (unread left : Option (List ℕ))
     (text : List ℕ) : Type 0 where
   pub bytes : List ℕ
   pub read : Consumes unread left bytes
   pub requests : List (List ℕ)
   pub rest : List ℕ
   pub cut : IsCutInto bytes requests rest
-  pub between : TokenRecord
+  pub between : SpeakingRecord
   pub replies : List (List ℕ)
   pub answered : AreAnswered number old (take error.answered (all_of requests rest)) replies between
   pub count : length replies ≡ error.answered
@@ -102,7 +104,7 @@ IsWritten fault.Read before after text = Appends before after text
 IsWritten fault.Write before after text = AppendsPart before after text
 IsWritten fault.OutOfMemory before after text = Appends before after text
 
-pub record Breaks (error : SessionError) (number : ℕ) (old new : TokenRecord)
+pub record Breaks (error : SessionError) (number : ℕ) (old new : SpeakingRecord)
     (unread left before after : Option (List ℕ)) : Type 0 where
   pub text : List ℕ
   pub is : IsBroken error number old new unread left text

@@ -6,47 +6,82 @@ ghost use Rattle.history.specs.Tokens.{IsSound, TokenRecord};
 ghost use Rattle.history.specs.Members.{number_of};
 ghost use Rattle.stream_sessions.specs.OneRequest.{AreAlike};
 ghost use Rattle.stream_sessions.specs.Steps.{AddsAnswer, AddsNothing};
-ghost use Rattle.stream_sessions.specs.Answers.{is_of_text};
+ghost use Rattle.stream_sessions.specs.Answers.{HasFault, is_of_text};
+ghost use Rattle.stream_sessions.specs.FormatRequest.{NamesFormat, NamesNone};
+ghost use Rattle.stream_sessions.specs.Replying.{LacksReply, RepliesTo};
+ghost use Rattle.stream_sessions.specs.Speaking.{speaking};
 ghost use Rattle.ssb_script.specs.Requests.{request_of, requests_of};
 ghost use Rattle.ssb_script.specs.Scripts.{IsScriptFault, SpellsScript, most_records};
 
 use crate::fault_line::write_fault_line;
-use crate::meter::NoMeter;
-use crate::requests::serve_requests;
+use crate::format_request::named_format;
+use crate::reply::reply_to;
 use crate::service::Service;
 use row_store::Follower;
-use ssb_audit::Told;
 use ssb_clients::Client;
+use ssb_formats::{ReplyFormat, write_format};
 use ssb_script::{MOST_RECORDS, Request, Script, ScriptError, read_script};
-use std::alloc::AllocError;
+use std::alloc::{AllocError, Global};
 use std::sync::Wait;
 
-// Serves what a request asks, and adds the report; none where memory runs out.
+// Serves one thing that a request asks, and adds the reply. Where memory runs out, a part of it may have been added.
+fn add_reply<W: Follower + Drop, R: Wait, K>(
+    service: &Service<'_, W, R, K>,
+    client: &mut Client<W>,
+    format: ReplyFormat,
+    request: Request,
+    replies: &mut Vec<u8>,
+) -> Result<(), AllocError>
+    requires table { client.old.table ≡ service.now.server.now }
+    requires quiet { is_some client.old.asked ≡ false }
+    ensures added { MatchResult result
+        (λ _. RepliesTo (number_of client.old.who) format client.old client.new (request_of request) replies.old.items
+        replies.new.items)
+        (λ _. LacksReply (number_of client.old.who) client.old client.new (request_of request) replies.old.items
+        replies.new.items) }
+    ensures same { AreAlike client.old client.new }
+    ensures sound { IsSound client.old → IsSound client.new }
+{
+    let number = client.number();
+    let Ok(reply) = reply_to(service, client, number, request) else {
+        return Err(AllocError);
+    };
+    match reply.write_as(service.alloc, replies, format) {
+        Ok(()) => Ok(()),
+        Err(_) => Err(AllocError),
+    }
+}
+
+// Serves what a request asks, and adds the replies; none where memory runs out.
 fn report<W: Follower + Drop, R: Wait, K>(
     service: &Service<'_, W, R, K>,
     client: &mut Client<W>,
+    format: ReplyFormat,
     script: Script,
     replies: &mut Vec<u8>,
 ) -> Result<(), AllocError>
     requires table { client.old.table ≡ service.now.server.now }
     requires quiet { is_some client.old.asked ≡ false }
     ensures answered { (request : List ℕ) → SpellsScript most_records request (requests_of script) → MatchResult result
-        (λ _. AddsAnswer (number_of client.old.who) request client.old client.new replies.old.items replies.new.items)
-        (λ _. AddsNothing (number_of client.old.who) request client.old client.new replies.old.items
-        replies.new.items) }
+        (λ _. AddsAnswer (number_of client.old.who) request (speaking client.old format) (speaking client.new format)
+        replies.old.items replies.new.items)
+        (λ _. AddsNothing (number_of client.old.who) request (speaking client.old format) (speaking client.new format)
+        replies.old.items replies.new.items) }
     ensures same { AreAlike client.old client.new }
     ensures sound { IsSound client.old → IsSound client.new }
 {
     let before = replies.len();
-    // What the client is told is not kept: memory does not grow with a session.
-    let mut told: Option<Vec<Told>> = None;
-    match serve_requests(service, client, script, replies, &mut told, &mut NoMeter) {
-        Ok(()) => Ok(()),
-        Err(_) => {
-            replies.truncate(before);
-            Err(AllocError)
+    let mut requests = script.requests.into_iter();
+    while let Some(request) = requests.next() {
+        match add_reply(service, client, format, request, replies) {
+            Ok(()) => {}
+            Err(_) => {
+                replies.truncate(before);
+                return Err(AllocError);
+            }
         }
     }
+    Ok(())
 }
 
 // Whether a fault is one of the request itself. A request is read from memory, so that want of it alone can keep it from
@@ -60,18 +95,22 @@ fn is_of_text(fault: ScriptError) -> bool
     }
 }
 
-// Adds the line of a request's fault; none where memory runs out, or ran out before.
-fn refuse(fault: ScriptError, replies: &mut Vec<u8>) -> Result<(), AllocError>
-    ensures { (number : ℕ) (request : List ℕ) (client : TokenRecord) → IsScriptFault most_records request fault
+// Adds what is told of a request's fault; nothing where memory runs out.
+fn refuse(
+    alloc: Global,
+    format: ReplyFormat,
+    fault: ScriptError,
+    replies: &mut Vec<u8>,
+) -> Result<(), AllocError>
+    ensures { (number : ℕ) (request : List ℕ) (client : TokenRecord) → HasFault request fault → NamesNone request
         → MatchResult result
-        (λ _. AddsAnswer number request client client replies.old.items replies.new.items)
-        (λ _. AddsNothing number request client client replies.old.items replies.new.items) }
+        (λ _. AddsAnswer number request (speaking client format) (speaking client format) replies.old.items
+        replies.new.items)
+        (λ _. AddsNothing number request (speaking client format) (speaking client format) replies.old.items
+        replies.new.items) }
 {
-    if !is_of_text(fault) {
-        return Err(AllocError);
-    }
     let before = replies.len();
-    match write_fault_line(replies, fault) {
+    match write_fault_line(alloc, replies, format, fault) {
         Ok(()) => Ok(()),
         Err(_) => {
             replies.truncate(before);
@@ -80,44 +119,101 @@ fn refuse(fault: ScriptError, replies: &mut Vec<u8>) -> Result<(), AllocError>
     }
 }
 
-/// Reads a request as a script of its own, serves what it asks, and adds the report to the replies; or the line of its
-/// fault, and nothing is done. For want of memory it adds nothing.
+// Makes a format that a request names the client's, and adds that it is; neither where memory runs out.
+fn give_format(
+    alloc: Global,
+    format: &mut ReplyFormat,
+    named: ReplyFormat,
+    replies: &mut Vec<u8>,
+) -> Result<(), AllocError>
+    ensures { (number : ℕ) (request : List ℕ) (client : TokenRecord) → NamesFormat request named → MatchResult result
+        (λ _. AddsAnswer number request (speaking client format.old) (speaking client format.new) replies.old.items
+        replies.new.items)
+        (λ _. AddsNothing number request (speaking client format.old) (speaking client format.new) replies.old.items
+        replies.new.items) }
+{
+    let before = replies.len();
+    match write_format(alloc, replies, named) {
+        Ok(()) => {
+            *format = named;
+            Ok(())
+        }
+        Err(_) => {
+            replies.truncate(before);
+            Err(AllocError)
+        }
+    }
+}
+
+// Answers a request that is no script, with this fault: it may name a format. Where memory runs out, or ran out before,
+// it adds nothing.
+fn answer_other(
+    alloc: Global,
+    format: &mut ReplyFormat,
+    request: &[u8],
+    fault: ScriptError,
+    replies: &mut Vec<u8>,
+) -> Result<(), AllocError>
+    ensures { (number : ℕ) (client : TokenRecord) → IsScriptFault most_records request.now fault → MatchResult result
+        (λ _. AddsAnswer number request.now (speaking client format.old) (speaking client format.new)
+        replies.old.items replies.new.items)
+        (λ _. AddsNothing number request.now (speaking client format.old) (speaking client format.new)
+        replies.old.items replies.new.items) }
+{
+    if !is_of_text(fault) {
+        return Err(AllocError);
+    }
+    let Ok(named) = named_format(alloc, request) else {
+        return Err(AllocError);
+    };
+    match named {
+        Some(named) => give_format(alloc, format, named, replies),
+        None => refuse(alloc, *format, fault, replies),
+    }
+}
+
+/// Reads a request as a script of its own, serves what it asks, and adds the replies, in the client's format. One that
+/// is no script may name a format, which is the client's then; else what is told of its fault is added, and nothing is
+/// done. For want of memory it adds nothing.
 pub(crate) fn answer<W: Follower + Drop, R: Wait, K>(
     service: &Service<'_, W, R, K>,
     client: &mut Client<W>,
+    format: &mut ReplyFormat,
     request: &[u8],
     replies: &mut Vec<u8>,
 ) -> Result<(), AllocError>
     requires table { client.old.table ≡ service.now.server.now }
     requires quiet { is_some client.old.asked ≡ false }
     ensures answered { MatchResult result
-        (λ _. AddsAnswer (number_of client.old.who) request.now client.old client.new replies.old.items
-        replies.new.items)
-        (λ _. AddsNothing (number_of client.old.who) request.now client.old client.new replies.old.items
-        replies.new.items) }
+        (λ _. AddsAnswer (number_of client.old.who) request.now (speaking client.old format.old)
+        (speaking client.new format.new) replies.old.items replies.new.items)
+        (λ _. AddsNothing (number_of client.old.who) request.now (speaking client.old format.old)
+        (speaking client.new format.new) replies.old.items replies.new.items) }
     ensures same { AreAlike client.old client.new }
     ensures sound { IsSound client.old → IsSound client.new }
 {
     match read_script(service.alloc, request, MOST_RECORDS) {
-        Ok(script) => report(service, client, script, replies),
-        Err(fault) => refuse(fault, replies),
+        Ok(script) => report(service, client, *format, script, replies),
+        Err(fault) => answer_other(service.alloc, format, request, fault, replies),
     }
 }
 
-/// Serves what a request asks that was read before its turn, and adds the report to the replies. Where memory runs out
-/// it adds nothing.
+/// Serves what a request asks that was read before its turn, and adds the replies. Where memory runs out it adds
+/// nothing.
 pub(crate) fn answer_read<W: Follower + Drop, R: Wait, K>(
     service: &Service<'_, W, R, K>,
     client: &mut Client<W>,
+    format: ReplyFormat,
     request: Request,
     replies: &mut Vec<u8>,
 ) -> Result<(), AllocError>
     requires table { client.old.table ≡ service.now.server.now }
     requires quiet { is_some client.old.asked ≡ false }
     ensures answered { (text : List ℕ) → SpellsScript most_records text (request_of request ∷ []) → MatchResult result
-        (λ _. AddsAnswer (number_of client.old.who) text client.old client.new replies.old.items replies.new.items)
-        (λ _. AddsNothing (number_of client.old.who) text client.old client.new replies.old.items
-        replies.new.items) }
+        (λ _. AddsAnswer (number_of client.old.who) text (speaking client.old format) (speaking client.new format)
+        replies.old.items replies.new.items)
+        (λ _. AddsNothing (number_of client.old.who) text (speaking client.old format) (speaking client.new format)
+        replies.old.items replies.new.items) }
     ensures same { AreAlike client.old client.new }
     ensures sound { IsSound client.old → IsSound client.new }
 {
@@ -125,5 +221,5 @@ pub(crate) fn answer_read<W: Follower + Drop, R: Wait, K>(
     if requests.push(request).is_err() {
         return Err(AllocError);
     }
-    report(service, client, Script { requests }, replies)
+    report(service, client, format, Script { requests }, replies)
 }

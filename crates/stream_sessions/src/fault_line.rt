@@ -1,12 +1,18 @@
-//! The line that tells a request's fault.
+//! What is told of a request's fault.
 
+ghost use Rattle.std.specs.Prelude.{◌≡◌, IfOk, IsUtf8};
+ghost use Rattle.ssb_formats.specs.Formats.{Shows};
+ghost use Rattle.ssb_formats.specs.ReplyTexts.{fault_shown};
 ghost use Rattle.ssb_text.specs.Written.{Writes};
 ghost use Rattle.stream_sessions.specs.FaultLine.{fault_line, fault_text, schema_text};
 
+use ssb_formats::{FormatFault, ReplyFormat, write_fault_as};
 use ssb_schema::SchemaFault;
 use ssb_script::ScriptError;
 use ssb_text::{Piece, WriteFault, write_pieces};
+use std::alloc::{AllocError, Global};
 use std::io::Write;
+use std::str;
 
 // The number, the name and the values of a fault of the schema.
 fn write_schema_fault<W: Write>(writer: &mut W, fault: SchemaFault) -> Result<(), WriteFault>
@@ -94,11 +100,45 @@ fn write_fault<W: Write>(writer: &mut W, fault: ScriptError) -> Result<(), Write
     }
 }
 
-/// Writes the line that tells a request's fault: `fault: ` and what the fault says of itself. It takes no memory.
-pub fn write_fault_line<W: Write>(writer: &mut W, fault: ScriptError) -> Result<(), WriteFault>
-    ensures { Writes (W.contents writer.old) (W.contents writer.new) result (fault_line fault) }
+// The number, the name and the values of a script's fault, in memory.
+fn fault_text(alloc: Global, fault: ScriptError) -> Result<Vec<u8>, AllocError>
+    ensures { IfOk result (λ text. text.items ≡ fault_text fault) }
 {
-    write_pieces(writer, &[Piece::Text("fault: ")])?;
-    write_fault(writer, fault)?;
-    write_pieces(writer, &[Piece::Text("\n")])
+    let mut text = Vec::new(alloc);
+    match write_fault(&mut text, fault) {
+        Ok(()) => Ok(text),
+        Err(_) => Err(AllocError),
+    }
+}
+
+// Writes what is told of a fault that has this text.
+fn write_text<W: Write>(
+    alloc: Global,
+    writer: &mut W,
+    format: ReplyFormat,
+    text: &[u8],
+) -> Result<(), FormatFault>
+    requires { IsUtf8 text.now }
+    ensures { Shows (W.contents writer.old) (W.contents writer.new) result (fault_shown format text.now) }
+{
+    match str::from_utf8(text) {
+        Ok(text) => write_fault_as(alloc, writer, format, text),
+        Err(_) => unreachable!(),
+    }
+}
+
+/// Writes what is told of a request's fault in a format: in the report a line, `fault: ` and what the fault says of
+/// itself.
+pub(crate) fn write_fault_line<W: Write>(
+    alloc: Global,
+    writer: &mut W,
+    format: ReplyFormat,
+    fault: ScriptError,
+) -> Result<(), FormatFault>
+    ensures { Shows (W.contents writer.old) (W.contents writer.new) result (fault_line format fault) }
+{
+    match fault_text(alloc, fault) {
+        Ok(text) => write_text(alloc, writer, format, text.as_slice()),
+        Err(_) => Err(FormatFault::OutOfMemory),
+    }
 }

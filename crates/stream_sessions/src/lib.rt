@@ -16,7 +16,9 @@
 //! The contract of [`serve_session`] (`specs/Session.antt`): the bytes that it read are cut into requests, each of which
 //! was answered by the report of what it asks, as the loop of scripts serves it, or by the line of its fault, which
 //! changed nothing (`specs/Answers.antt`); the client went through exactly those, in order; and this text was written.
-//! A session that breaks says how many requests were answered.
+//! A request may name a format, in which the client is told from there on (`specs/FormatRequest.antt`): so a session's
+//! state is the client and its format (`specs/Speaking.antt`). A session that breaks says how many requests were
+//! answered.
 //!
 //! Requests come and replies leave by a [`Wire`] alone, whose history contracts see (`specs/Conversation.antt`): a text
 //! is passed on with [`Evidence`] in hand, made by who [`Acknowledges`], of all commits that the client has seen then, so
@@ -39,6 +41,7 @@ mod ahead;
 mod answer;
 mod events;
 mod fault_line;
+mod format_request;
 mod held;
 mod kept;
 pub mod laws;
@@ -54,7 +57,6 @@ mod step;
 mod wire;
 
 pub use acknowledges::{Acknowledges, AtOnce, Evidence, NotAcknowledged, Nothing};
-pub use fault_line::write_fault_line;
 pub use meter::{Meter, NoMeter, RequestKind};
 pub use outcome::{Ending, Served, SessionError, SessionFault};
 pub use reply::Reply;

@@ -4,6 +4,8 @@ ghost use Rattle.std.specs.Option.{is_some};
 ghost use Rattle.history.specs.Tokens.{IsSound};
 ghost use Rattle.history.specs.Members.{number_of};
 ghost use Rattle.history_core.specs.declared.event.Who.TheVariants.{Client as IsNumbered};
+ghost use Rattle.ssb_formats.specs.Formats.{Shows};
+ghost use Rattle.ssb_formats.specs.ReplyTexts.{reply_shown};
 ghost use Rattle.ssb_report.specs.Replies.{reply_text};
 ghost use Rattle.ssb_text.specs.Written.{Writes};
 ghost use Rattle.ssb_script.specs.Requests.{questions_in, request_of};
@@ -15,10 +17,11 @@ use crate::service::Service;
 use row_store::{Follower, Receipt, RefreshError};
 use ssb_answers::Answer;
 use ssb_clients::Client;
+use ssb_formats::{FormatFault, ReplyFormat, write_aborted_as, write_answers_as, write_reply_as};
 use ssb_report::{write_aborted, write_answers, write_reply};
 use ssb_script::{Asking, Request};
 use ssb_text::WriteFault;
-use std::alloc::AllocError;
+use std::alloc::{AllocError, Global};
 use std::io::Write;
 use std::sync::Wait;
 
@@ -42,6 +45,25 @@ impl Reply {
             Reply::Refreshed(result) => write_reply(writer, result),
             Reply::Answered(answers) => write_answers(writer, answers.as_slice()),
             Reply::Aborted => write_aborted(writer),
+        }
+    }
+
+    /// Writes the reply as a session's format has it.
+    pub(crate) fn write_as<O: Write>(
+        &self,
+        alloc: Global,
+        writer: &mut O,
+        format: ReplyFormat,
+    ) -> Result<(), FormatFault>
+        ensures { Shows (O.contents writer.old) (O.contents writer.new) result
+            (reply_shown format (reply_of self.now)) }
+    {
+        match self {
+            Reply::Refreshed(result) => write_reply_as(alloc, writer, format, result),
+            Reply::Answered(answers) => {
+                write_answers_as(alloc, writer, format, answers.as_slice())
+            }
+            Reply::Aborted => write_aborted_as(alloc, writer, format),
         }
     }
 }

@@ -7,9 +7,11 @@ ghost use Rattle.history.specs.Members.{number_of};
 ghost use Rattle.ssb_script.specs.Ahead.{AskFirst, AsksFirst, IsWhole};
 ghost use Rattle.ssb_text.specs.Written.{AppendsPart};
 ghost use Rattle.ssb_script.specs.Requests.{request_of};
+ghost use Rattle.ssb_formats.specs.declared.reply_format.ReplyFormat.{ReplyFormat as Named};
 ghost use Rattle.stream_sessions.specs.OneRequest.{AreAlike};
 ghost use Rattle.stream_sessions.specs.Conversation.{GoesOn, GoesOnOrUntil, GoesUntil, most_held};
 ghost use Rattle.stream_sessions.specs.FaultLine.{too_long_line};
+ghost use Rattle.stream_sessions.specs.Speaking.{speaking};
 ghost use Rattle.stream_sessions.specs.Steps.{HandsOn, TakesRequest, TakesStep, asked_ahead};
 ghost use Rattle.stream_sessions.specs.declared.outcome.SessionFault.TheVariants.{OutOfMemory, Write as FailedWrite};
 ghost use Rattle.stream_sessions.specs.declared.step.Step.TheVariants.{TooLong};
@@ -23,8 +25,9 @@ use crate::service::Service;
 use crate::wire::Wire;
 use row_store::Follower;
 use ssb_clients::Client;
+use ssb_formats::{ReplyFormat, write_fault_as};
 use ssb_script::{NextRequest, Request, RequestError, request_length};
-use ssb_text::{Piece, write_pieces};
+use std::alloc::Global;
 use std::io::{Read, Write};
 use std::sync::Wait;
 
@@ -67,10 +70,11 @@ fn hand_on_in_time<
     ensures in_time { OnOk result (is_at_hand ≡ false → replies.new.items ≡ []) }
     ensures few { OnOk result (length replies.new.items < most_held) }
     ensures goes { MatchResult result
-        (λ _. (ended : Bool) (number : ℕ) → GoesOn ended ended number client.now client.now wire.old.events
-        wire.new.events replies.old.items replies.new.items)
-        (λ fault. (ended : Bool) (number : ℕ) → GoesUntil fault ended number client.now client.now wire.old.events
-        wire.new.events replies.old.items replies.new.items) }
+        (λ _. (ended : Bool) (number : ℕ) (format : Named) → GoesOn ended ended number (speaking client.now format)
+        (speaking client.now format) wire.old.events wire.new.events replies.old.items replies.new.items)
+        (λ fault. (ended : Bool) (number : ℕ) (format : Named) → GoesUntil fault ended number
+        (speaking client.now format) (speaking client.now format) wire.old.events wire.new.events replies.old.items
+        replies.new.items) }
 {
     if replies.len() >= MOST_HELD || !is_at_hand {
         hand_on(service, client, wire, replies)?;
@@ -79,13 +83,17 @@ fn hand_on_in_time<
 }
 
 // Tells that a request is too long.
-fn tell_too_long(replies: &mut Vec<u8>) -> Result<Step, SessionFault>
+fn tell_too_long(
+    alloc: Global,
+    format: ReplyFormat,
+    replies: &mut Vec<u8>,
+) -> Result<Step, SessionFault>
     ensures { MatchResult result
-        (λ step. (step ≡ TooLong) × (replies.new.items ≡ replies.old.items ++ too_long_line))
+        (λ step. (step ≡ TooLong) × (replies.new.items ≡ replies.old.items ++ too_long_line format))
         (λ fault. (fault ≡ OutOfMemory) × (replies.new.items ≡ replies.old.items)) }
 {
     let before = replies.len();
-    match write_pieces(replies, &[Piece::Text("fault: 76 RequestTooLong\n")]) {
+    match write_fault_as(alloc, replies, format, "76 RequestTooLong") {
         Ok(()) => Ok(Step::TooLong),
         Err(_) => {
             replies.truncate(before);
@@ -105,6 +113,7 @@ fn step_ahead<
 >(
     service: &Service<'_, W, R, K>,
     client: &mut Client<W>,
+    format: ReplyFormat,
     wire: &mut Wire<I, O, E>,
     request: Request,
     replies: &mut Vec<u8>,
@@ -112,10 +121,10 @@ fn step_ahead<
     requires table { client.old.table ≡ service.now.server.now }
     requires quiet { is_some client.old.asked ≡ false }
     requires first { AsksFirst wire.old.at_hand (request_of request) }
-    ensures step { TakesStep result (number_of client.old.who) client.old client.new wire.old wire.new
-        replies.old.items replies.new.items }
-    ensures goes { GoesOnOrUntil result (number_of client.old.who) client.old client.new wire.old wire.new
-        replies.old.items replies.new.items }
+    ensures step { TakesStep result (number_of client.old.who) (speaking client.old format)
+        (speaking client.new format) wire.old wire.new replies.old.items replies.new.items }
+    ensures goes { GoesOnOrUntil result (number_of client.old.who) (speaking client.old format)
+        (speaking client.new format) wire.old wire.new replies.old.items replies.new.items }
     ensures taken { OnOk result (TakesRequest wire.old.at_hand wire.new.at_hand) }
     ensures same { AreAlike client.old client.new }
     ensures sound { IsSound client.old → IsSound client.new }
@@ -124,7 +133,7 @@ fn step_ahead<
     let Some(size) = request_length(wire.at_hand()) else {
         unreachable!()
     };
-    let answered = answer_read(service, client, request, replies);
+    let answered = answer_read(service, client, format, request, replies);
     wire.take(size);
     match answered {
         Ok(()) => Ok(Step::Request),
@@ -143,6 +152,7 @@ fn step_at_hand<
 >(
     service: &Service<'_, W, R, K>,
     client: &mut Client<W>,
+    format: &mut ReplyFormat,
     wire: &mut Wire<I, O, E>,
     count: usize,
     replies: &mut Vec<u8>,
@@ -150,16 +160,16 @@ fn step_at_hand<
     requires table { client.old.table ≡ service.now.server.now }
     requires quiet { is_some client.old.asked ≡ false }
     requires whole { IsWhole count wire.old.at_hand }
-    ensures step { TakesStep result (number_of client.old.who) client.old client.new wire.old wire.new
-        replies.old.items replies.new.items }
-    ensures goes { GoesOnOrUntil result (number_of client.old.who) client.old client.new wire.old wire.new
-        replies.old.items replies.new.items }
+    ensures step { TakesStep result (number_of client.old.who) (speaking client.old format.old)
+        (speaking client.new format.new) wire.old wire.new replies.old.items replies.new.items }
+    ensures goes { GoesOnOrUntil result (number_of client.old.who) (speaking client.old format.old)
+        (speaking client.new format.new) wire.old wire.new replies.old.items replies.new.items }
     ensures same { AreAlike client.old client.new }
     ensures sound { IsSound client.old → IsSound client.new }
 {
     hand_on_in_time(service, client, wire, true, replies)?;
     let (request, _) = wire.at_hand().split_at(count);
-    let answered = answer(service, client, request, replies);
+    let answered = answer(service, client, format, request, replies);
     wire.take(count);
     match answered {
         Ok(()) => Ok(Step::Request),
@@ -178,16 +188,17 @@ fn step_awaited<
 >(
     service: &Service<'_, W, R, K>,
     client: &mut Client<W>,
+    format: &mut ReplyFormat,
     wire: &mut Wire<I, O, E>,
     request: &mut Vec<u8>,
     replies: &mut Vec<u8>,
 ) -> Result<Step, SessionFault>
     requires table { client.old.table ≡ service.now.server.now }
     requires quiet { is_some client.old.asked ≡ false }
-    ensures step { TakesStep result (number_of client.old.who) client.old client.new wire.old wire.new
-        replies.old.items replies.new.items }
-    ensures goes { GoesOnOrUntil result (number_of client.old.who) client.old client.new wire.old wire.new
-        replies.old.items replies.new.items }
+    ensures step { TakesStep result (number_of client.old.who) (speaking client.old format.old)
+        (speaking client.new format.new) wire.old wire.new replies.old.items replies.new.items }
+    ensures goes { GoesOnOrUntil result (number_of client.old.who) (speaking client.old format.old)
+        (speaking client.new format.new) wire.old wire.new replies.old.items replies.new.items }
     ensures same { AreAlike client.old client.new }
     ensures sound { IsSound client.old → IsSound client.new }
 {
@@ -196,11 +207,11 @@ fn step_awaited<
         Ok(NextRequest::Request) => Step::Request,
         Ok(NextRequest::Rest) => Step::Rest,
         Ok(NextRequest::Nothing) => return Ok(Step::Nothing),
-        Err(RequestError::TooLong) => return tell_too_long(replies),
+        Err(RequestError::TooLong) => return tell_too_long(service.alloc, *format, replies),
         Err(RequestError::Read) => return Err(SessionFault::Read),
         Err(RequestError::OutOfMemory) => return Err(SessionFault::OutOfMemory),
     };
-    let answered = answer(service, client, request.as_slice(), replies);
+    let answered = answer(service, client, format, request.as_slice(), replies);
     match answered {
         Ok(()) => Ok(step),
         Err(_) => Err(SessionFault::OutOfMemory),
@@ -218,22 +229,23 @@ fn step_alone<
 >(
     service: &Service<'_, W, R, K>,
     client: &mut Client<W>,
+    format: &mut ReplyFormat,
     wire: &mut Wire<I, O, E>,
     request: &mut Vec<u8>,
     replies: &mut Vec<u8>,
 ) -> Result<Step, SessionFault>
     requires table { client.old.table ≡ service.now.server.now }
     requires quiet { is_some client.old.asked ≡ false }
-    ensures step { TakesStep result (number_of client.old.who) client.old client.new wire.old wire.new
-        replies.old.items replies.new.items }
-    ensures goes { GoesOnOrUntil result (number_of client.old.who) client.old client.new wire.old wire.new
-        replies.old.items replies.new.items }
+    ensures step { TakesStep result (number_of client.old.who) (speaking client.old format.old)
+        (speaking client.new format.new) wire.old wire.new replies.old.items replies.new.items }
+    ensures goes { GoesOnOrUntil result (number_of client.old.who) (speaking client.old format.old)
+        (speaking client.new format.new) wire.old wire.new replies.old.items replies.new.items }
     ensures same { AreAlike client.old client.new }
     ensures sound { IsSound client.old → IsSound client.new }
 {
     match request_length(wire.at_hand()) {
-        Some(count) => step_at_hand(service, client, wire, count, replies),
-        None => step_awaited(service, client, wire, request, replies),
+        Some(count) => step_at_hand(service, client, format, wire, count, replies),
+        None => step_awaited(service, client, format, wire, request, replies),
     }
 }
 
@@ -249,6 +261,7 @@ pub(crate) fn take_step<
 >(
     service: &Service<'_, W, R, K>,
     client: &mut Client<W>,
+    format: &mut ReplyFormat,
     wire: &mut Wire<I, O, E>,
     requests: &mut Requests,
     replies: &mut Vec<u8>,
@@ -256,17 +269,17 @@ pub(crate) fn take_step<
     requires table { client.old.table ≡ service.now.server.now }
     requires quiet { is_some client.old.asked ≡ false }
     requires ahead { AskFirst wire.old.at_hand (asked_ahead requests.old.ahead) }
-    ensures step { TakesStep result (number_of client.old.who) client.old client.new wire.old wire.new
-        replies.old.items replies.new.items }
-    ensures goes { GoesOnOrUntil result (number_of client.old.who) client.old client.new wire.old wire.new
-        replies.old.items replies.new.items }
+    ensures step { TakesStep result (number_of client.old.who) (speaking client.old format.old)
+        (speaking client.new format.new) wire.old wire.new replies.old.items replies.new.items }
+    ensures goes { GoesOnOrUntil result (number_of client.old.who) (speaking client.old format.old)
+        (speaking client.new format.new) wire.old wire.new replies.old.items replies.new.items }
     ensures ahead { OnOk result (AskFirst wire.new.at_hand (asked_ahead requests.new.ahead)) }
     ensures same { AreAlike client.old client.new }
     ensures sound { IsSound client.old → IsSound client.new }
 {
     requests.ahead.look(service.alloc, wire.at_hand());
     match requests.ahead.next() {
-        Some(request) => step_ahead(service, client, wire, request, replies),
-        None => step_alone(service, client, wire, &mut requests.alone, replies),
+        Some(request) => step_ahead(service, client, *format, wire, request, replies),
+        None => step_alone(service, client, format, wire, &mut requests.alone, replies),
     }
 }

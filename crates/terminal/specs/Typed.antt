@@ -91,6 +91,20 @@ abbrev pub record_or_line : List ℕ → Option (Query × List (List ℕ)) → L
 record_or_line line (Some question) = record_of question
 record_or_line line None = line
 
+-- whether a field is the word that names a format
+abbrev pub gives_format : List ℕ → Bool
+gives_format field = are_alike (codes "format") (trimmed field)
+
+-- the record of this word, with the fields behind it
+abbrev pub format_record : List (List ℕ) → List ℕ
+format_record behind = (codes "format" ++ flat_map field_text behind) ++ 10 ∷ []
+
+-- the record that a line's fields spell, or else the line
+abbrev pub record_spelled : List ℕ → List (List ℕ) → List ℕ
+record_spelled line [] = line
+record_spelled line (first ∷ behind) =
+    if gives_format first then format_record behind else record_or_line line (question_of (first ∷ behind))
+
 -- what a session reads for a line
 abbrev pub session_line : List ℕ → List ℕ
-session_line line = record_or_line line (question_of (fields_of (trimmed line)))
+session_line line = record_spelled line (fields_of (trimmed line))

@@ -30,7 +30,10 @@ impl ReplyStart {
     fn fault(&self) -> Option<&str> {
         let text = str::from_utf8(self.bytes.as_slice()).ok()?;
         let (line, _) = text.split_once('\n')?;
-        line.strip_prefix("fault: ")
+        match line.strip_prefix("fault: ") {
+            Some(fault) => Some(fault),
+            None => line.strip_prefix("{\"fault\":\"")?.strip_suffix("\"}"),
+        }
     }
 }
 

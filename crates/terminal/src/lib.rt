@@ -5,6 +5,7 @@
 //! a typed line ─┬─ help, timing, status          does something here; the session reads a line of no bytes
 //!               ├─ quit, exit                    the session's input ends
 //!               ├─ q1.1 1994 1 3 0 24            the session reads query|Q1.1|1994|1|3|0|24
+//!               ├─ format csv                    the session reads format|csv
 //!               └─ any other, as begin           the session reads it as it was typed
 //! a reply ──────┬─ fault: ..                     help below it on the screen, about the request that was typed
 //!               └─ any other

@@ -90,14 +90,44 @@ fn record_of(alloc: Global, query: Query, constants: &[&[u8]]) -> Result<Vec<u8>
     Ok(text)
 }
 
+// The record that asks what a line's fields ask, or else the line.
+fn question_line(alloc: Global, line: &[u8], fields: &[&[u8]]) -> Result<Vec<u8>, AllocError>
+    ensures { IfOk result (λ bytes. bytes.items
+        ≡ spec.record_or_line line.now (spec.question_of (map (λ field. field.now) fields.now))) }
+{
+    match question_of(fields) {
+        Some(TypedQuestion { query, constants }) => record_of(alloc, query, constants),
+        None => line.to_vec(alloc),
+    }
+}
+
+// Whether a field is the word that names a format.
+fn gives_format(field: &[u8]) -> bool
+    ensures { result ≡ spec.gives_format field.now }
+{
+    are_alike(b"format", trimmed(field))
+}
+
+// The record of this word, with the fields behind it.
+fn format_record(alloc: Global, behind: &[&[u8]]) -> Result<Vec<u8>, AllocError>
+    ensures { IfOk result (λ text. text.items ≡ spec.format_record (map (λ field. field.now) behind.now)) }
+{
+    let mut text = Vec::new(alloc);
+    text.extend_from_slice(b"format")?;
+    push_fields(&mut text, behind)?;
+    text.push(b'\n')?;
+    Ok(text)
+}
+
 /// What a session reads for a line: a record that asks, where it begins with the name of a query, in any case, or with
-/// the word `query` and a name; else the line itself.
+/// the word `query` and a name; a record that names a format, where it begins with the word `format`; else the line
+/// itself.
 pub fn session_line(alloc: Global, line: &[u8]) -> Result<Vec<u8>, AllocError>
     ensures { IfOk result (λ bytes. bytes.items ≡ spec.session_line line.now) }
 {
     let fields = fields_of(alloc, trimmed(line))?;
-    match question_of(fields.as_slice()) {
-        Some(TypedQuestion { query, constants }) => record_of(alloc, query, constants),
-        None => line.to_vec(alloc),
+    match fields.as_slice() {
+        [first, behind @ ..] if gives_format(first) => format_record(alloc, behind),
+        fields => question_line(alloc, line, fields),
     }
 }

@@ -1,4 +1,5 @@
 use Rattle.std.proofs.Common.{[]}
+use Rattle.stream_sessions.specs.Speaking.{speaking}
 use Rattle.stream_sessions.proofs.ConversationLaws.{still_held, until_end, until_write}
 use Rattle.stream_sessions.proofs.EndLaws.{broken, broken_twice, broken_writing}
 use Rattle.stream_sessions.proofs.session.break_off.Goals as goal
@@ -18,17 +19,19 @@ returns-in-Err-clause-broken g c = λ number old new unread left before ends.
     c.in-Err.ensures.handed.0)
 
 pub returns-in-Write-clause-conversed : goal.returns-in-Write-clause-conversed
-returns-in-Write-clause-conversed g c = λ number first start went.
-    until_write c.args.error.fault number first c.args.client.now start _ c.args.replies.now.items [] c.in-Write.is went
+returns-in-Write-clause-conversed g c = λ number first format start went.
+    until_write c.args.error.fault number first (speaking c.args.client.now format) start _ c.args.replies.now.items []
+    c.in-Write.is went
 
 pub returns-in-Ok-clause-conversed : goal.returns-in-Ok-clause-conversed
-returns-in-Ok-clause-conversed g c = λ number first start went.
-    until_end c.args.error.fault number first c.args.client.now start c.args.wire.now.events c.hand_on.new.wire.events
-    c.args.replies.now.items c.hand_on.new.replies.items c.in_default.not-Write c.in-Ok.ensures.handed.1
-    c.in-Ok.ensures.goes went
+returns-in-Ok-clause-conversed g c = λ number first format start went.
+    until_end c.args.error.fault number first (speaking c.args.client.now format) start c.args.wire.now.events
+    c.hand_on.new.wire.events c.args.replies.now.items c.hand_on.new.replies.items c.in_default.not-Write
+    c.in-Ok.ensures.handed.1 (λ ended of_number. c.in-Ok.ensures.goes ended of_number format) went
 
 pub returns-in-Err-clause-conversed : goal.returns-in-Err-clause-conversed
-returns-in-Err-clause-conversed g c = λ number first start went.
-    let so = still_held c.args.error.fault number first c.args.client.now start _ _ c.in_default.not-Write went in
-    until_write c.in-Err.fault number first c.args.client.now start _ c.hand_on.new.replies.items []
-    c.in-Err.ensures.handed.1 (c.in-Err.ensures.goes so.0 number first start so.1)
+returns-in-Err-clause-conversed g c = λ number first format start went.
+    let client = speaking c.args.client.now format in
+    let so = still_held c.args.error.fault number first client start _ _ c.in_default.not-Write went in
+    until_write c.in-Err.fault number first client start _ c.hand_on.new.replies.items [] c.in-Err.ensures.handed.1
+    (c.in-Err.ensures.goes so.0 number format first start so.1)

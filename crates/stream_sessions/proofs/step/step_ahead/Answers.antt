@@ -3,6 +3,7 @@ use Rattle.history.specs.Members.{number_of}
 use Rattle.ssb_script.specs.Ahead.{AsksFirst, IsWhole}
 use Rattle.ssb_script.proofs.AheadLaws.{asks_whole}
 use Rattle.ssb_script.specs.Requests.{request_of}
+use Rattle.stream_sessions.specs.Speaking.{speaking}
 use Rattle.stream_sessions.specs.Steps.{Fails, Steps, TakesRequest}
 use Rattle.stream_sessions.specs.declared.outcome.SessionFault.TheVariants as fault
 use Rattle.stream_sessions.specs.declared.step.Step.TheVariants as step
@@ -34,22 +35,28 @@ returns-in_err-hand_on_in_time-clause-step g c =
 
 pub returns-in_err-hand_on_in_time-clause-goes : goal.returns-in_err-hand_on_in_time-clause-goes
 returns-in_err-hand_on_in_time-clause-goes g c =
+    let number = number_of c.args.client.now.who in
     let failed = c.in_err-hand_on_in_time in
     let why = failed.field-0.0 in
     let is : c.from_residual.result ≡ Err why = search rules in
-    err_is c.from_residual.result why _ _ is (failed.ensures.goes false (number_of c.args.client.now.who))
+    err_is c.from_residual.result why _ _ is (failed.ensures.goes false number c.args.format)
 
 pub returns-in-Ok-clause-step : goal.returns-in-Ok-clause-step
 returns-in-Ok-clause-step g c =
+    let number = number_of c.args.client.now.who in
+    let old = speaking c.args.client.now c.args.format in
+    let new = speaking c.answer_read-answered.new.client c.args.format in
     let wire = c.hand_on_in_time.new.wire in
     let size = c.in-Some.size in
-    let first = subst (λ (bytes : List ℕ). AsksFirst bytes (request_of c.args.request)) (sym c.hand_on_in_time.ensures.at_hand)
+    let first = subst (λ (bytes : List ℕ). AsksFirst bytes (request_of c.args.request)) (sym
+    c.hand_on_in_time.ensures.at_hand)
     c.requires.first in
     let whole = subst (IsWhole size) c.at_hand.ensures c.in-Some.ensures.whole in
     let text = take size wire.at_hand in
-    where_known (λ (u w : Option (List ℕ)). Steps step.Request (number_of c.args.client.now.who) c.args.client.now c.answer_read-answered.new.client u c.take.new.self.unread
+    where_known (λ (u w : Option (List ℕ)). Steps step.Request number old new u c.take.new.self.unread
     c.args.wire.now.written w c.args.replies.now.items c.answer_read-answered.new.replies.items) c.args.wire.now.unread
-    c.hand_on_in_time.new.wire.unread c.hand_on_in_time.new.wire.written c.take.new.self.written c.hand_on_in_time.ensures.unread c.take.ensures.written
+    c.hand_on_in_time.new.wire.unread c.hand_on_in_time.new.wire.written c.take.new.self.written
+    c.hand_on_in_time.ensures.unread c.take.ensures.written
     (record {
       kept = c.hand_on_in_time.new.replies.items;
       handed = c.in_ok-hand_on_in_time.ensures.handed;
@@ -60,47 +67,63 @@ returns-in-Ok-clause-step g c =
 
 pub returns-in-Err-clause-step : goal.returns-in-Err-clause-step
 returns-in-Err-clause-step g c =
+    let number = number_of c.args.client.now.who in
+    let old = speaking c.args.client.now c.args.format in
+    let new = speaking c.answer_read-answered.new.client c.args.format in
     let wire = c.hand_on_in_time.new.wire in
     let size = c.in-Some.size in
-    let first = subst (λ (bytes : List ℕ). AsksFirst bytes (request_of c.args.request)) (sym c.hand_on_in_time.ensures.at_hand)
+    let first = subst (λ (bytes : List ℕ). AsksFirst bytes (request_of c.args.request)) (sym
+    c.hand_on_in_time.ensures.at_hand)
     c.requires.first in
     let whole = subst (IsWhole size) c.at_hand.ensures c.in-Some.ensures.whole in
     let text = take size wire.at_hand in
-    where_known (λ (u w : Option (List ℕ)). Fails fault.OutOfMemory (number_of c.args.client.now.who) c.args.client.now c.answer_read-answered.new.client u c.take.new.self.unread
+    where_known (λ (u w : Option (List ℕ)). Fails fault.OutOfMemory number old new u c.take.new.self.unread
     c.args.wire.now.written w c.args.replies.now.items c.answer_read-answered.new.replies.items) c.args.wire.now.unread
-    c.hand_on_in_time.new.wire.unread c.hand_on_in_time.new.wire.written c.take.new.self.written c.hand_on_in_time.ensures.unread c.take.ensures.written
-    (runs_out _ _ _ _ _ _ _ _ _ _ text text c.in_ok-hand_on_in_time.ensures.handed c.take.ensures.taken (inl whole.1) refl
+    c.hand_on_in_time.new.wire.unread c.hand_on_in_time.new.wire.written c.take.new.self.written
+    c.hand_on_in_time.ensures.unread c.take.ensures.written
+    (runs_out _ _ _ _ _ _ _ _ _ _ text text c.in_ok-hand_on_in_time.ensures.handed c.take.ensures.taken (inl whole.1)
+    refl
     (c.in-Err.ensures.answered text (asks_whole wire.at_hand _ size first whole)))
 
 pub returns-in-Ok-clause-goes : goal.returns-in-Ok-clause-goes
 returns-in-Ok-clause-goes g c =
+    let number = number_of c.args.client.now.who in
+    let old = speaking c.args.client.now c.args.format in
+    let new = speaking c.answer_read-answered.new.client c.args.format in
     let wire = c.hand_on_in_time.new.wire in
     let size = c.in-Some.size in
-    let first = subst (λ (bytes : List ℕ). AsksFirst bytes (request_of c.args.request)) (sym c.hand_on_in_time.ensures.at_hand)
+    let first = subst (λ (bytes : List ℕ). AsksFirst bytes (request_of c.args.request)) (sym
+    c.hand_on_in_time.ensures.at_hand)
     c.requires.first in
     let whole = subst (IsWhole size) c.at_hand.ensures c.in-Some.ensures.whole in
     let text = take size wire.at_hand in
-    goes_both false false false (number_of c.args.client.now.who) c.args.client.now c.args.client.now c.answer_read-answered.new.client c.args.wire.now.events
-    wire.events c.take.new.self.events c.args.replies.now.items c.hand_on_in_time.new.replies.items c.answer_read-answered.new.replies.items
-    (c.in_ok-hand_on_in_time.ensures.goes false (number_of c.args.client.now.who))
-    (takes false (number_of c.args.client.now.who) c.args.client.now c.answer_read-answered.new.client wire.events c.take.new.self.events text c.hand_on_in_time.new.replies.items
+    goes_both false false false number old old new c.args.wire.now.events
+    wire.events c.take.new.self.events c.args.replies.now.items c.hand_on_in_time.new.replies.items
+    c.answer_read-answered.new.replies.items
+    (c.in_ok-hand_on_in_time.ensures.goes false number c.args.format)
+    (takes false number old new wire.events c.take.new.self.events text c.hand_on_in_time.new.replies.items
     c.answer_read-answered.new.replies.items c.take.ensures.events c.in_ok-hand_on_in_time.ensures.few
     (whole.1, c.in-Ok.ensures.answered text (asks_whole wire.at_hand _ size first whole)))
 
 pub returns-in-Err-clause-goes : goal.returns-in-Err-clause-goes
 returns-in-Err-clause-goes g c =
+    let number = number_of c.args.client.now.who in
+    let old = speaking c.args.client.now c.args.format in
+    let new = speaking c.answer_read-answered.new.client c.args.format in
     let wire = c.hand_on_in_time.new.wire in
     let size = c.in-Some.size in
-    let first = subst (λ (bytes : List ℕ). AsksFirst bytes (request_of c.args.request)) (sym c.hand_on_in_time.ensures.at_hand)
+    let first = subst (λ (bytes : List ℕ). AsksFirst bytes (request_of c.args.request)) (sym
+    c.hand_on_in_time.ensures.at_hand)
     c.requires.first in
     let whole = subst (IsWhole size) c.at_hand.ensures c.in-Some.ensures.whole in
     let text = take size wire.at_hand in
-    memory_fails (number_of c.args.client.now.who) c.args.client.now c.answer_read-answered.new.client c.args.wire.now.events
+    memory_fails number old new c.args.wire.now.events
     c.take.new.self.events c.args.replies.now.items c.answer_read-answered.new.replies.items
-    (goes_both false false true (number_of c.args.client.now.who) c.args.client.now c.args.client.now c.answer_read-answered.new.client c.args.wire.now.events
-    wire.events c.take.new.self.events c.args.replies.now.items c.hand_on_in_time.new.replies.items c.answer_read-answered.new.replies.items
-    (c.in_ok-hand_on_in_time.ensures.goes false (number_of c.args.client.now.who))
-    (takes true (number_of c.args.client.now.who) c.args.client.now c.answer_read-answered.new.client wire.events c.take.new.self.events text c.hand_on_in_time.new.replies.items
+    (goes_both false false true number old old new c.args.wire.now.events
+    wire.events c.take.new.self.events c.args.replies.now.items c.hand_on_in_time.new.replies.items
+    c.answer_read-answered.new.replies.items
+    (c.in_ok-hand_on_in_time.ensures.goes false number c.args.format)
+    (takes true number old new wire.events c.take.new.self.events text c.hand_on_in_time.new.replies.items
     c.answer_read-answered.new.replies.items c.take.ensures.events c.in_ok-hand_on_in_time.ensures.few
     (inr (inl (c.in-Err.ensures.answered text (asks_whole wire.at_hand _ size first whole))))))
 
