@@ -2,8 +2,8 @@
 
 use crate::faults::{ListsFaults, push_lines};
 use ssb_hints::{
-    ConstantsHelp, JournalHelp, PathHelp, QuestionHelp, QuestionNote, RowHelp, RowPlace,
-    ScriptHelp, StarHelp,
+    ConstantsHelp, JournalHelp, PathHelp, QuestionHelp, QuestionNote, RefusalHelp, RowHelp,
+    RowPlace, ScriptHelp, StarHelp,
 };
 use ssb_questions::{Query, Question};
 use ssb_schema::{C_CITY, Table};
@@ -134,6 +134,25 @@ impl ListsFaults for JournalHelp<'static> {
     }
 }
 
+impl ListsFaults for RefusalHelp {
+    fn first() -> RefusalHelp {
+        RefusalHelp::Action(4, "LO_TAX", 77)
+    }
+
+    fn next(&self) -> Option<RefusalHelp> {
+        Some(match self {
+            RefusalHelp::Action(number, word, _) => RefusalHelp::Earlier(*number, *word),
+            RefusalHelp::Earlier(_, _) => RefusalHelp::Present(77),
+            RefusalHelp::Present(key) => RefusalHelp::Line(3, C_CITY, *key),
+            RefusalHelp::Line(_, _, _) => RefusalHelp::NoRow(Table::Customer),
+            RefusalHelp::NoRow(_) => RefusalHelp::LinesFull(3),
+            RefusalHelp::LinesFull(_) => RefusalHelp::Absent(77),
+            RefusalHelp::Absent(key) => RefusalHelp::AmendAbsent(*key),
+            RefusalHelp::AmendAbsent(_) => return None,
+        })
+    }
+}
+
 // The constants of one query.
 fn constants_text(alloc: Global) -> Result<String, AllocError> {
     match Question::standard(alloc, Query::Q2_1) {
@@ -165,6 +184,7 @@ pub fn push_help(alloc: Global, lines: &mut Vec<String>) -> Result<(), AllocErro
     push_lines::<RowHelp<'static, 'static>>(alloc, &mut texts)?;
     push_lines::<ScriptHelp<'static>>(alloc, &mut texts)?;
     push_lines::<JournalHelp<'static>>(alloc, &mut texts)?;
+    push_lines::<RefusalHelp>(alloc, &mut texts)?;
     texts.push(constants_text(alloc)?)?;
     for text in texts {
         lines.push(format!(in alloc; "help: {text}")?)?;

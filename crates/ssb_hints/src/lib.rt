@@ -23,8 +23,8 @@
 //! write_help(&files, &named, &faults, &mut io::writer(errors));
 //! ```
 //!
-//! [`write_record_help`] says the same of a record that a live session did not take. [`write_notes`] says of a question
-//! that was answered what it looks for that no row has.
+//! [`write_record_help`] says the same of a record that a live session did not take, and [`write_refusal_help`] of a
+//! refresh that it refused. [`write_notes`] says of a question that was answered what it looks for that no row has.
 #![tactic(auto)]
 
 mod asking;
@@ -42,6 +42,7 @@ mod observed_files;
 mod paths;
 mod questions;
 mod records;
+mod refusals;
 mod rows;
 mod script_files;
 mod scripts;
@@ -57,6 +58,7 @@ pub use observed::Observed;
 pub use observed_files::ObservedFiles;
 pub use paths::PathHelp;
 pub use questions::{ConstantsHelp, QuestionHelp};
+pub use refusals::{RefusalHelp, write_refusal_help};
 pub use rows::{RowHelp, RowPlace};
 pub use scripts::{ScriptHelp, write_record_help};
 pub use star::StarHelp;

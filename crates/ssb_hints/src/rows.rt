@@ -105,8 +105,8 @@ fn column_named(table: Table, name: &str) -> Option<Column> {
     None
 }
 
-// The column of a line that names a row of this dimension.
-fn key_column(dimension: Table) -> Column {
+/// The column of a line that names a row of this dimension.
+pub fn key_column(dimension: Table) -> Column {
     Column {
         table: Table::Lineorder,
         place: match dimension {

@@ -1,4 +1,4 @@
-//! The replies at a terminal, and help below a fault.
+//! The replies at a terminal, and help below a fault or a refusal.
 
 ghost use Rattle.std.specs.Prelude.{◌≡◌};
 
@@ -7,7 +7,7 @@ use std::alloc::Global;
 use std::io;
 use std::io::Write;
 
-// How many bytes of a reply are kept. The line of a fault has fewer.
+// How many bytes of a reply are kept. The line of a fault has fewer, and so has that of a refusal.
 const MOST_KEPT: usize = 256;
 
 // The beginning of a reply.
@@ -26,19 +26,16 @@ impl ReplyStart {
         }
     }
 
-    // What the fault says, where the reply is one.
-    fn fault(&self) -> Option<&str> {
+    // Its first line, where the whole of it was kept.
+    fn first_line(&self) -> Option<&str> {
         let text = str::from_utf8(self.bytes.as_slice()).ok()?;
         let (line, _) = text.split_once('\n')?;
-        match line.strip_prefix("fault: ") {
-            Some(fault) => Some(fault),
-            None => line.strip_prefix("{\"fault\":\"")?.strip_suffix("\"}"),
-        }
+        Some(line)
     }
 }
 
-/// The output of a session at a terminal: it gets what is written, byte by byte. Where that is the line of a fault,
-/// help stands below it on the screen, if it is wanted.
+/// The output of a session at a terminal: it gets what is written, byte by byte. Where that is the line of a fault
+/// or of a refusal, help stands below it on the screen, if it is wanted.
 ///
 /// A session hands a reply on at once, and before it reads on: so what is written up to a flush is the reply to the
 /// request that was typed last.
@@ -54,7 +51,8 @@ pub struct HelpedOutput<'a, O: Write + Drop, E: Write + Drop> {
 }
 
 impl<'a, O: Write + Drop, E: Write + Drop> HelpedOutput<'a, O, E> {
-    /// Over this output. A fault that is written has help on the screen, about the request, where one is given.
+    /// Over this output. A fault or a refusal that is written has help on the screen, about the request, where one is
+    /// given.
     pub fn new(
         alloc: Global,
         output: O,
@@ -85,8 +83,8 @@ impl<'a, O: Write + Drop, E: Write + Drop> Write for HelpedOutput<'a, O, E> {
 
     fn flush(&mut self) -> io::Result<()> {
         self.output.flush()?;
-        if let (Some(request), Some(fault)) = (self.request, self.reply.fault()) {
-            request.help(fault, &mut self.screen);
+        if let (Some(request), Some(line)) = (self.request, self.reply.first_line()) {
+            request.help(line, &mut self.screen);
         }
         self.reply.bytes.clear();
         Ok(())

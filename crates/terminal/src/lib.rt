@@ -7,7 +7,7 @@
 //!               ├─ q1.1 1994 1 3 0 24            the session reads query|Q1.1|1994|1|3|0|24
 //!               ├─ format csv                    the session reads format|csv
 //!               └─ any other, as begin           the session reads it as it was typed
-//! a reply ──────┬─ fault: ..                     help below it on the screen, about the request that was typed
+//! a reply ──────┬─ fault: .., refused at ..      help below it on the screen, about the request that was typed
 //!               └─ any other
 //! ```
 //!

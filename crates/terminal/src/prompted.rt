@@ -149,8 +149,7 @@ impl<'a, C: Clock, I: Read + Drop, E: Write + Drop, S: ShowsOnDemand> Prompted<'
 }
 
 impl<'a, C: Clock, I: Read + Drop, E: Write + Drop, S: ShowsOnDemand> Read
-    for Prompted<'a, C, I, E, S>
-{
+    for Prompted<'a, C, I, E, S> {
     fn read(&mut self, buf: &mut [u8]) -> io::Result<usize> {
         if self.rest().is_empty() {
             self.take_line()?;

@@ -39,10 +39,10 @@ impl TypedRequest {
         }
     }
 
-    /// Shows what is wrong with it, by its fault, as far as the screen takes it.
-    pub(crate) fn help<E: Write>(&self, fault: &str, screen: &mut E) {
+    /// Shows what is wrong with it, by the first line of its reply, as far as the screen takes it.
+    pub(crate) fn help<E: Write>(&self, reply: &str, screen: &mut E) {
         if let Some(text) = self.text.try_lock() {
-            let _ = write_request_help(self.alloc, fault, text.as_slice(), screen);
+            let _ = write_request_help(self.alloc, reply, text.as_slice(), screen);
         }
     }
 }
