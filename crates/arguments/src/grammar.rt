@@ -22,6 +22,26 @@ fn data_argument<'a>(alloc: Global) -> Arg<'a> {
         .action(ArgAction::Set)
 }
 
+// What parts the fields of the tables.
+fn delimiter_argument<'a>(alloc: Global) -> Result<Arg<'a>, AllocError> {
+    Arg::new(alloc, "delimiter")
+        .long("delimiter")
+        .value_name("C")
+        .help("What parts the fields of the tables besides |: one character, or tab")
+        .action(ArgAction::Set)
+        .requires_arg("data")
+}
+
+// Whether heads stand above the rows of the tables.
+fn heads_argument<'a>(alloc: Global) -> Result<Arg<'a>, AllocError> {
+    flag(
+        alloc,
+        "heads",
+        "A line of heads, like the names of the columns, stands above the rows of each table",
+    )
+    .requires_arg("data")
+}
+
 // A word that is there or is not.
 fn flag<'a>(alloc: Global, name: &'a str, help: &'a str) -> Arg<'a> {
     Arg::new(alloc, name)
@@ -89,17 +109,29 @@ fn standing_argument<'a>(alloc: Global) -> Arg<'a> {
     )
 }
 
-// A command whose first word is the folder of the tables.
+// A command that also takes the folder of the tables, and how these are laid out.
+fn with_tables<'a>(
+    alloc: Global,
+    command: Command<'a>,
+    data: Arg<'a>,
+) -> Result<Command<'a>, AllocError> {
+    command
+        .arg(data)?
+        .arg(delimiter_argument(alloc)?)?
+        .arg(heads_argument(alloc)?)
+}
+
+// A command whose first words are the folder of the tables and how these are laid out.
 fn over_tables<'a>(
     alloc: Global,
     name: &'a str,
     about: &'a str,
     long_about: &'a str,
 ) -> Result<Command<'a>, AllocError> {
-    Command::new(alloc, name)
+    let command = Command::new(alloc, name)
         .about(about)
-        .long_about(long_about)
-        .arg(data_argument(alloc))
+        .long_about(long_about);
+    with_tables(alloc, command, data_argument(alloc))
 }
 
 // The name of a query, which is not given where all are asked, or those of a board.
@@ -200,9 +232,8 @@ fn query_command<'a>(alloc: Global) -> Result<Command<'a>, AllocError> {
         .required_unless_present("explain")?;
     let command = Command::new(alloc, "query")
         .about("Prints the report of one question, or of all, over table files")
-        .long_about(QUERY_HELP)
-        .arg(data)?;
-    let command = command
+        .long_about(QUERY_HELP);
+    let command = with_tables(alloc, command, data)?
         .arg(flag(
             alloc,
             "all",

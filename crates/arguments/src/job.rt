@@ -5,6 +5,7 @@ use crate::notice::Notice;
 use clap::ArgMatches;
 use clap::error::ErrorKind;
 use ssb_explain::System;
+use ssb_text::{Delimiter, TableLayout};
 use std::alloc::{AllocError, Global};
 
 // How many columns a line of bars may take where nothing says so.
@@ -77,6 +78,7 @@ impl HintsWord {
 #[derive(Drop)]
 pub struct QueryWords<'a> {
     pub data: &'a str,
+    pub layout: TableLayout,
     pub all: bool,
     /// The file of the questions; none where the words have them.
     pub board: Option<&'a str>,
@@ -94,6 +96,7 @@ pub struct QueryWords<'a> {
 pub struct ExplainWords<'a> {
     /// None where no tables are read.
     pub data: Option<&'a str>,
+    pub layout: TableLayout,
     pub name: &'a str,
     pub constants: Vec<&'a str>,
     /// The system whose SQL is written; none where words are.
@@ -106,6 +109,7 @@ pub struct ExplainWords<'a> {
 #[derive(Drop)]
 pub struct RunWords<'a> {
     pub data: &'a str,
+    pub layout: TableLayout,
     pub scripts: Vec<&'a str>,
     pub trace: Option<&'a str>,
     pub standing: Option<StandingWord<'a>>,
@@ -119,6 +123,7 @@ pub struct RunWords<'a> {
 #[derive(Drop)]
 pub struct ServeWords<'a> {
     pub data: &'a str,
+    pub layout: TableLayout,
     /// IN and OUT of each client in turn; none where standard input and output are served.
     pub clients: Vec<&'a str>,
     pub keep: bool,
@@ -135,6 +140,7 @@ pub struct ServeWords<'a> {
 #[derive(Drop)]
 pub struct AuditWords<'a> {
     pub data: &'a str,
+    pub layout: TableLayout,
     pub trace: &'a str,
     pub quiet: bool,
     pub hints: HintsWord,
@@ -144,6 +150,7 @@ pub struct AuditWords<'a> {
 #[derive(Drop)]
 pub struct ExportWords<'a> {
     pub data: &'a str,
+    pub layout: TableLayout,
     pub journal: &'a str,
     pub folder: &'a str,
     pub quiet: bool,
@@ -232,13 +239,40 @@ fn check_width(alloc: Global, matches: &ArgMatches<'_>) -> Result<(), Notice> {
     Err(Notice::from(fault))
 }
 
+// What parts the fields of the tables: a bar, or what the words have.
+fn delimiter_of(alloc: Global, matches: &ArgMatches<'_>) -> Result<Delimiter, Notice> {
+    let Some(word) = matches.get_str("delimiter") else {
+        return Ok(Delimiter::bar());
+    };
+    match Delimiter::of_word(word) {
+        Some(delimiter) => Ok(delimiter),
+        None => {
+            let told = format!(in alloc;
+                "invalid value '{word}' for '--delimiter <C>': wanted is one character of ASCII that is no digit, \
+                 letter, quote or end of a line, or tab"
+            )?;
+            let fault = command(alloc)?.error(ErrorKind::InvalidValue, told.as_str())?;
+            Err(Notice::from(fault))
+        }
+    }
+}
+
+// How the tables are laid out.
+fn layout_of(alloc: Global, matches: &ArgMatches<'_>) -> Result<TableLayout, Notice> {
+    Ok(TableLayout {
+        delimiter: delimiter_of(alloc, matches)?,
+        has_heads: matches.get_flag("heads"),
+    })
+}
+
 fn query_words<'a>(
     alloc: Global,
     matches: &ArgMatches<'a>,
     columns: Option<&str>,
-) -> Result<QueryWords<'a>, AllocError> {
+) -> Result<QueryWords<'a>, Notice> {
     Ok(QueryWords {
         data: word_of(matches, "data"),
+        layout: layout_of(alloc, matches)?,
         all: matches.get_flag("all"),
         board: matches.get_str("board"),
         format: format_of(matches, columns),
@@ -258,12 +292,10 @@ fn system_of(matches: &ArgMatches<'_>) -> Option<System> {
     }
 }
 
-fn explain_words<'a>(
-    alloc: Global,
-    matches: &ArgMatches<'a>,
-) -> Result<ExplainWords<'a>, AllocError> {
+fn explain_words<'a>(alloc: Global, matches: &ArgMatches<'a>) -> Result<ExplainWords<'a>, Notice> {
     Ok(ExplainWords {
         data: matches.get_str("data"),
+        layout: layout_of(alloc, matches)?,
         name: word_of(matches, "name"),
         constants: words_of(alloc, matches, "constants")?,
         sql: system_of(matches),
@@ -285,9 +317,10 @@ fn query_job<'a>(
     }
 }
 
-fn run_words<'a>(alloc: Global, matches: &ArgMatches<'a>) -> Result<RunWords<'a>, AllocError> {
+fn run_words<'a>(alloc: Global, matches: &ArgMatches<'a>) -> Result<RunWords<'a>, Notice> {
     Ok(RunWords {
         data: word_of(matches, "data"),
+        layout: layout_of(alloc, matches)?,
         scripts: words_of(alloc, matches, "scripts")?,
         trace: matches.get_str("trace"),
         standing: standing_of(matches),
@@ -298,9 +331,10 @@ fn run_words<'a>(alloc: Global, matches: &ArgMatches<'a>) -> Result<RunWords<'a>
     })
 }
 
-fn serve_words<'a>(alloc: Global, matches: &ArgMatches<'a>) -> Result<ServeWords<'a>, AllocError> {
+fn serve_words<'a>(alloc: Global, matches: &ArgMatches<'a>) -> Result<ServeWords<'a>, Notice> {
     Ok(ServeWords {
         data: word_of(matches, "data"),
+        layout: layout_of(alloc, matches)?,
         clients: words_of(alloc, matches, "clients")?,
         keep: matches.get_flag("keep"),
         journal: matches.get_str("journal"),
@@ -312,23 +346,25 @@ fn serve_words<'a>(alloc: Global, matches: &ArgMatches<'a>) -> Result<ServeWords
     })
 }
 
-fn audit_words<'a>(matches: &ArgMatches<'a>) -> AuditWords<'a> {
-    AuditWords {
+fn audit_words<'a>(alloc: Global, matches: &ArgMatches<'a>) -> Result<AuditWords<'a>, Notice> {
+    Ok(AuditWords {
         data: word_of(matches, "data"),
+        layout: layout_of(alloc, matches)?,
         trace: word_of(matches, "trace"),
         quiet: matches.get_flag("quiet"),
         hints: hints_of(matches),
-    }
+    })
 }
 
-fn export_words<'a>(matches: &ArgMatches<'a>) -> ExportWords<'a> {
-    ExportWords {
+fn export_words<'a>(alloc: Global, matches: &ArgMatches<'a>) -> Result<ExportWords<'a>, Notice> {
+    Ok(ExportWords {
         data: word_of(matches, "data"),
+        layout: layout_of(alloc, matches)?,
         journal: word_of(matches, "journal"),
         folder: word_of(matches, "to"),
         quiet: matches.get_flag("quiet"),
         hints: hints_of(matches),
-    }
+    })
 }
 
 /// What these words ask for, the program's name first, where the environment has this variable COLUMNS, or none; else
@@ -342,8 +378,8 @@ pub fn job_of<'a>(
     Ok(match matched.subcommand() {
         Some(("run", words)) => Job::Run(run_words(alloc, words)?),
         Some(("serve", words)) => Job::Serve(serve_words(alloc, words)?),
-        Some(("audit", words)) => Job::Audit(audit_words(words)),
-        Some(("export", words)) => Job::Export(export_words(words)),
+        Some(("audit", words)) => Job::Audit(audit_words(alloc, words)?),
+        Some(("export", words)) => Job::Export(export_words(alloc, words)?),
         Some((_, words)) => query_job(alloc, words, columns)?,
         None => Job::Script,
     })

@@ -7,7 +7,7 @@ ghost use Rattle.audit_command.specs.Audited.{Audits, AuditsPart, HasFault, IsLe
 ghost use Rattle.audit_command.specs.Audited.{SpeaksAgainst, verdict_text};
 ghost use Rattle.ssb_files.specs.Loaded.{AreRefused};
 ghost use Rattle.audit_command.specs.Status.{auditing_status};
-ghost use Rattle.ssb_text.specs.Load.{AreTexts};
+ghost use Rattle.ssb_text.specs.Layouts.{AreRows};
 ghost use Rattle.ssb_script.specs.Scripts.{most_records};
 ghost use Rattle.ssb_text.specs.Written.{AppendsPart};
 ghost use Rattle.ssb_schema.specs.declared.table.Table.{Table};
@@ -18,7 +18,7 @@ use ssb_audit::{Trace, audit};
 use ssb_base::Base;
 use ssb_files::{Fault, LoadedFor, base_of};
 use ssb_script::MOST_RECORDS;
-use ssb_text::{Piece, Tables, write_pieces};
+use ssb_text::{Piece, TableFiles, write_pieces};
 use ssb_trace::read_trace;
 use std::alloc::Global;
 use std::hash::RandomState;
@@ -65,16 +65,16 @@ fn check<R: Threads + Sync + AllocGlobal>(
 fn legal_trace<R: Threads + Sync + AllocGlobal, I: Read + Drop>(
     rt: &R,
     hashing: RandomState,
-    tables: Tables<I>,
+    tables: TableFiles<I>,
     source: I,
 ) -> Result<Trace, AuditingFault>
     ensures legal { IfOk result (λ trace. (texts : Table → List ℕ) (bytes : List ℕ)
-        → AreTexts I.remaining tables texts → I.remaining source ≡ Some bytes → IsLegalOver texts bytes trace) }
+        → AreRows I.remaining tables texts → I.remaining source ≡ Some bytes → IsLegalOver texts bytes trace) }
     ensures refused { IfErr result (λ fault. auditing_status fault ≡ 1 → (texts : Table → List ℕ) (bytes : List ℕ)
-        → AreTexts I.remaining tables texts → I.remaining source ≡ Some bytes
+        → AreRows I.remaining tables texts → I.remaining source ≡ Some bytes
         → AreRefused texts ⊎ IsRefusedTrace bytes) }
     ensures against { IfErr result (λ fault. auditing_status fault ≡ 3 → (texts : Table → List ℕ) (bytes : List ℕ)
-        → AreTexts I.remaining tables texts → I.remaining source ≡ Some bytes → SpeaksAgainst texts bytes) }
+        → AreRows I.remaining tables texts → I.remaining source ≡ Some bytes → SpeaksAgainst texts bytes) }
     ensures words { IfErr result (λ fault. auditing_status fault ≢ 2) }
 {
     let base = base_of(rt, rt.alloc(), tables, LoadedFor::Reports)?;
@@ -110,22 +110,22 @@ fn write_verdict<W: Write>(out: &mut W, trace: &Trace) -> Result<(), AuditingFau
 fn report<R: Threads + Sync + AllocGlobal, I: Read + Drop, W: Write>(
     rt: &R,
     hashing: RandomState,
-    tables: Tables<I>,
+    tables: TableFiles<I>,
     source: I,
     out: &mut W,
 ) -> Result<(), AuditingFault>
     ensures legal { OnOk result ((texts : Table → List ℕ) (bytes : List ℕ)
-        → AreTexts I.remaining tables texts → I.remaining source ≡ Some bytes
+        → AreRows I.remaining tables texts → I.remaining source ≡ Some bytes
         → Audits texts bytes (W.contents out.old) (W.contents out.new)) }
     ensures part { OnErr result ((W.contents out.new ≡ W.contents out.old)
-        ⊎ ((texts : Table → List ℕ) (bytes : List ℕ) → AreTexts I.remaining tables texts
+        ⊎ ((texts : Table → List ℕ) (bytes : List ℕ) → AreRows I.remaining tables texts
         → I.remaining source ≡ Some bytes
         → AuditsPart texts bytes (W.contents out.old) (W.contents out.new))) }
     ensures refused { IfErr result (λ fault. auditing_status fault ≡ 1 → (texts : Table → List ℕ) (bytes : List ℕ)
-        → AreTexts I.remaining tables texts → I.remaining source ≡ Some bytes
+        → AreRows I.remaining tables texts → I.remaining source ≡ Some bytes
         → AreRefused texts ⊎ IsRefusedTrace bytes) }
     ensures against { IfErr result (λ fault. auditing_status fault ≡ 3 → (texts : Table → List ℕ) (bytes : List ℕ)
-        → AreTexts I.remaining tables texts → I.remaining source ≡ Some bytes → SpeaksAgainst texts bytes) }
+        → AreRows I.remaining tables texts → I.remaining source ≡ Some bytes → SpeaksAgainst texts bytes) }
     ensures words { IfErr result (λ fault. auditing_status fault ≢ 2) }
 {
     let trace = legal_trace(rt, hashing, tables, source)?;
@@ -139,24 +139,24 @@ fn report<R: Threads + Sync + AllocGlobal, I: Read + Drop, W: Write>(
 pub fn run_audit<R: Threads + Sync + AllocGlobal, I: Read + Drop, W: Write, E: Write>(
     rt: &R,
     hashing: RandomState,
-    tables: Tables<I>,
+    tables: TableFiles<I>,
     source: I,
     out: &mut W,
     err: &mut E,
 ) -> u8
     ensures legal { result ≡ 0 → (texts : Table → List ℕ) (bytes : List ℕ)
-        → AreTexts I.remaining tables texts → I.remaining source ≡ Some bytes
+        → AreRows I.remaining tables texts → I.remaining source ≡ Some bytes
         → Audits texts bytes (W.contents out.old) (W.contents out.new) }
     ensures part { result ≢ 0 → (W.contents out.new ≡ W.contents out.old)
-        ⊎ ((texts : Table → List ℕ) (bytes : List ℕ) → AreTexts I.remaining tables texts
+        ⊎ ((texts : Table → List ℕ) (bytes : List ℕ) → AreRows I.remaining tables texts
         → I.remaining source ≡ Some bytes
         → AuditsPart texts bytes (W.contents out.old) (W.contents out.new)) }
     ensures quiet { result ≡ 0 → err.new ≡ err.old }
     ensures refused { result ≡ 1 → (texts : Table → List ℕ) (bytes : List ℕ)
-        → AreTexts I.remaining tables texts → I.remaining source ≡ Some bytes
+        → AreRows I.remaining tables texts → I.remaining source ≡ Some bytes
         → AreRefused texts ⊎ IsRefusedTrace bytes }
     ensures against { result ≡ 3 → (texts : Table → List ℕ) (bytes : List ℕ)
-        → AreTexts I.remaining tables texts → I.remaining source ≡ Some bytes
+        → AreRows I.remaining tables texts → I.remaining source ≡ Some bytes
         → SpeaksAgainst texts bytes }
     ensures words { result ≢ 2 }
 {

@@ -33,7 +33,7 @@ use ssb_hints::{
     FailedCalls, FaultLines, Observed, ObservedFiles, STANDARD_INPUT, STANDARD_OUTPUT,
 };
 use ssb_questions::Question;
-use ssb_text::Tables;
+use ssb_text::{TableFiles, Tables};
 use std::alloc::Global;
 use std::hash::RandomState;
 use std::io::{BufWriter, Print, Read, Write};
@@ -106,7 +106,10 @@ where
     let board = open_board(files, words)?;
     let hashing = hashing_of(rt)?;
     let screen = screen_of(rt, words.quiet, terminal);
-    let tables = watch_tables(screen.as_ref(), tables);
+    let tables = TableFiles {
+        tables: watch_tables(screen.as_ref(), tables),
+        layout: words.layout,
+    };
     let settings = Settings {
         hashing,
         times: words.times,
@@ -191,7 +194,10 @@ where
     };
     let tables = open_tables(files, data)?;
     let screen = screen_of(rt, words.quiet, terminal);
-    let tables = watch_tables(screen.as_ref(), tables);
+    let tables = TableFiles {
+        tables: watch_tables(screen.as_ref(), tables),
+        layout: words.layout,
+    };
     Ok(run_explain_over(rt, tables, words.name, constants, out, err))
 }
 
@@ -273,7 +279,10 @@ where
     } = opened;
     let screen = screen_of(rt, words.quiet, terminal);
     let scripts = watch_scripts(rt.alloc(), screen.as_ref(), scripts)?;
-    let tables = watch_tables(screen.as_ref(), tables);
+    let tables = TableFiles {
+        tables: watch_tables(screen.as_ref(), tables),
+        layout: words.layout,
+    };
     let input = RunInput {
         tables,
         sources: scripts,
@@ -388,7 +397,7 @@ fn journal_place<'a, 'f, F: Files + AllocGlobal>(
 fn serve_typed<R, F, T, I: Read + Drop + Send, W: Write + Drop + Send, E: Print + Sync>(
     rt: &R,
     settings: ServeSettings,
-    tables: Tables<T>,
+    tables: TableFiles<T>,
     place: Option<JournalPlace<'_, JournalPath<'_, F>>>,
     view: &TerminalView<'_, F>,
     streams: Streams<'_, I, W, E>,
@@ -422,7 +431,7 @@ where
 fn attend_clients<R, F, I: Read + Drop, E: Print + Sync>(
     rt: &R,
     settings: ServeSettings,
-    tables: Tables<I>,
+    tables: TableFiles<I>,
     place: Option<JournalPlace<'_, JournalPath<'_, F>>>,
     clients: PathClients<'_, F>,
     errors: &E,
@@ -478,7 +487,10 @@ where
     } = opened;
     let errors = streams.errors;
     let bytes = TableBytes::new();
-    let tables = count_tables(&bytes, tables);
+    let tables = TableFiles {
+        tables: count_tables(&bytes, tables),
+        layout: words.layout,
+    };
     let path = journal_path(files, journal.as_ref());
     let place = journal_place(path.as_ref(), &bytes, words.quiet);
     if !clients.is_empty() {
@@ -567,7 +579,10 @@ where
     let trace = open_file(files, words.trace)?;
     let hashing = hashing_of(rt)?;
     let screen = screen_of(rt, words.quiet, terminal);
-    let tables = watch_tables(screen.as_ref(), tables);
+    let tables = TableFiles {
+        tables: watch_tables(screen.as_ref(), tables),
+        layout: words.layout,
+    };
     let trace = watch(screen.as_ref(), InputSource::Trace, trace);
     Ok(run_audit(rt, hashing, tables, trace, out, err))
 }
@@ -589,7 +604,10 @@ where
     let screen = screen_of(rt, words.quiet, terminal);
     let tables = watch_tables(screen.as_ref(), tables);
     let bytes = TableBytes::new();
-    let tables = count_tables(&bytes, tables);
+    let tables = TableFiles {
+        tables: count_tables(&bytes, tables),
+        layout: words.layout,
+    };
     let journal = ReadPath {
         files,
         path: words.journal,
@@ -628,7 +646,8 @@ where
     let bytes = TableBytes::new();
     let path = journal_path(files, None);
     let place = journal_place(path.as_ref(), &bytes, true);
-    Ok(serve_typed(rt, settings, small_data::tables(), place, &view, streams))
+    let tables = TableFiles::benchmark(small_data::tables());
+    Ok(serve_typed(rt, settings, tables, place, &view, streams))
 }
 
 // Serves a script over the built-in tables.

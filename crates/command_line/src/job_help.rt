@@ -1,9 +1,14 @@
 //! Help about what a job names.
 
 use arguments::{Job, StandingWord};
-use ssb_hints::{FaultLines, Named, ObservedFiles, write_help, write_notes};
+use ssb_hints::{FaultLines, Named, NamedTables, ObservedFiles, write_help, write_notes};
+use ssb_text::TableLayout;
 use std::io::{Print, Write};
 use std::rt::Files;
+
+fn tables_named(folder: &str, layout: TableLayout) -> NamedTables<'_> {
+    NamedTables { folder, layout }
+}
 
 // What the words of a job name, as far as help looks at it again.
 fn named_by<'a>(job: &'a Job<'_>) -> Named<'a> {
@@ -11,39 +16,39 @@ fn named_by<'a>(job: &'a Job<'_>) -> Named<'a> {
     match job {
         Job::Script => nothing,
         Job::Query(words) => Named {
-            data: Some(words.data),
+            data: Some(tables_named(words.data, words.layout)),
             query: Some(words.name),
             constants: words.constants.as_slice(),
             board: words.board,
             ..nothing
         },
         Job::Explain(words) => Named {
-            data: words.data,
+            data: words.data.map(|folder| tables_named(folder, words.layout)),
             query: Some(words.name),
             constants: words.constants.as_slice(),
             ..nothing
         },
         Job::Run(words) => Named {
-            data: Some(words.data),
+            data: Some(tables_named(words.data, words.layout)),
             scripts: words.scripts.as_slice(),
             standing: standing_path(words.standing),
             trace: words.trace,
             ..nothing
         },
         Job::Serve(words) => Named {
-            data: Some(words.data),
+            data: Some(tables_named(words.data, words.layout)),
             standing: standing_path(words.standing),
             journal: words.journal,
             clients: words.clients.as_slice(),
             ..nothing
         },
         Job::Audit(words) => Named {
-            data: Some(words.data),
+            data: Some(tables_named(words.data, words.layout)),
             trace: Some(words.trace),
             ..nothing
         },
         Job::Export(words) => Named {
-            data: Some(words.data),
+            data: Some(tables_named(words.data, words.layout)),
             journal: Some(words.journal),
             ..nothing
         },

@@ -7,7 +7,7 @@ ghost use Rattle.export_command.specs.Exported.{HasSoMany, HasSoManyTorn, IsFill
 ghost use Rattle.export_command.specs.Exported.{TellsExportFault, TellsJournalFault, TellsNoJournal};
 ghost use Rattle.export_command.specs.Status.{export_status};
 ghost use Rattle.ssb_schema.specs.declared.table.Table.{Table};
-ghost use Rattle.ssb_text.specs.Load.{AreTexts};
+ghost use Rattle.ssb_text.specs.Layouts.{AreRows};
 ghost use Rattle.table_folder.specs.FilesFolder.{IsUntouched};
 
 use crate::fault::ExportRefusal::Journal;
@@ -19,7 +19,7 @@ use ssb_base::Base;
 use ssb_files::JobFault::{Found, Program};
 use ssb_files::{Fault, LoadedFor, TableBytes, checked_base_of};
 use ssb_journal::{HeadForm, OpenedJournal, TableMark, open, replay};
-use ssb_text::{Tables, tables_are_read_back};
+use ssb_text::{TableFiles, tables_are_read_back};
 use std::alloc::Global;
 use std::hash::RandomState;
 use std::io::{self, ErrorKind, Read, Write};
@@ -213,22 +213,23 @@ fn find_folder<'a, F: Files>(
 pub fn export<R: Threads + Sync + AllocGlobal, F: Files, P: OpensJournal, I: Read + Drop, E: Write>(
     rt: &R,
     hashing: RandomState,
-    tables: Tables<I>,
+    tables: TableFiles<I>,
     place: &ExportPlace<'_, F, P>,
     err: &mut E,
 ) -> Result<(), ExportFault>
-    ensures exported { OnOk result ((texts : Table → List ℕ) → AreTexts I.remaining tables texts
+    ensures exported { OnOk result ((texts : Table → List ℕ) → AreRows I.remaining tables texts
         → Exports texts (P.holds place.now.journal.now)) }
-    ensures fault { IfErr result (λ fault. (texts : Table → List ℕ) → AreTexts I.remaining tables texts
+    ensures fault { IfErr result (λ fault. (texts : Table → List ℕ) → AreRows I.remaining tables texts
         → TellsExportFault texts (P.holds place.now.journal.now) (P.is_taken place.now.journal.now) fault) }
     ensures words { IfErr result (λ fault. export_status fault ≢ 2) }
     ensures trace { IfErr result (λ fault. export_status fault ≢ 3) }
 {
     let alloc = rt.alloc();
     let mut folder = find_folder(place.files, alloc, place.folder)?;
+    let layout = tables.layout;
     let read = checked_base_of(rt, alloc, tables, LoadedFor::Serving)?;
     let (base, checksums) = read;
-    let marks = table_marks(&base, place.bytes, &checksums);
+    let marks = table_marks(&base, layout, place.bytes, &checksums);
     let base = Arc::new(alloc, base)?;
     let disk = match place.journal.open(alloc) {
         Ok(disk) => disk,
@@ -253,8 +254,14 @@ pub fn run_export<
     P: OpensJournal,
     I: Read + Drop,
     E: Write,
->(rt: &R, hashing: RandomState, tables: Tables<I>, place: &ExportPlace<'_, F, P>, err: &mut E) -> u8
-    ensures exported { result ≡ 0 → (texts : Table → List ℕ) → AreTexts I.remaining tables texts
+>(
+    rt: &R,
+    hashing: RandomState,
+    tables: TableFiles<I>,
+    place: &ExportPlace<'_, F, P>,
+    err: &mut E,
+) -> u8
+    ensures exported { result ≡ 0 → (texts : Table → List ℕ) → AreRows I.remaining tables texts
         → Exports texts (P.holds place.now.journal.now) }
     ensures others { result ≢ 0 → result ≢ 1 → result ≡ 4 }
 {

@@ -1,6 +1,6 @@
 //! By what a journal's head knows the tables.
 
-ghost use Rattle.std.specs.Prelude.{ℕ, List};
+ghost use Rattle.std.specs.Prelude.{◌≡◌, ℕ, List, All};
 ghost use Rattle.journal_opening.specs.Marks.{AreMarks, HaveChecksums};
 ghost use Rattle.ssb_schema.specs.declared.table.Table.{Table as Name};
 ghost use Rattle.ssb_text.specs.Checksums.{AreChecksums};
@@ -9,12 +9,18 @@ use ssb_base::Base;
 use ssb_files::TableBytes;
 use ssb_journal::TableMark;
 use ssb_schema::Table;
-use ssb_text::Tables;
+use ssb_text::{TableLayout, Tables};
 
-/// How many bytes and rows each table has, and the checksum of its bytes, in the order of a journal's head. Its bytes
-/// were counted while it was loaded.
-pub fn table_marks(base: &Base, bytes: &TableBytes, checksums: &Tables<[u8; 16]>) -> [TableMark; 5]
+/// How many bytes each table's file has, how it is laid out, how many rows it has and the checksum of their text, in
+/// the order of a journal's head. The bytes were counted while the table was loaded.
+pub fn table_marks(
+    base: &Base,
+    layout: TableLayout,
+    bytes: &TableBytes,
+    checksums: &Tables<[u8; 16]>,
+) -> [TableMark; 5]
     ensures marks { AreMarks base.now result }
+    ensures layout { All (λ mark. mark.layout ≡ layout) result }
     ensures checksums { (texts : Name → List ℕ) → AreChecksums texts checksums.now → HaveChecksums texts result }
 {
     let mark = |table: Table, rows: usize, checksum: [u8; 16]| TableMark {
@@ -22,6 +28,7 @@ pub fn table_marks(base: &Base, bytes: &TableBytes, checksums: &Tables<[u8; 16]>
         bytes: bytes.of(table),
         rows: rows as u64,
         checksum,
+        layout,
     };
     [
         mark(

@@ -11,7 +11,7 @@ ghost use Rattle.ssb_files.specs.Loaded.{AreRefused};
 ghost use Rattle.ssb_files.specs.Status.{status_of};
 ghost use Rattle.ssb_text.specs.Written.{AppendsPart};
 ghost use Rattle.ssb_schema.specs.declared.table.Table.{Table};
-ghost use Rattle.ssb_text.specs.Load.{AreTexts};
+ghost use Rattle.ssb_text.specs.Layouts.{AreRows};
 
 use crate::asked::ask;
 use crate::sizes::sizes;
@@ -19,7 +19,7 @@ use ssb_base::Base;
 use ssb_explain::{System, explanation, sql_statement};
 use ssb_files::{Fault, LoadedFor, base_of};
 use ssb_questions::{Question, question};
-use ssb_text::{Tables, write_bytes};
+use ssb_text::{TableFiles, write_bytes};
 use std::alloc::{AllocError, Global};
 use std::io::{Read, Write};
 use std::thread::Threads;
@@ -96,13 +96,13 @@ fn sized(alloc: Global, base: &Base, question: &Question) -> Result<String, Allo
 // The same over the base that the tables spell.
 fn sized_over<R: Threads + Sync + AllocGlobal, I: Read + Drop>(
     rt: &R,
-    tables: Tables<I>,
+    tables: TableFiles<I>,
     question: &Question,
 ) -> Result<String, Fault>
-    ensures text { IfOk result (λ text. (texts : Table → List ℕ) → AreTexts I.remaining tables texts
+    ensures text { IfOk result (λ text. (texts : Table → List ℕ) → AreRows I.remaining tables texts
         → HasSized texts question.now (string_bytes text)) }
     ensures data { IfErr result (λ fault. status_of fault ≡ 1 → (texts : Table → List ℕ)
-        → AreTexts I.remaining tables texts → AreRefused texts) }
+        → AreRows I.remaining tables texts → AreRefused texts) }
     ensures later { IfErr result (λ fault. status_of fault ≢ 2) }
 {
     let base = base_of(rt, rt.alloc(), tables, LoadedFor::Reports)?;
@@ -116,21 +116,21 @@ fn sized_over<R: Threads + Sync + AllocGlobal, I: Read + Drop>(
 /// data is refused, 2 where the question is, and else 4.
 pub fn run_explain_over<R: Threads + Sync + AllocGlobal, I: Read + Drop, W: Write, E: Write>(
     rt: &R,
-    tables: Tables<I>,
+    tables: TableFiles<I>,
     name: &str,
     constants: &[&str],
     out: &mut W,
     err: &mut E,
 ) -> u8
-    ensures explained { result ≡ 0 → (texts : Table → List ℕ) → AreTexts I.remaining tables texts
+    ensures explained { result ≡ 0 → (texts : Table → List ℕ) → AreRows I.remaining tables texts
         → ExplainsOver texts name.now (map (λ word. word.now) constants.now) (W.contents out.old)
         (W.contents out.new) }
     ensures fault { result ≢ 0 → (W.contents out.new ≡ W.contents out.old)
-        ⊎ ((texts : Table → List ℕ) → AreTexts I.remaining tables texts
+        ⊎ ((texts : Table → List ℕ) → AreRows I.remaining tables texts
         → ExplainsOverPart texts name.now (map (λ word. word.now) constants.now) (W.contents out.old)
         (W.contents out.new)) }
     ensures quiet { result ≡ 0 → err.new ≡ err.old }
-    ensures data { result ≡ 1 → (texts : Table → List ℕ) → AreTexts I.remaining tables texts → AreRefused texts }
+    ensures data { result ≡ 1 → (texts : Table → List ℕ) → AreRows I.remaining tables texts → AreRefused texts }
     ensures words { result ≡ 2 → AskNothing name.now (map (λ word. word.now) constants.now) }
 {
     let question = match ask(rt.alloc(), name, constants) {

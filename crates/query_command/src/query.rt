@@ -8,7 +8,7 @@ ghost use Rattle.query_command.specs.Reported.{HaveAnswers, HaveReport, Reports,
 ghost use Rattle.query_command.specs.Reported.{HasReports, ReportsBoard, ReportsBoardPart};
 ghost use Rattle.ssb_files.specs.Loaded.{AreRefused};
 ghost use Rattle.ssb_files.specs.Status.{status_of};
-ghost use Rattle.ssb_text.specs.Load.{AreTexts};
+ghost use Rattle.ssb_text.specs.Layouts.{AreRows};
 ghost use Rattle.ssb_formats.specs.Formats.{answers_shown};
 ghost use Rattle.ssb_formats.specs.Titled.{board_shown};
 ghost use Rattle.ssb_text.specs.Written.{AppendsPart};
@@ -24,7 +24,7 @@ use ssb_files::{Fault, JobFault, LoadedFor, base_of};
 use ssb_formats::{Format, FormatFault, write_board, write_formatted};
 use ssb_questions::Question;
 use ssb_schema::Text;
-use ssb_text::Tables;
+use ssb_text::TableFiles;
 use std::alloc::Global;
 use std::hash::RandomState;
 use std::io::{Read, Write};
@@ -46,14 +46,14 @@ pub struct Settings {
 fn answers<R: Threads + Sync + Clock + AllocGlobal, I: Read + Drop>(
     rt: &R,
     hashing: RandomState,
-    tables: Tables<I>,
+    tables: TableFiles<I>,
     questions: &[Question],
     watch: &mut Stopwatch,
 ) -> Result<Vec<Answer>, Fault>
-    ensures answers { IfOk result (λ answers. (texts : Table → List ℕ) → AreTexts I.remaining tables texts
+    ensures answers { IfOk result (λ answers. (texts : Table → List ℕ) → AreRows I.remaining tables texts
         → HaveAnswers texts questions.now answers.items) }
     ensures data { IfErr result (λ fault. status_of fault ≡ 1 → (texts : Table → List ℕ)
-        → AreTexts I.remaining tables texts → AreRefused texts) }
+        → AreRows I.remaining tables texts → AreRefused texts) }
     ensures later { IfErr result (λ fault. status_of fault ≢ 2) }
 {
     let base = base_of(rt, rt.alloc(), tables, LoadedFor::Reports)?;
@@ -123,20 +123,20 @@ fn write_titled<W: Write>(
 fn report<R: Threads + Sync + Clock + AllocGlobal, I: Read + Drop, W: Write>(
     rt: &R,
     settings: Settings,
-    tables: Tables<I>,
+    tables: TableFiles<I>,
     questions: &[Question],
     watch: &mut Stopwatch,
     out: &mut W,
 ) -> Result<(), Fault>
-    ensures report { OnOk result ((texts : Table → List ℕ) → AreTexts I.remaining tables texts
+    ensures report { OnOk result ((texts : Table → List ℕ) → AreRows I.remaining tables texts
         → (report : List ℕ) × HaveReport settings.format texts questions.now report × Appends (W.contents out.old)
         (W.contents out.new) report) }
     ensures fault { OnErr result ((W.contents out.new ≡ W.contents out.old)
-        ⊎ ((texts : Table → List ℕ) → AreTexts I.remaining tables texts
+        ⊎ ((texts : Table → List ℕ) → AreRows I.remaining tables texts
         → (report : List ℕ) × HaveReport settings.format texts questions.now report × AppendsPart (W.contents out.old)
         (W.contents out.new) report)) }
     ensures data { IfErr result (λ fault. status_of fault ≡ 1 → (texts : Table → List ℕ)
-        → AreTexts I.remaining tables texts → AreRefused texts) }
+        → AreRows I.remaining tables texts → AreRefused texts) }
     ensures later { IfErr result (λ fault. status_of fault ≢ 2) }
 {
     let answers = answers(rt, settings.hashing, tables, questions, watch)?;
@@ -157,20 +157,20 @@ fn tell_times<E: Write>(watch: &Stopwatch, times: bool, err: &mut E)
 fn run<R: Threads + Sync + Clock + AllocGlobal, I: Read + Drop, W: Write, E: Write>(
     rt: &R,
     settings: Settings,
-    tables: Tables<I>,
+    tables: TableFiles<I>,
     questions: &[Question],
     out: &mut W,
     err: &mut E,
 ) -> u8
-    ensures report { result ≡ 0 → (texts : Table → List ℕ) → AreTexts I.remaining tables texts
+    ensures report { result ≡ 0 → (texts : Table → List ℕ) → AreRows I.remaining tables texts
         → (report : List ℕ) × HaveReport settings.format texts questions.now report × Appends (W.contents out.old)
         (W.contents out.new) report }
     ensures fault { result ≢ 0 → (W.contents out.new ≡ W.contents out.old)
-        ⊎ ((texts : Table → List ℕ) → AreTexts I.remaining tables texts
+        ⊎ ((texts : Table → List ℕ) → AreRows I.remaining tables texts
         → (report : List ℕ) × HaveReport settings.format texts questions.now report × AppendsPart (W.contents out.old)
         (W.contents out.new) report) }
     ensures quiet { result ≡ 0 → settings.times ≡ false → err.new ≡ err.old }
-    ensures data { result ≡ 1 → (texts : Table → List ℕ) → AreTexts I.remaining tables texts → AreRefused texts }
+    ensures data { result ≡ 1 → (texts : Table → List ℕ) → AreRows I.remaining tables texts → AreRefused texts }
     ensures words { result ≢ 2 }
 {
     let times = settings.times;
@@ -190,20 +190,20 @@ fn run<R: Threads + Sync + Clock + AllocGlobal, I: Read + Drop, W: Write, E: Wri
 pub fn run_query<R: Threads + Sync + Clock + AllocGlobal, I: Read + Drop, W: Write, E: Write>(
     rt: &R,
     settings: Settings,
-    tables: Tables<I>,
+    tables: TableFiles<I>,
     words: QuestionWords<'_>,
     out: &mut W,
     err: &mut E,
 ) -> u8
-    ensures report { result ≡ 0 → (texts : Table → List ℕ) → AreTexts I.remaining tables texts
+    ensures report { result ≡ 0 → (texts : Table → List ℕ) → AreRows I.remaining tables texts
         → Reports settings.format texts words.entry.name.now (map (λ word. word.now) words.entry.constants.now)
         (W.contents out.old) (W.contents out.new) }
     ensures fault { result ≢ 0 → (W.contents out.new ≡ W.contents out.old)
-        ⊎ ((texts : Table → List ℕ) → AreTexts I.remaining tables texts
+        ⊎ ((texts : Table → List ℕ) → AreRows I.remaining tables texts
         → ReportsPart settings.format texts words.entry.name.now (map (λ word. word.now) words.entry.constants.now)
         (W.contents out.old) (W.contents out.new)) }
     ensures quiet { result ≡ 0 → settings.times ≡ false → err.new ≡ err.old }
-    ensures data { result ≡ 1 → (texts : Table → List ℕ) → AreTexts I.remaining tables texts → AreRefused texts }
+    ensures data { result ≡ 1 → (texts : Table → List ℕ) → AreRows I.remaining tables texts → AreRefused texts }
     ensures words { result ≡ 2 → AskNothing words.entry.name.now (map (λ word. word.now) words.entry.constants.now) }
 {
     let question = match ask(rt.alloc(), words.name, words.constants) {
@@ -219,17 +219,17 @@ pub fn run_query<R: Threads + Sync + Clock + AllocGlobal, I: Read + Drop, W: Wri
 pub fn run_all<R: Threads + Sync + Clock + AllocGlobal, I: Read + Drop, W: Write, E: Write>(
     rt: &R,
     settings: Settings,
-    tables: Tables<I>,
+    tables: TableFiles<I>,
     out: &mut W,
     err: &mut E,
 ) -> u8
-    ensures report { result ≡ 0 → (texts : Table → List ℕ) → AreTexts I.remaining tables texts
+    ensures report { result ≡ 0 → (texts : Table → List ℕ) → AreRows I.remaining tables texts
         → ReportsAll settings.format texts (W.contents out.old) (W.contents out.new) }
     ensures fault { result ≢ 0 → (W.contents out.new ≡ W.contents out.old)
-        ⊎ ((texts : Table → List ℕ) → AreTexts I.remaining tables texts
+        ⊎ ((texts : Table → List ℕ) → AreRows I.remaining tables texts
         → ReportsAllPart settings.format texts (W.contents out.old) (W.contents out.new)) }
     ensures quiet { result ≡ 0 → settings.times ≡ false → err.new ≡ err.old }
-    ensures data { result ≡ 1 → (texts : Table → List ℕ) → AreTexts I.remaining tables texts → AreRefused texts }
+    ensures data { result ≡ 1 → (texts : Table → List ℕ) → AreRows I.remaining tables texts → AreRefused texts }
     ensures words { result ≢ 2 }
 {
     let questions = match standard_questions(rt.alloc()) {
@@ -243,22 +243,22 @@ pub fn run_all<R: Threads + Sync + Clock + AllocGlobal, I: Read + Drop, W: Write
 fn report_board<R: Threads + Sync + Clock + AllocGlobal, I: Read + Drop, W: Write>(
     rt: &R,
     settings: Settings,
-    tables: Tables<I>,
+    tables: TableFiles<I>,
     board: &Board,
     watch: &mut Stopwatch,
     out: &mut W,
 ) -> Result<(), Fault>
-    ensures report { OnOk result ((texts : Table → List ℕ) → AreTexts I.remaining tables texts
+    ensures report { OnOk result ((texts : Table → List ℕ) → AreRows I.remaining tables texts
         → (report : List ℕ)
         × HasReports settings.format texts board.now.titles.items board.now.questions.items report
         × Appends (W.contents out.old) (W.contents out.new) report) }
     ensures fault { OnErr result ((W.contents out.new ≡ W.contents out.old)
-        ⊎ ((texts : Table → List ℕ) → AreTexts I.remaining tables texts
+        ⊎ ((texts : Table → List ℕ) → AreRows I.remaining tables texts
         → (report : List ℕ)
         × HasReports settings.format texts board.now.titles.items board.now.questions.items report
         × AppendsPart (W.contents out.old) (W.contents out.new) report)) }
     ensures data { IfErr result (λ fault. status_of fault ≡ 1 → (texts : Table → List ℕ)
-        → AreTexts I.remaining tables texts → AreRefused texts) }
+        → AreRows I.remaining tables texts → AreRefused texts) }
     ensures later { IfErr result (λ fault. status_of fault ≢ 2) }
 {
     let questions = board.questions.as_slice();
@@ -276,16 +276,16 @@ pub fn run_board<
     I: Read + Drop,
     W: Write,
     E: Write,
->(rt: &R, settings: Settings, source: B, tables: Tables<I>, out: &mut W, err: &mut E) -> u8
+>(rt: &R, settings: Settings, source: B, tables: TableFiles<I>, out: &mut W, err: &mut E) -> u8
     ensures reports { result ≡ 0 → (text : List ℕ) (texts : Table → List ℕ) → B.remaining source ≡ Some text
-        → AreTexts I.remaining tables texts
+        → AreRows I.remaining tables texts
         → ReportsBoard settings.format text texts (W.contents out.old) (W.contents out.new) }
     ensures fault { result ≢ 0 → (W.contents out.new ≡ W.contents out.old)
         ⊎ ((text : List ℕ) (texts : Table → List ℕ) → B.remaining source ≡ Some text
-        → AreTexts I.remaining tables texts
+        → AreRows I.remaining tables texts
         → ReportsBoardPart settings.format text texts (W.contents out.old) (W.contents out.new)) }
     ensures quiet { result ≡ 0 → settings.times ≡ false → err.new ≡ err.old }
-    ensures data { result ≡ 1 → (texts : Table → List ℕ) → AreTexts I.remaining tables texts → AreRefused texts }
+    ensures data { result ≡ 1 → (texts : Table → List ℕ) → AreRows I.remaining tables texts → AreRefused texts }
     ensures refused { result ≡ 2 → (W.contents out.new ≡ W.contents out.old)
         × ((text : List ℕ) → B.remaining source ≡ Some text → IsRefusedBoard text) }
 {

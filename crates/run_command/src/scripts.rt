@@ -11,7 +11,7 @@ ghost use Rattle.ssb_files.specs.Status.{status_of};
 ghost use Rattle.ssb_audit.specs.Legal.{IsLegalTrace};
 ghost use Rattle.run_command.specs.Served.{AreTold, AreToldInPart, IsServed, Serves, ServesPart, run_text};
 ghost use Rattle.run_command.specs.Status.{serving_status};
-ghost use Rattle.ssb_text.specs.Load.{AreTexts};
+ghost use Rattle.ssb_text.specs.Layouts.{AreRows};
 ghost use Rattle.ssb_text.specs.Written.{AppendsPart};
 ghost use Rattle.run_command.specs.Run.{IsRun};
 ghost use Rattle.history_core.specs.Counts.{most_clients};
@@ -27,7 +27,7 @@ use ssb_files::{Fault, LoadedFor, base_of, read_scripts};
 use ssb_questions::Question;
 use ssb_script::Script;
 use ssb_server::{Loaded, MOST_CLIENTS};
-use ssb_text::Tables;
+use ssb_text::TableFiles;
 use ssb_trace::write_trace;
 use std::hash::RandomState;
 use std::io::{Read, Write};
@@ -54,7 +54,7 @@ pub struct RunSettings {
 /// What is served: the base's tables, and the script of each client.
 #[derive(Drop)]
 pub struct RunInput<I: Read + Drop> {
-    pub tables: Tables<I>,
+    pub tables: TableFiles<I>,
     pub sources: Vec<I>,
 }
 
@@ -102,11 +102,11 @@ fn run_of<R: Threads + Sync + Wait + Clock + AllocGlobal, I: Read + Drop>(
     input: RunInput<I>,
     pace: &mut RunTimes,
 ) -> Result<Run, RunCommandFault>
-    ensures run { IfOk result (λ run. (texts : Table → List ℕ) → AreTexts I.remaining input.tables texts
+    ensures run { IfOk result (λ run. (texts : Table → List ℕ) → AreRows I.remaining input.tables texts
         → IsServed texts (map I.remaining input.sources.items) settings.dispatchers
         (map (λ report. report.items) run.reports.items) run.trace) }
     ensures refused { IfErr result (λ fault. serving_status fault ≡ 1 → (texts : Table → List ℕ)
-        → AreTexts I.remaining input.tables texts
+        → AreRows I.remaining input.tables texts
         → AreRefused texts ⊎ HasRefused (map I.remaining input.sources.items) ⊎ MayNotStand texts settings.standing.items) }
     ensures words { IfErr result (λ fault. serving_status fault ≢ 2) }
     ensures trace { IfErr result (λ fault. serving_status fault ≢ 3) }
@@ -203,15 +203,15 @@ fn report<R: Threads + Sync + Wait + Clock + AllocGlobal, I: Read + Drop, W: Wri
     file: &mut Option<T>,
     pace: &mut RunTimes,
 ) -> Result<(), RunCommandFault>
-    ensures served { OnOk result ((texts : Table → List ℕ) → AreTexts I.remaining input.tables texts
+    ensures served { OnOk result ((texts : Table → List ℕ) → AreRows I.remaining input.tables texts
         → Serves texts (map I.remaining input.sources.items) settings.dispatchers (W.contents out.old)
         (W.contents out.new) (option_and_then T.contents file.old) (option_and_then T.contents file.new)) }
     ensures part { OnErr result (((W.contents out.new ≡ W.contents out.old) × (file.new ≡ file.old))
-        ⊎ ((texts : Table → List ℕ) → AreTexts I.remaining input.tables texts
+        ⊎ ((texts : Table → List ℕ) → AreRows I.remaining input.tables texts
         → ServesPart texts (map I.remaining input.sources.items) settings.dispatchers (W.contents out.old)
         (W.contents out.new) (option_and_then T.contents file.old) (option_and_then T.contents file.new))) }
     ensures refused { IfErr result (λ fault. serving_status fault ≡ 1 → (texts : Table → List ℕ)
-        → AreTexts I.remaining input.tables texts
+        → AreRows I.remaining input.tables texts
         → AreRefused texts ⊎ HasRefused (map I.remaining input.sources.items) ⊎ MayNotStand texts settings.standing.items) }
     ensures words { IfErr result (λ fault. serving_status fault ≢ 2) }
     ensures trace { IfErr result (λ fault. serving_status fault ≢ 3) }
@@ -252,15 +252,15 @@ pub fn run_scripts<
     file: &mut Option<T>,
     err: &mut E,
 ) -> u8
-    ensures served { result ≡ 0 → (texts : Table → List ℕ) → AreTexts I.remaining input.tables texts
+    ensures served { result ≡ 0 → (texts : Table → List ℕ) → AreRows I.remaining input.tables texts
         → Serves texts (map I.remaining input.sources.items) settings.dispatchers (W.contents out.old)
         (W.contents out.new) (option_and_then T.contents file.old) (option_and_then T.contents file.new) }
     ensures part { result ≢ 0 → ((W.contents out.new ≡ W.contents out.old) × (file.new ≡ file.old))
-        ⊎ ((texts : Table → List ℕ) → AreTexts I.remaining input.tables texts
+        ⊎ ((texts : Table → List ℕ) → AreRows I.remaining input.tables texts
         → ServesPart texts (map I.remaining input.sources.items) settings.dispatchers (W.contents out.old)
         (W.contents out.new) (option_and_then T.contents file.old) (option_and_then T.contents file.new)) }
     ensures quiet { result ≡ 0 → settings.times ≡ false → err.new ≡ err.old }
-    ensures refused { result ≡ 1 → (texts : Table → List ℕ) → AreTexts I.remaining input.tables texts
+    ensures refused { result ≡ 1 → (texts : Table → List ℕ) → AreRows I.remaining input.tables texts
         → AreRefused texts ⊎ HasRefused (map I.remaining input.sources.items) ⊎ MayNotStand texts settings.standing.items }
     ensures many { (result ≡ 2) ↔ (most_clients < vec_len input.sources) }
     ensures trace { result ≢ 3 }

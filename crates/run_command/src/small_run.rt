@@ -16,7 +16,7 @@ use ssb_base::Base;
 use ssb_files::{Fault, LoadedFor, base_of};
 use ssb_script::{MOST_RECORDS, Script, read_script};
 use ssb_server::Loaded;
-use ssb_text::write_bytes;
+use ssb_text::{TableFiles, write_bytes};
 use std::alloc::Global;
 use std::hash::RandomState;
 use std::io::{Read, Write};
@@ -40,7 +40,8 @@ fn small_base(rt: &(impl Threads + Sync), alloc: Global) -> Result<Base, RunComm
     ensures base { IfOk result (λ base. IsLoaded small_texts base) }
     ensures data { IfErr result (λ fault. serving_status fault ≡ 1 → AreRefused small_texts) }
 {
-    let base = base_of(rt, alloc, tables(), LoadedFor::Reports)?;
+    let tables = TableFiles::benchmark(tables());
+    let base = base_of(rt, alloc, tables, LoadedFor::Reports)?;
     Ok(base)
 }
 

@@ -14,7 +14,7 @@ ghost use Rattle.ssb_journal.specs.Counts.{IsLeft};
 ghost use Rattle.ssb_schema.specs.declared.table.Table.{Table};
 ghost use Rattle.history_core.specs.Counts.{most_clients};
 ghost use Rattle.ssb_server.specs.Opening.{AreCounts};
-ghost use Rattle.ssb_text.specs.Load.{AreTexts};
+ghost use Rattle.ssb_text.specs.Layouts.{AreRows};
 ghost use Rattle.ssb_serving.specs.Streams.{IsStreamRun};
 
 use crate::acknowledging::Durable;
@@ -32,7 +32,7 @@ use ssb_journal::TableMark;
 use ssb_questions::Question;
 use ssb_server::Loaded;
 use ssb_serving::serve_streams;
-use ssb_text::Tables;
+use ssb_text::TableFiles;
 use std::hash::RandomState;
 use std::io::{Print, Read};
 use std::sync::{Arc, Wait};
@@ -99,13 +99,13 @@ fn load_tables<R: Threads + Sync + AllocGlobal, I: Read + Drop>(
     rt: &R,
     hashing: RandomState,
     standing: &[Question],
-    tables: Tables<I>,
+    tables: TableFiles<I>,
     watched: Watched,
 ) -> Result<LoadedTables, Fault>
-    ensures base { IfOk result (λ made. (texts : Table → List ℕ) → AreTexts I.remaining tables texts
+    ensures base { IfOk result (λ made. (texts : Table → List ℕ) → AreRows I.remaining tables texts
         → IsLoadedToServe texts made.loaded) }
     ensures refused { IfErr result (λ fault. status_of fault ≡ 1 → (texts : Table → List ℕ)
-        → AreTexts I.remaining tables texts → AreRefusedToServe texts ⊎ MayNotStandToServe texts standing.now) }
+        → AreRows I.remaining tables texts → AreRefusedToServe texts ⊎ MayNotStandToServe texts standing.now) }
     ensures words { IfErr result (λ fault. status_of fault ≢ 2) }
 {
     let Watched { told, figures } = watched;
@@ -124,23 +124,24 @@ fn load_marked<R: Threads + Sync + AllocGlobal, I: Read + Drop>(
     rt: &R,
     hashing: RandomState,
     standing: &[Question],
-    tables: Tables<I>,
+    tables: TableFiles<I>,
     bytes: &TableBytes,
     watched: Watched,
 ) -> Result<MarkedTables, Fault>
-    ensures base { IfOk result (λ made. (texts : Table → List ℕ) → AreTexts I.remaining tables texts
+    ensures base { IfOk result (λ made. (texts : Table → List ℕ) → AreRows I.remaining tables texts
         → IsLoadedToServe texts made.loaded) }
     ensures marked { IfOk result (λ made. AreMarks made.loaded made.marks) }
-    ensures checked { IfOk result (λ made. (texts : Table → List ℕ) → AreTexts I.remaining tables texts
+    ensures checked { IfOk result (λ made. (texts : Table → List ℕ) → AreRows I.remaining tables texts
         → HaveChecksums texts made.marks) }
     ensures refused { IfErr result (λ fault. status_of fault ≡ 1 → (texts : Table → List ℕ)
-        → AreTexts I.remaining tables texts → AreRefusedToServe texts ⊎ MayNotStandToServe texts standing.now) }
+        → AreRows I.remaining tables texts → AreRefusedToServe texts ⊎ MayNotStandToServe texts standing.now) }
     ensures words { IfErr result (λ fault. status_of fault ≢ 2) }
 {
+    let layout = tables.layout;
     let Watched { told, figures } = watched;
     let read = checked_base_of(rt, rt.alloc(), tables, LoadedFor::Serving)?;
     let (base, checksums) = read;
-    let marks = table_marks(&base, bytes, &checksums);
+    let marks = table_marks(&base, layout, bytes, &checksums);
     let ready = ReadyLine::of(&base, told);
     let base = Arc::new(rt.alloc(), base)?;
     let loaded = Loaded::new(rt, rt.alloc(), hashing, &base, standing)?;
@@ -250,7 +251,7 @@ where
 pub(crate) fn run_over<R, P, I, S, E>(
     rt: &R,
     settings: ServeSettings,
-    tables: Tables<I>,
+    tables: TableFiles<I>,
     place: Option<JournalPlace<'_, P>>,
     speakers: Vec<S>,
     screen: &E,
@@ -265,7 +266,7 @@ where
     S::Left: Drop + Send,
     E: Print,
     requires few { vec_len speakers ≤ most_clients }
-    ensures run { IfOk result (λ run. (texts : Table → List ℕ) → AreTexts I.remaining tables texts
+    ensures run { IfOk result (λ run. (texts : Table → List ℕ) → AreRows I.remaining tables texts
         → IsRunOver S.spoken (option_map (λ place. P.holds place.file.now) place.entry) texts speakers.items
         settings.dispatchers run.left.items run.log) }
     ensures left { IfOk result (λ run. vec_len run.left ≡ vec_len speakers) }
@@ -276,7 +277,7 @@ where
         run.left.items)) }
     ensures journal { IfOk result (λ run. is_some run.kept ≡ is_some place.entry) }
     ensures refused { IfErr result (λ fault. serving_status fault ≡ 1 → (texts : Table → List ℕ)
-        → AreTexts I.remaining tables texts → AreRefused texts settings.standing.items
+        → AreRows I.remaining tables texts → AreRefused texts settings.standing.items
         (option_map (λ place. P.holds place.file.now) place.entry)
         (IfSome place.entry (λ place. P.is_taken place.file.now))) }
     ensures words { IfErr result (λ fault. serving_status fault ≢ 2) }
@@ -298,7 +299,9 @@ where
             run_behind(rt, dispatchers, &place, tables, speakers, screen)
         },
         None => {
-            let LoadedTables { loaded, ready } = load_tables(rt, hashing, &standing, tables, watched)?;
+            let LoadedTables { loaded, ready } = load_tables(
+                rt, hashing, &standing, tables, watched,
+            )?;
             tell_ready(ready, screen);
             run_without(rt, dispatchers, loaded, speakers)
         },

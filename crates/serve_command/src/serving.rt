@@ -10,7 +10,7 @@ ghost use Rattle.serve_command.specs.Status.{serving_status};
 ghost use Rattle.ssb_schema.specs.declared.table.Table.{Table};
 ghost use Rattle.history_core.specs.Counts.{most_clients};
 ghost use Rattle.ssb_server.specs.Opening.{AreCounts};
-ghost use Rattle.ssb_text.specs.Load.{AreTexts};
+ghost use Rattle.ssb_text.specs.Layouts.{AreRows};
 
 use crate::attendant::Attendant;
 use crate::ends::EndPaths;
@@ -21,7 +21,7 @@ use crate::speakers::{PathClient, PathLeft, StreamClient, StreamLeft};
 use journal::KeepsTorn;
 use journal_opening::OpensJournal;
 use ssb_files::Fault;
-use ssb_text::Tables;
+use ssb_text::TableFiles;
 use std::alloc::AllocError;
 use std::io;
 use std::io::{Print, Read, Write};
@@ -56,7 +56,7 @@ struct AloneLeft<O: Write + Drop, D: Drop> {
 fn run_alone<R, P, I, J, O, E>(
     rt: &R,
     settings: ServeSettings,
-    tables: Tables<I>,
+    tables: TableFiles<I>,
     place: Option<JournalPlace<'_, P>>,
     client: StreamClient<J, O>,
     screen: &E,
@@ -70,14 +70,14 @@ where
     J: Read + Drop + Send,
     O: Write + Drop + Send,
     E: Print,
-    ensures ended { IfOk result (λ left. (texts : Table → List ℕ) → AreTexts I.remaining tables texts
+    ensures ended { IfOk result (λ left. (texts : Table → List ℕ) → AreRows I.remaining tables texts
         → HasEndedAlone left.one.ended (option_map (λ place. P.holds place.file.now) place.entry) texts
         settings.dispatchers (J.remaining client.input) (O.contents client.output) (O.contents left.one.output)
         (λ log told. IfSome left.kept (λ kept. AreOnDisk (P.Opened.may_leave kept.disk) (P.Opened.seen kept.disk)
         (IsTrue kept.was_written) log told))) }
     ensures journal { IfOk result (λ left. is_some left.kept ≡ is_some place.entry) }
     ensures refused { IfErr result (λ fault. serving_status fault ≡ 1 → (texts : Table → List ℕ)
-        → AreTexts I.remaining tables texts → AreRefused texts settings.standing.items
+        → AreRows I.remaining tables texts → AreRefused texts settings.standing.items
         (option_map (λ place. P.holds place.file.now) place.entry)
         (IfSome place.entry (λ place. P.is_taken place.file.now))) }
     ensures words { IfErr result (λ fault. serving_status fault ≢ 2) }
@@ -152,7 +152,7 @@ fn tell_end<E: Write>(ended: &Result<Served, SessionError>, written: bool, err: 
 pub fn serve_stream<R, P, I, J, O, E>(
     rt: &R,
     settings: ServeSettings,
-    tables: Tables<I>,
+    tables: TableFiles<I>,
     place: Option<JournalPlace<'_, P>>,
     client: StreamClient<J, O>,
     screen: &E,
@@ -166,14 +166,14 @@ where
     J: Read + Drop + Send,
     O: Write + Drop + Send,
     E: Print,
-    ensures ended { IfSome result.output (λ output. (texts : Table → List ℕ) → AreTexts I.remaining tables texts
+    ensures ended { IfSome result.output (λ output. (texts : Table → List ℕ) → AreRows I.remaining tables texts
         → EndsAlone result.status (option_map (λ place. P.holds place.file.now) place.entry) texts settings.dispatchers
         (J.remaining client.input) (O.contents client.output) (O.contents output)
         (λ log told. IfSome result.disk (λ disk. AreOnDisk (P.Opened.may_leave disk) (P.Opened.seen disk)
         (result.status ≡ 0) log told))) }
     ensures closed { result.status ≡ 0 → IsSome result.output }
     ensures disk { MatchOption result.output (result.disk ≡ None) (λ _. is_some result.disk ≡ is_some place.entry) }
-    ensures refused { result.status ≡ 1 → (texts : Table → List ℕ) → AreTexts I.remaining tables texts
+    ensures refused { result.status ≡ 1 → (texts : Table → List ℕ) → AreRows I.remaining tables texts
         → AreRefused texts settings.standing.items (option_map (λ place. P.holds place.file.now) place.entry)
         (IfSome place.entry (λ place. P.is_taken place.file.now)) }
     ensures others { result.status ≢ 0 → result.status ≢ 1 → result.status ≡ 4 }
@@ -281,7 +281,7 @@ fn tell_clients<E: Write>(was_written: bool, all_served: bool, err: &mut E) -> u
 pub fn serve_clients<R, F, P, I, E>(
     rt: &R,
     settings: ServeSettings,
-    tables: Tables<I>,
+    tables: TableFiles<I>,
     place: Option<JournalPlace<'_, P>>,
     clients: PathClients<'_, F>,
     screen: &E,
@@ -297,7 +297,7 @@ where
     I: Read + Drop,
     E: Print + Sync,
     ensures served { (result.status ≡ 0) ⊎ IsSome result.disk → (texts : Table → List ℕ)
-        → AreTexts I.remaining tables texts
+        → AreRows I.remaining tables texts
         → ServesClients result.status (option_map (λ place. P.holds place.file.now) place.entry) texts
         (vec_len clients.entry.ends) settings.dispatchers
         (λ log told. IfSome result.disk (λ disk. AreOnDisk (P.Opened.may_leave disk) (P.Opened.seen disk)
@@ -305,7 +305,7 @@ where
     ensures disk { result.status ≡ 0 → is_some result.disk ≡ is_some place.entry }
     ensures counts { result.status ≡ 0 → IsNone place.entry
         → AreCounts (vec_len clients.entry.ends) settings.dispatchers }
-    ensures refused { result.status ≡ 1 → (texts : Table → List ℕ) → AreTexts I.remaining tables texts
+    ensures refused { result.status ≡ 1 → (texts : Table → List ℕ) → AreRows I.remaining tables texts
         → AreRefused texts settings.standing.items (option_map (λ place. P.holds place.file.now) place.entry)
         (IfSome place.entry (λ place. P.is_taken place.file.now)) }
     ensures many { (result.status ≡ 2) ↔ (most_clients < vec_len clients.entry.ends) }

@@ -1,5 +1,6 @@
 pub mod Status
 pub mod Loaded
+pub mod Told
 pub mod Scripts
 pub mod Standing
 pub mod Paths

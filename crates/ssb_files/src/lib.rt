@@ -12,8 +12,9 @@
 //! failed read, failed write, want of memory ─▶ 4              each with one line: ssb_live: WHAT
 //! ```
 //!
-//! The contracts: [`base_of`] gives the base that the texts spell, for what it is loaded for, or a fault that they have
-//! (`specs/Loaded.antt`), and [`checked_base_of`] their checksums too; [`check_paths`] tells the first of the paths
+//! The contracts: [`base_of`] gives the base that the texts of the rows spell, whatever the files' layout, for what it
+//! is loaded for, or a fault that they have (`specs/Loaded.antt`, `specs/Told.antt`), and [`checked_base_of`] their
+//! checksums too; [`check_paths`] tells the first of the paths
 //! that may not be used beside those before it (`specs/Paths.antt`); [`read_scripts`] gives the scripts, or the first
 //! fault (`specs/Scripts.antt`); [`read_standing`] the questions of a script that asks and does nothing else, or its
 //! first fault, and which of them may not stand over a base, says `specs/Standing.antt`; a reader that is watched gives
@@ -23,7 +24,8 @@
 //!
 //! ```text
 //! let tables = open_tables(rt, "tables")?;
-//! let base = base_of(rt, alloc, watch_tables(screen.as_ref(), tables), LoadedFor::Reports)?;
+//! let tables = TableFiles { tables: watch_tables(screen.as_ref(), tables), layout };
+//! let base = base_of(rt, alloc, tables, LoadedFor::Reports)?;
 //! Err(fault) => fault.tell(&mut err)      // ssb_live: data: 21 FieldCount lineorder 2
 //! ```
 #![tactic(auto)]

@@ -3,14 +3,17 @@
 ghost use Rattle.std.specs.Prelude.{◌≡◌, ◌≢◌, ℕ, List, IfOk, IfErr};
 ghost use Rattle.ssb_base.specs.Limits.{limits_of, most_dimension_rows, most_lines};
 ghost use Rattle.ssb_files.specs.Loaded.{AreRefusedFor, IsLoadedFor, commits_for};
-ghost use Rattle.ssb_files.specs.Status.{status_of};
+ghost use Rattle.ssb_files.specs.Status.{data_status, status_of};
+ghost use Rattle.ssb_files.specs.Told as spec;
 ghost use Rattle.ssb_text.specs.Checksums.{AreChecksums};
+ghost use Rattle.ssb_text.specs.Layouts.{AreRows, barred_remaining};
 ghost use Rattle.ssb_text.specs.Load.{AreTexts};
 ghost use Rattle.ssb_schema.specs.declared.table.Table.{Table};
 
 use crate::fault::Fault;
 use ssb_base::{Base, Limits};
-use ssb_text::{Tables, load, load_with_checksums};
+use ssb_schema::SchemaFault;
+use ssb_text::{Barred, LoadError, TableFiles, Tables, load, load_with_checksums};
 use std::alloc::Global;
 use std::io::Read;
 use std::thread::Threads;
@@ -37,45 +40,103 @@ fn limits_for(purpose: LoadedFor) -> Limits
     }
 }
 
-/// The base that the tables spell, within the greatest limits but for its commits, by as many threads as there are
-/// processors.
-pub fn base_of<I: Read + Drop>(
-    rt: &(impl Threads + Sync),
-    alloc: Global,
-    tables: Tables<I>,
-    purpose: LoadedFor,
-) -> Result<Base, Fault>
-    ensures base { IfOk result (λ base. (texts : Table → List ℕ)
-        → AreTexts I.remaining tables texts → IsLoadedFor (commits_for purpose) texts base) }
+// The rows of the tables' files.
+fn rows_of<I: Read + Drop>(tables: TableFiles<I>) -> Result<Tables<Barred<I>>, Fault>
+    ensures rows { IfOk result (λ rows. (texts : Table → List ℕ) → AreRows I.remaining tables texts
+        → AreTexts (barred_remaining I.remaining) rows texts) }
     ensures data { IfErr result (λ fault. status_of fault ≡ 1 → (texts : Table → List ℕ)
-        → AreTexts I.remaining tables texts → AreRefusedFor (commits_for purpose) texts) }
+        → AreRows I.remaining tables texts → ⊥) }
     ensures later { IfErr result (λ fault. status_of fault ≢ 2) }
     ensures earlier { IfErr result (λ fault. status_of fault ≢ 3) }
 {
-    match load(rt, alloc, limits_for(purpose), BLOCK, tables) {
-        Ok(base) => Ok(base),
+    match tables.into_rows() {
+        Ok(rows) => Ok(rows),
         Err(fault) => Err(Fault::Data(fault)),
     }
 }
 
-/// The same, and the checksums of the bytes of the tables, by which a journal knows these again.
-pub fn checked_base_of<I: Read + Drop>(
+// The number of a row below a line of heads, which is row 1.
+fn below(row: usize) -> usize
+    ensures { result ≡ spec.below row }
+{
+    row.saturating_add(1)
+}
+
+// What is refused of a row below a line of heads.
+fn refused_below(fault: SchemaFault) -> SchemaFault
+    ensures { result ≡ spec.refused_below fault }
+{
+    match fault {
+        SchemaFault::KeyRepeated(table, row) => SchemaFault::KeyRepeated(table, below(row)),
+        SchemaFault::UnknownKey(row, table) => SchemaFault::UnknownKey(below(row), table),
+        other => other,
+    }
+}
+
+// A fault of rows, as it is told where a line of heads stands above them or not.
+fn told(fault: LoadError, has_heads: bool) -> LoadError
+    ensures fault { result ≡ spec.told has_heads fault }
+    ensures status { data_status result ≡ data_status fault }
+{
+    if !has_heads {
+        return fault;
+    }
+    match fault {
+        LoadError::FieldCount(table, row) => LoadError::FieldCount(table, below(row)),
+        LoadError::NotUtf8(table, row, column) => LoadError::NotUtf8(table, below(row), column),
+        LoadError::NotANumber(table, row, column) => LoadError::NotANumber(
+            table,
+            below(row),
+            column,
+        ),
+        LoadError::Row(table, row, why) => LoadError::Row(table, below(row), refused_below(why)),
+        other => other,
+    }
+}
+
+/// The base that the rows of the tables spell, within the greatest limits but for its commits, by as many threads as
+/// there are processors. Where lines of heads stand above the rows, a fault counts them: each is row 1 of its table.
+pub fn base_of<I: Read + Drop>(
     rt: &(impl Threads + Sync),
     alloc: Global,
-    tables: Tables<I>,
+    tables: TableFiles<I>,
     purpose: LoadedFor,
-) -> Result<(Base, Tables<[u8; 16]>), Fault>
-    ensures base { IfOk result (λ loaded. (texts : Table → List ℕ)
-        → AreTexts I.remaining tables texts → IsLoadedFor (commits_for purpose) texts loaded.0) }
-    ensures checksums { IfOk result (λ loaded. (texts : Table → List ℕ)
-        → AreTexts I.remaining tables texts → AreChecksums texts loaded.1) }
+) -> Result<Base, Fault>
+    ensures base { IfOk result (λ base. (texts : Table → List ℕ)
+        → AreRows I.remaining tables texts → IsLoadedFor (commits_for purpose) texts base) }
     ensures data { IfErr result (λ fault. status_of fault ≡ 1 → (texts : Table → List ℕ)
-        → AreTexts I.remaining tables texts → AreRefusedFor (commits_for purpose) texts) }
+        → AreRows I.remaining tables texts → AreRefusedFor (commits_for purpose) texts) }
     ensures later { IfErr result (λ fault. status_of fault ≢ 2) }
     ensures earlier { IfErr result (λ fault. status_of fault ≢ 3) }
 {
-    match load_with_checksums(rt, alloc, limits_for(purpose), BLOCK, tables) {
+    let has_heads = tables.layout.has_heads;
+    let rows = rows_of(tables)?;
+    match load(rt, alloc, limits_for(purpose), BLOCK, rows) {
+        Ok(base) => Ok(base),
+        Err(fault) => Err(Fault::Data(told(fault, has_heads))),
+    }
+}
+
+/// The same, and the checksums of the texts of the rows, by which a journal knows the tables again.
+pub fn checked_base_of<I: Read + Drop>(
+    rt: &(impl Threads + Sync),
+    alloc: Global,
+    tables: TableFiles<I>,
+    purpose: LoadedFor,
+) -> Result<(Base, Tables<[u8; 16]>), Fault>
+    ensures base { IfOk result (λ loaded. (texts : Table → List ℕ)
+        → AreRows I.remaining tables texts → IsLoadedFor (commits_for purpose) texts loaded.0) }
+    ensures checksums { IfOk result (λ loaded. (texts : Table → List ℕ)
+        → AreRows I.remaining tables texts → AreChecksums texts loaded.1) }
+    ensures data { IfErr result (λ fault. status_of fault ≡ 1 → (texts : Table → List ℕ)
+        → AreRows I.remaining tables texts → AreRefusedFor (commits_for purpose) texts) }
+    ensures later { IfErr result (λ fault. status_of fault ≢ 2) }
+    ensures earlier { IfErr result (λ fault. status_of fault ≢ 3) }
+{
+    let has_heads = tables.layout.has_heads;
+    let rows = rows_of(tables)?;
+    match load_with_checksums(rt, alloc, limits_for(purpose), BLOCK, rows) {
         Ok(loaded) => Ok(loaded),
-        Err(fault) => Err(Fault::Data(fault)),
+        Err(fault) => Err(Fault::Data(told(fault, has_heads))),
     }
 }

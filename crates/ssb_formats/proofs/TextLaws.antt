@@ -11,11 +11,12 @@ pub number_is_text : (n : ℕ) → IsUtf8 (decimal n)
 number_is_text n = digits-IsUtf8 10 false n (omega arith) (omega arith)
 
 -- a name, and a number behind it
-pub numbered_is_text : (name : List ℕ) (n : ℕ) → IsUtf8 name → IsUtf8 (name ++ decimal n ++ [])
+pub numbered_is_text : (name : List ℕ) (n : ℕ) → IsUtf8 name → IsUtf8 (name ++ (decimal n ++ []))
 numbered_is_text name n text =
     IsUtf8-append name (decimal n ++ []) text (IsUtf8-append (decimal n) [] (number_is_text n) IsUtf8-nil)
 
 pub cause_is_text : (cause : Cause) → IsUtf8 (cause_text cause)
+unfolding lib.Utf8.encode
 cause_is_text LogFull = (codes "40 LogFull", (refl, refl))
 cause_is_text (Present key) = numbered_is_text (codes "41 Present ") key (codes "41 Present ", (refl, refl))
 cause_is_text UnknownCustomer = (codes "42 UnknownCustomer", (refl, refl))

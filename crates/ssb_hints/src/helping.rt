@@ -28,7 +28,6 @@ fn script_of<'a>(named: &Named<'a>, number: &str) -> Option<&'a str> {
 // The path that a fault's subject stands for.
 fn path_of<'a>(named: &Named<'a>, subject: &str) -> Option<&'a str> {
     match subject {
-        "data" => named.data,
         "board" => named.board,
         "standing" => named.standing,
         "trace" => named.trace,
@@ -45,11 +44,13 @@ fn help_with_numbered<F: Files, E: Write>(
     words: &[&str],
     err: &mut E,
 ) -> io::Result<()> {
+    if let ("data", Some(tables)) = (subject, named.data) {
+        return help_with_tables(files, tables, words, err);
+    }
     let Some(path) = path_of(named, subject) else {
         return Ok(());
     };
     match subject {
-        "data" => help_with_tables(files, path, words, err),
         "board" => help_with_board(files, path, words, err),
         "trace" => help_with_trace(files, path, words, err),
         "journal" => help_with_journal(files, path, words, err),
@@ -173,7 +174,7 @@ pub fn write_help<F: Files, P: Print, E: Write>(
 /// Writes what the question of a command looks for that no row has, where it was answered: one line or more, each begun
 /// with `note: `, or none.
 pub fn write_notes<F: Files + AllocGlobal, E: Write>(files: &F, named: &Named<'_>, err: &mut E) {
-    if let (Some(folder), Some(name)) = (named.data, named.query) {
-        let _ = note_question(files, folder, name, named.constants, err);
+    if let (Some(tables), Some(name)) = (named.data, named.query) {
+        let _ = note_question(files, tables, name, named.constants, err);
     }
 }

@@ -52,7 +52,7 @@ pub use failed_calls::{FailedCalls, STANDARD_INPUT, STANDARD_OUTPUT};
 pub use fault_lines::FaultLines;
 pub use helping::{write_help, write_notes};
 pub use journals::JournalHelp;
-pub use named::Named;
+pub use named::{Named, NamedTables};
 pub use notes::QuestionNote;
 pub use observed::Observed;
 pub use observed_files::ObservedFiles;

@@ -1,10 +1,18 @@
 //! What a command's words name.
 
+use ssb_text::TableLayout;
+
+/// The tables that a command's words name: their folder, and how they are laid out.
+#[derive(Clone, Copy)]
+pub struct NamedTables<'a> {
+    pub folder: &'a str,
+    pub layout: TableLayout,
+}
+
 /// What a command's words name, as far as its faults are about it.
 #[derive(Clone, Copy)]
 pub struct Named<'a> {
-    /// The folder of the tables.
-    pub data: Option<&'a str>,
+    pub data: Option<NamedTables<'a>>,
     /// The query, where one is asked.
     pub query: Option<&'a str>,
     /// Its constants.

@@ -1,11 +1,12 @@
 //! What a question asks for that no row has.
 
 use crate::asking::{Asked, ask};
+use crate::named::NamedTables;
 use crate::nearest::nearest;
 use csv::ByteRecord;
 use ssb_questions::{Cond, NumberRange, Plan, Test, question};
 use ssb_schema::{Column, Text};
-use ssb_text::{next_record, record_reader, text, trimmed_at};
+use ssb_text::{Barred, next_record, record_reader, text, trimmed_at};
 use std::collections::BTreeSet;
 use std::io::Write;
 use std::rt::Files;
@@ -63,20 +64,24 @@ fn write_note<E: Write>(err: &mut E, note: &QuestionNote<'_>) -> io::Result<()> 
     writeln!(err, "note: {note}")
 }
 
-// The values that the rows of a folder have in a column of a dimension.
+// The values that the rows of a dimension's table have in a column.
 fn values_in<F: Files + AllocGlobal>(
     files: &F,
-    folder: &str,
+    tables: NamedTables<'_>,
     column: Column,
 ) -> io::Result<BTreeSet<String>> {
-    let path = format!(in files.alloc(); "{folder}/{}.tbl", column.table)?;
-    let mut reader = record_reader(files.alloc(), fs::open(files, path.as_str())?);
+    let path = format!(in files.alloc(); "{}/{}.tbl", tables.folder, column.table)?;
+    let file = Barred::new(fs::open(files, path.as_str())?, tables.layout.delimiter);
+    let mut reader = record_reader(files.alloc(), file);
     let mut record = ByteRecord::new(files.alloc());
     let mut values = BTreeSet::new(files.alloc());
-    for _ in 0..u64::MAX {
+    for number in 0..u64::MAX {
         match next_record(&mut reader, &mut record) {
             Ok(true) => {}
             _ => break,
+        }
+        if number == 0 && tables.layout.has_heads {
+            continue;
         }
         let value = text(trimmed_at(&record, column.place.saturating_sub(1))).unwrap_or("");
         if !values.contains(value) {
@@ -122,12 +127,12 @@ fn note_number<F: Files + AllocGlobal, E: Write>(
 // Says which of the values that a test looks for no row has.
 fn note_values<F: Files + AllocGlobal, E: Write>(
     files: &F,
-    folder: &str,
+    tables: NamedTables<'_>,
     test: &Test,
     err: &mut E,
 ) -> io::Result<()> {
     let column = test.column;
-    let values = values_in(files, folder, column)?;
+    let values = values_in(files, tables, column)?;
     match &test.cond {
         Cond::TextIs(text) => note_value(files, column, text.as_str(), &values, err),
         Cond::TextOneOf(texts) => {
@@ -178,25 +183,25 @@ fn note_texts<E: Write>(name: &str, from: &Text, to: &Text, err: &mut E) -> io::
 
 fn note_test<F: Files + AllocGlobal, E: Write>(
     files: &F,
-    folder: &str,
+    tables: NamedTables<'_>,
     test: &Test,
     err: &mut E,
 ) -> io::Result<()> {
     match &test.cond {
         Cond::TextFromTo(from, to) => note_texts(test.column.name(), from, to, err),
         Cond::NumberFromTo(from, to) => note_range(files, test.column.name(), *from, *to, err),
-        _ => note_values(files, folder, test, err),
+        _ => note_values(files, tables, test, err),
     }
 }
 
 fn note_tests<F: Files + AllocGlobal, E: Write>(
     files: &F,
-    folder: &str,
+    tables: NamedTables<'_>,
     tests: &[Test],
     err: &mut E,
 ) -> io::Result<()> {
     for test in tests {
-        note_test(files, folder, test, err)?;
+        note_test(files, tables, test, err)?;
     }
     Ok(())
 }
@@ -215,23 +220,23 @@ fn note_line_range<F: Files + AllocGlobal, E: Write>(
 
 fn note_plan<F: Files + AllocGlobal, E: Write>(
     files: &F,
-    folder: &str,
+    tables: NamedTables<'_>,
     plan: &Plan,
     err: &mut E,
 ) -> io::Result<()> {
     note_line_range(files, "LO_QUANTITY", plan.quantity, err)?;
     note_line_range(files, "LO_DISCOUNT", plan.discount, err)?;
-    note_tests(files, folder, plan.customers.as_slice(), err)?;
-    note_tests(files, folder, plan.suppliers.as_slice(), err)?;
-    note_tests(files, folder, plan.parts.as_slice(), err)?;
-    note_tests(files, folder, plan.dates.as_slice(), err)
+    note_tests(files, tables, plan.customers.as_slice(), err)?;
+    note_tests(files, tables, plan.suppliers.as_slice(), err)?;
+    note_tests(files, tables, plan.parts.as_slice(), err)?;
+    note_tests(files, tables, plan.dates.as_slice(), err)
 }
 
-/// Says which values the question of this name and these constants looks for that no row of the folder has, and which
+/// Says which values the question of this name and these constants looks for that no row of the tables has, and which
 /// ranges hold nothing. The benchmark's own constants are in every data set of its generator: they are not looked at.
 pub fn note_question<F: Files + AllocGlobal, E: Write>(
     files: &F,
-    folder: &str,
+    tables: NamedTables<'_>,
     name: &str,
     words: &[&str],
     err: &mut E,
@@ -242,7 +247,7 @@ pub fn note_question<F: Files + AllocGlobal, E: Write>(
     match ask(files.alloc(), name, words)? {
         Asked::Question(question) => {
             let plan = question::plan(files.alloc(), &question)?;
-            note_plan(files, folder, &plan, err)
+            note_plan(files, tables, &plan, err)
         }
         _ => Ok(()),
     }

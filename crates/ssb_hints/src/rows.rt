@@ -1,12 +1,13 @@
 //! What is wrong with a row of a table's file.
 
 use crate::lines::write_line;
+use crate::named::NamedTables;
 use crate::observed_files::ObservedFiles;
 use crate::paths::help_with_path;
 use crate::records::{open_plain, record_of, text_at};
 use csv::ByteRecord;
 use ssb_schema::{Column, Kind, Table};
-use ssb_text::{field_at, trimmed_at};
+use ssb_text::{Barred, Delimiter, field_at, trimmed_at};
 use std::alloc::Global;
 use std::io::Write;
 use std::rt::Files;
@@ -264,12 +265,13 @@ fn told_row<'a, F: Files + AllocGlobal>(
     files: &F,
     path: &'a str,
     table: Table,
+    delimiter: Delimiter,
     number: &str,
 ) -> io::Result<Option<ToldRow<'a>>> {
     let Ok(row) = number.parse::<u64>() else {
         return Ok(None);
     };
-    let file = open_plain(files, path)?;
+    let file = Barred::new(open_plain(files, path)?, delimiter);
     let Some(record) = record_of(files.alloc(), file, row)? else {
         return Ok(None);
     };
@@ -281,11 +283,11 @@ fn told_row<'a, F: Files + AllocGlobal>(
     }))
 }
 
-/// Says what is wrong with tables of a folder, by the words of the fault: its number, its name, the table, and the row
-/// with what else it tells.
+/// Says what is wrong with tables, by the words of the fault: its number, its name, the table, and the row with what
+/// else it tells. A row is counted with the line of heads, as a fault counts it.
 pub fn help_with_tables<F: Files, E: Write>(
     files: &ObservedFiles<'_, F>,
-    folder: &str,
+    tables: NamedTables<'_>,
     words: &[&str],
     err: &mut E,
 ) -> io::Result<()> {
@@ -295,11 +297,11 @@ pub fn help_with_tables<F: Files, E: Write>(
     let Some(table) = table_named(name) else {
         return Ok(());
     };
-    let path = format!(in files.alloc(); "{folder}/{table}.tbl")?;
+    let path = format!(in files.alloc(); "{}/{table}.tbl", tables.folder)?;
     let [row, rest @ ..] = rest else {
         return help_with_path(files, path.as_str(), err);
     };
-    match told_row(files, path.as_str(), table, row)? {
+    match told_row(files, path.as_str(), table, tables.layout.delimiter, row)? {
         Some(row) => help_with_row(files.alloc(), &row, number, rest, err),
         None => Ok(()),
     }

@@ -1,11 +1,14 @@
 -- The head of a journal, and what may be wrong with it.
-use Rattle.std.specs.Prelude.{◌≡◌, ◌⊎◌, ◌<◌, List, ℕ, [], ◌∷◌, ◌++◌, length, codes, decimal, false, true, nat_eq}
+use Rattle.std.specs.Prelude.{◌≡◌, ◌⊎◌, ◌<◌, List, ℕ, [], ◌∷◌, ◌++◌, length, codes, decimal, Bool, false, true, nat_eq}
+use Rattle.std.specs.Prelude.{◌==◌, if◌then◌else◌}
 use Rattle.std.specs.List.{flat_map, starts_with}
 use Rattle.hex.specs.Hex.{encode_lower}
 use Rattle.ssb_schema.specs.Columns.{table_name}
 use Rattle.ssb_journal.specs.declared.head.HeadForm.{HeadForm}
 use Rattle.ssb_journal.specs.declared.head.HeadForm.TheVariants.{Sizes, Checksums}
 use Rattle.ssb_journal.specs.declared.head.TableMark.{TableMark}
+use Rattle.ssb_text.specs.Layouts.{is_benchmark}
+use Rattle.ssb_text.specs.declared.layout.TableLayout.{TableLayout}
 use Rattle.ssb_journal.specs.declared.fault.JournalFault.{JournalFault}
 use Rattle.ssb_journal.specs.declared.fault.JournalFault.TheVariants.{NotAJournal, OtherTables, Damaged, OutOfMemory}
 
@@ -14,12 +17,25 @@ abbrev pub title : HeadForm → List ℕ
 title Sizes = codes "ssb_live journal 1\n"
 title Checksums = codes "ssb_live journal 2\n"
 
--- what the line of a table tells behind its rows
+-- the word for a delimiter: the character, but of a tab its name
+abbrev pub delimiter_word : ℕ → List ℕ
+delimiter_word byte = if byte == 9 then codes "tab" else (byte ∷ [])
+
+abbrev pub heads_part : Bool → List ℕ
+heads_part has_heads = if has_heads then codes "|heads" else []
+
+-- what the line of a table tells behind its checksum: the layout of the file, where it is not the benchmark's
+abbrev pub layout_part : TableLayout → List ℕ
+layout_part layout =
+    if is_benchmark layout then []
+    else (124 ∷ (delimiter_word layout.delimiter.byte ++ heads_part layout.has_heads))
+
+-- what it tells behind its rows
 abbrev pub checksum_part : HeadForm → TableMark → List ℕ
 checksum_part Sizes mark = []
-checksum_part Checksums mark = 124 ∷ encode_lower mark.checksum
+checksum_part Checksums mark = 124 ∷ (encode_lower mark.checksum ++ layout_part mark.layout)
 
--- the line of a table: its name, its bytes and its rows, and the checksum where the form has it
+-- the line of a table: its name, its bytes and its rows, and the checksum and the layout where the form has them
 abbrev pub mark_line : HeadForm → TableMark → List ℕ
 mark_line form mark =
     table_name mark.table

@@ -1,22 +1,26 @@
-//! The first text of a journal: a title, and of each table how many bytes and rows its file has, and the checksum of
-//! the bytes.
+//! The first text of a journal: a title, and of each table how many bytes and rows its file has, the checksum of the
+//! rows' text, and the layout of the file, where it is not the benchmark's.
 ghost use Rattle.std.specs.Prelude.{◌≡◌, ◌⊎◌, ◌++◌, length, nat_eq, true, false, IfOk, IfErr, MatchOption, OnOk};
 ghost use Rattle.std.specs.List.{starts_with};
-ghost use Rattle.ssb_journal.specs.Heads.{checksum_part, head_text, mark_line, title, IsHeadFault, IsLineFault};
+ghost use Rattle.ssb_journal.specs.Heads.{checksum_part, delimiter_word, head_text, heads_part, layout_part, mark_line};
+ghost use Rattle.ssb_journal.specs.Heads.{title, IsHeadFault, IsLineFault};
 ghost use Rattle.ssb_journal.specs.declared.head.HeadForm.{HeadForm as Form};
 
 use crate::fault::JournalFault;
 use itoa::Buffer;
 use ssb_schema::Table;
+use ssb_text::{Delimiter, TableLayout};
 use std::alloc::{AllocError, Global};
 
-/// By what a journal knows a table: how many bytes its file has, how many rows, and the checksum of the bytes.
+/// By what a journal knows a table: how many bytes its file has, how many rows, the checksum of the rows' text, and how
+/// the file is laid out.
 #[derive(Clone, Copy, Debug, PartialEq, Eq)]
 pub struct TableMark {
     pub table: Table,
     pub bytes: u64,
     pub rows: u64,
     pub checksum: [u8; 16],
+    pub layout: TableLayout,
 }
 
 /// What a head tells of each table.
@@ -24,7 +28,7 @@ pub struct TableMark {
 pub enum HeadForm {
     /// Form 1, of older journals: bytes and rows.
     Sizes,
-    /// Form 2, of new journals: the checksum too.
+    /// Form 2, of new journals: the checksum and the layout too.
     Checksums,
 }
 
@@ -54,6 +58,38 @@ impl HeadForm {
     }
 }
 
+// A tab is named, since nobody sees it.
+fn push_delimiter(head: &mut Vec<u8>, delimiter: Delimiter) -> Result<(), AllocError>
+    ensures { OnOk result (head.new.items ≡ head.old.items ++ delimiter_word delimiter.byte) }
+{
+    match delimiter.byte() {
+        b'\t' => head.extend_from_slice(b"tab"),
+        byte => head.extend_from_slice(&[byte]),
+    }
+}
+
+// Whether a line of heads stands above the rows.
+fn push_heads(head: &mut Vec<u8>, has_heads: bool) -> Result<(), AllocError>
+    ensures { OnOk result (head.new.items ≡ head.old.items ++ heads_part has_heads) }
+{
+    if !has_heads {
+        return Ok(());
+    }
+    head.extend_from_slice(b"|heads")
+}
+
+// The layout of a file, where it is not the benchmark's.
+fn push_layout(head: &mut Vec<u8>, layout: TableLayout) -> Result<(), AllocError>
+    ensures { OnOk result (head.new.items ≡ head.old.items ++ layout_part layout) }
+{
+    if layout.is_benchmark() {
+        return Ok(());
+    }
+    head.push(b'|')?;
+    push_delimiter(head, layout.delimiter)?;
+    push_heads(head, layout.has_heads)
+}
+
 // What a line tells behind the rows.
 fn push_checksum(
     alloc: Global,
@@ -69,7 +105,7 @@ fn push_checksum(
             head.push(b'|')?;
             let digits = hex::encode(alloc, mark.checksum.as_slice())?;
             head.extend_from_slice(digits.as_bytes())?;
-            Ok(())
+            push_layout(head, mark.layout)
         }
     }
 }

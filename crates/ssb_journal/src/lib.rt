@@ -4,7 +4,7 @@
 //! 1 000000000000179                        a group of `journal`: its gate and its length
 //! 1b2cf535f27731c974343645a3985328         the checksum of the text behind it, by MD5
 //! ssb_live journal 2                       the text of the first group, the head
-//! customer|31800|300|4c7a ..               of each table how many bytes and rows its file has, and their checksum
+//! customer|31800|300|4c7a ..               of each table how many bytes and rows its file has, and its checksum
 //! ..
 //! ```
 //!

@@ -91,12 +91,12 @@ schema_is_text (schema.LineRepeated number) =
 schema_is_text schema.NoActions = ascii_is_text (codes "5 NoActions") refl
 schema_is_text schema.TooManyActions = ascii_is_text (codes "6 TooManyActions") refl
 schema_is_text (schema.KeyRepeated t row) =
-    behind (codes "7 KeyRepeated ") (table_name t ++ codes " " ++ decimal row ++ []) refl
-    (IsUtf8-append (table_name t) (codes " " ++ decimal row ++ []) (table_is_text t)
+    behind (codes "7 KeyRepeated ") (table_name t ++ (codes " " ++ (decimal row ++ []))) refl
+    (IsUtf8-append (table_name t) (codes " " ++ (decimal row ++ [])) (table_is_text t)
     (behind (codes " ") (decimal row ++ []) refl (last_number row)))
 schema_is_text (schema.UnknownKey line t) =
-    behind (codes "8 UnknownKey ") (decimal line ++ codes " " ++ table_name t ++ []) refl
-    (IsUtf8-append (decimal line) (codes " " ++ table_name t ++ []) (number_is_text line)
+    behind (codes "8 UnknownKey ") (decimal line ++ (codes " " ++ (table_name t ++ []))) refl
+    (IsUtf8-append (decimal line) (codes " " ++ (table_name t ++ [])) (number_is_text line)
     (behind (codes " ") (table_name t ++ []) refl (last_table t)))
 schema_is_text (schema.TooManyRows t) = behind (codes "9 TooManyRows ") (table_name t ++ []) refl (last_table t)
 schema_is_text (schema.OutOfRange column) =
@@ -111,8 +111,8 @@ fault_is_text (script.EmptyBlock number) =
     behind (codes "72 EmptyBlock ") (decimal number ++ []) refl (last_number number)
 fault_is_text (script.Row number why) =
     IsUtf8-append (concat (codes "73 Row " ∷ decimal number ∷ codes " " ∷ [])) (schema_text why)
-    (behind (codes "73 Row ") (decimal number ++ codes " " ++ []) refl
-    (IsUtf8-append (decimal number) (codes " ") (number_is_text number) (ascii_is_text (codes " ") refl)))
+    (behind (codes "73 Row ") (decimal number ++ (codes " " ++ [])) refl
+    (IsUtf8-append (decimal number) (codes " " ++ []) (number_is_text number) (ascii_is_text (codes " " ++ []) refl)))
     (schema_is_text why)
 fault_is_text script.TooLong = ascii_is_text (codes "74 TooLong") refl
 fault_is_text script.Read = ascii_is_text (codes "75 Read") refl

@@ -11,6 +11,7 @@ use ssb_journal::{
     JournaledLog, OpenedJournal, SharedJournal, TableMark, append_commits, begin, open,
 };
 use ssb_schema::{Items, Refresh, Table};
+use ssb_text::TableLayout;
 use ssb_trace::write_trace;
 use std::alloc::{AllocError, Global};
 use std::io;
@@ -33,12 +34,16 @@ pub(crate) const A_GROUP: usize = 4;
 /// So many calls make a run.
 pub(crate) const CALLS: usize = NEW + A_GROUP * GROUPS;
 
-const MARKS: [TableMark; 1] = [TableMark {
-    table: Table::Customer,
-    bytes: 31800,
-    rows: 300,
-    checksum: [7; 16],
-}];
+// By what the journal knows its only table.
+fn marks() -> [TableMark; 1] {
+    [TableMark {
+        table: Table::Customer,
+        bytes: 31800,
+        rows: 300,
+        checksum: [7; 16],
+        layout: TableLayout::benchmark(),
+    }]
+}
 
 /// The refreshes of a run: one adds order 1, the next order 2, and so on.
 pub(crate) fn refreshes(alloc: Global) -> Result<Vec<Arc<Refresh>>, Fail> {
@@ -93,7 +98,7 @@ pub(crate) fn new_log<'a>(
     refreshes: &'a [Arc<Refresh>],
     refused: Option<usize>,
 ) -> Result<JournaledLog<TearingDisk, OwnLog<'a>>, Fail> {
-    let journal = new_journal(alloc, &MARKS, refused)?;
+    let journal = new_journal(alloc, &marks(), refused)?;
     Ok(JournaledLog::new(journal, OwnLog::new(refreshes), 0))
 }
 

@@ -3,7 +3,7 @@ use Rattle.audit_command.specs.Audited.{IsRefusedTrace, SpeaksAgainst}
 use Rattle.ssb_files.specs.Loaded.{AreRefused}
 use Rattle.audit_command.specs.Status.{auditing_status}
 use Rattle.ssb_files.specs.declared.job.JobFault.TheVariants.{Program}
-use Rattle.ssb_text.specs.Load.{AreTexts}
+use Rattle.ssb_text.specs.Layouts.{AreRows}
 use Rattle.ssb_schema.specs.declared.table.Table.{Table}
 use Rattle.audit_command.proofs.audit.legal_trace.Goals as goal
 
@@ -11,7 +11,7 @@ pub returns-in_err-base-clause-refused : goal.returns-in_err-base-clause-refused
 returns-in_err-base-clause-refused g c =
     let is : c.from_residual.result ≡ Err (Program c.in_err-base.field-0.0) = search rules in
     let here : auditing_status (Program c.in_err-base.field-0.0) ≡ 1 → (texts : Table → List ℕ) (bytes : List ℕ)
-    → AreTexts g.I.Read.remaining c.args.tables texts → g.I.Read.remaining c.args.source ≡ Some bytes
+    → AreRows g.I.Read.remaining c.args.tables texts → g.I.Read.remaining c.args.source ≡ Some bytes
     → AreRefused texts ⊎ IsRefusedTrace bytes
     = λ status texts bytes are known. inl (c.in_err-base.ensures.data status texts are) in
     rw is here
@@ -20,7 +20,7 @@ pub returns-in_err-trace-clause-refused : goal.returns-in_err-trace-clause-refus
 returns-in_err-trace-clause-refused g c =
     let is : c.from_residual-in_err-trace.result ≡ Err c.in_err-trace.field-0.0 = search rules in
     let here : auditing_status c.in_err-trace.field-0.0 ≡ 1 → (texts : Table → List ℕ) (bytes : List ℕ)
-    → AreTexts g.I.Read.remaining c.args.tables texts → g.I.Read.remaining c.args.source ≡ Some bytes
+    → AreRows g.I.Read.remaining c.args.tables texts → g.I.Read.remaining c.args.source ≡ Some bytes
     → AreRefused texts ⊎ IsRefusedTrace bytes
     = λ status texts bytes are known. inr (c.in_err-trace.ensures.refused status bytes known) in
     rw is here
@@ -29,7 +29,7 @@ pub returns-in_err-check-clause-against : goal.returns-in_err-check-clause-again
 returns-in_err-check-clause-against g c =
     let is : c.from_residual-in_err-check.result ≡ Err c.in_err-check.field-0.0 = search rules in
     let here : auditing_status c.in_err-check.field-0.0 ≡ 3 → (texts : Table → List ℕ) (bytes : List ℕ)
-    → AreTexts g.I.Read.remaining c.args.tables texts → g.I.Read.remaining c.args.source ≡ Some bytes
+    → AreRows g.I.Read.remaining c.args.tables texts → g.I.Read.remaining c.args.source ≡ Some bytes
     → SpeaksAgainst texts bytes
     = λ status texts bytes are known. record {
       base = c.in_ok-base.base;

@@ -2,7 +2,7 @@ use Rattle.std.proofs.Common.{◌≡◌, ◌∙◌, Err, List, ℕ, ap, arith, r
 use Rattle.ssb_files.specs.declared.fault.Fault.TheVariants as common
 use Rattle.ssb_files.specs.declared.job.JobFault.TheVariants.{Program}
 use Rattle.ssb_schema.specs.declared.table.Table.{Table}
-use Rattle.ssb_text.specs.Load.{AreTexts}
+use Rattle.ssb_text.specs.Layouts.{AreRows}
 use Rattle.export_command.specs.Exported.{TellsExportFault}
 use Rattle.export_command.proofs.ExportLaws.{exports, file_fault_tells, fill_fault_tells, find_fault_tells, if_err}
 use Rattle.export_command.proofs.ExportLaws.{on_ok}
@@ -11,7 +11,7 @@ use Rattle.export_command.proofs.exporting.export.Goals as goal
 pub returns-in_err-folder-clause-fault : goal.returns-in_err-folder-clause-fault
 returns-in_err-folder-clause-fault g c =
     let is : c.from_residual.result ≡ Err c.in_err-folder.field-0.0 = search rules in
-    let here : (texts : Table → List ℕ) → AreTexts g.I.Read.remaining c.args.tables texts
+    let here : (texts : Table → List ℕ) → AreRows g.I.Read.remaining c.args.tables texts
     → TellsExportFault texts (g.P.OpensJournal.holds c.args.place.now.journal.now)
     (g.P.OpensJournal.is_taken c.args.place.now.journal.now) c.in_err-folder.field-0.0
     = λ texts are. find_fault_tells texts _ _ c.in_err-folder.field-0.0 c.in_err-folder.ensures.fault in
@@ -20,7 +20,7 @@ returns-in_err-folder-clause-fault g c =
 pub returns-in_err-read-clause-fault : goal.returns-in_err-read-clause-fault
 returns-in_err-read-clause-fault g c =
     let is : c.from_residual-in_err-read.result ≡ Err (Program c.in_err-read.field-0.0) = search rules in
-    let here : (texts : Table → List ℕ) → AreTexts g.I.Read.remaining c.args.tables texts
+    let here : (texts : Table → List ℕ) → AreRows g.I.Read.remaining c.args.tables texts
     → TellsExportFault texts (g.P.OpensJournal.holds c.args.place.now.journal.now)
     (g.P.OpensJournal.is_taken c.args.place.now.journal.now) (Program c.in_err-read.field-0.0)
     = λ texts are status. c.in_err-read.ensures.data status texts are in
@@ -29,7 +29,7 @@ returns-in_err-read-clause-fault g c =
 pub returns-in_err-base-clause-fault : goal.returns-in_err-base-clause-fault
 returns-in_err-base-clause-fault g c =
     let is : c.from_residual-in_err-base.result ≡ Err (Program common.OutOfMemory) = search rules in
-    let here : (texts : Table → List ℕ) → AreTexts g.I.Read.remaining c.args.tables texts
+    let here : (texts : Table → List ℕ) → AreRows g.I.Read.remaining c.args.tables texts
     → TellsExportFault texts (g.P.OpensJournal.holds c.args.place.now.journal.now)
     (g.P.OpensJournal.is_taken c.args.place.now.journal.now) (Program common.OutOfMemory)
     = λ texts are status. absurd (omega (arith, status)) in

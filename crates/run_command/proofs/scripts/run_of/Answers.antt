@@ -4,7 +4,7 @@ use Rattle.ssb_files.specs.Scripts.{HasRefused}
 use Rattle.ssb_files.specs.Standing.{MayHaveTooManyGroups, MayNotStand}
 use Rattle.ssb_files.specs.declared.job.JobFault.TheVariants.{Program}
 use Rattle.run_command.specs.Status.{serving_status}
-use Rattle.ssb_text.specs.Load.{AreTexts}
+use Rattle.ssb_text.specs.Layouts.{AreRows}
 use Rattle.ssb_schema.specs.declared.table.Table.{Table}
 use Rattle.run_command.proofs.scripts.run_of.Goals as goal
 
@@ -12,7 +12,7 @@ pub returns-in_err-base-clause-refused : goal.returns-in_err-base-clause-refused
 returns-in_err-base-clause-refused g c =
     let is : c.from_residual.result ≡ Err (Program c.in_err-base.field-0.0) = search rules in
     let here : serving_status (Program c.in_err-base.field-0.0) ≡ 1 → (texts : Table → List ℕ)
-    → AreTexts g.I.Read.remaining c.args.input.tables texts → AreRefused texts
+    → AreRows g.I.Read.remaining c.args.input.tables texts → AreRefused texts
     ⊎ HasRefused (map g.I.Read.remaining c.args.input.sources.items) ⊎ MayNotStand texts c.args.settings.standing.items
     = λ status texts are. inl (c.in_err-base.ensures.data status texts are) in
     rw is here
@@ -21,7 +21,7 @@ pub returns-in_err-scripts-clause-refused : goal.returns-in_err-scripts-clause-r
 returns-in_err-scripts-clause-refused g c =
     let is : c.from_residual-in_err-scripts.result ≡ Err (Program c.in_err-scripts.field-0.0) = search rules in
     let here : serving_status (Program c.in_err-scripts.field-0.0) ≡ 1 → (texts : Table → List ℕ)
-    → AreTexts g.I.Read.remaining c.args.input.tables texts → AreRefused texts
+    → AreRows g.I.Read.remaining c.args.input.tables texts → AreRefused texts
     ⊎ HasRefused (map g.I.Read.remaining c.args.input.sources.items) ⊎ MayNotStand texts c.args.settings.standing.items
     = λ status texts are. inr (inl (c.in_err-scripts.ensures.refused status)) in
     rw is here
@@ -30,7 +30,7 @@ pub returns-in_err-loaded-clause-refused : goal.returns-in_err-loaded-clause-ref
 returns-in_err-loaded-clause-refused g c =
     let is : c.from_residual-in_err-loaded.result ≡ Err (Program c.in_err-loaded.field-0.0) = search rules in
     let here : serving_status (Program c.in_err-loaded.field-0.0) ≡ 1 → (texts : Table → List ℕ)
-    → AreTexts g.I.Read.remaining c.args.input.tables texts → AreRefused texts
+    → AreRows g.I.Read.remaining c.args.input.tables texts → AreRefused texts
     ⊎ HasRefused (map g.I.Read.remaining c.args.input.sources.items) ⊎ MayNotStand texts c.args.settings.standing.items
     = λ status texts are. inr (inr (record {
       base = c.in_ok-base.base;
@@ -53,7 +53,7 @@ pub returns-in_err-run-clause-refused : goal.returns-in_err-run-clause-refused
 returns-in_err-run-clause-refused g c =
     let is : c.from_residual-in_err-run.result ≡ Err c.in_err-run.field-0.0 = search rules in
     let here : serving_status c.in_err-run.field-0.0 ≡ 1 → (texts : Table → List ℕ)
-    → AreTexts g.I.Read.remaining c.args.input.tables texts → AreRefused texts
+    → AreRows g.I.Read.remaining c.args.input.tables texts → AreRefused texts
     ⊎ HasRefused (map g.I.Read.remaining c.args.input.sources.items) ⊎ MayNotStand texts c.args.settings.standing.items
     = λ status. let no : 4 ≡ 1 = sym c.in_err-run.ensures.fault ∙ status in absurd (omega (arith, no)) in
     rw is here

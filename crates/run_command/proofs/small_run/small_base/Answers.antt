@@ -9,8 +9,9 @@ pub returns-in_err-base-clause-data : goal.returns-in_err-base-clause-data
 returns-in_err-base-clause-data g c =
     let is : c.from_residual.result ≡ Err (Program c.in_err-base.field-0.0) = search rules in
     let here : serving_status (Program c.in_err-base.field-0.0) ≡ 1 → AreRefused small_texts =
-    λ status. c.in_err-base.ensures.data status small_texts c.tables.ensures in
+    λ status. c.in_err-base.ensures.data status small_texts (c.benchmark-tables.ensures small_texts c.tables.ensures) in
     rw is here
 
 pub returns-clause-base : goal.returns-clause-base
-returns-clause-base g c = c.in_ok-base.ensures.base small_texts c.tables.ensures
+returns-clause-base g c =
+    c.in_ok-base.ensures.base small_texts (c.benchmark-tables.ensures small_texts c.tables.ensures)

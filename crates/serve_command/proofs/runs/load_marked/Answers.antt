@@ -7,7 +7,7 @@ use Rattle.ssb_files.specs.Loaded.{AreRefusedToServe, IsLoadedToServe}
 use Rattle.ssb_files.specs.Status.{status_of}
 use Rattle.ssb_files.specs.declared.fault.Fault.TheVariants as common
 use Rattle.ssb_schema.specs.declared.table.Table.{Table}
-use Rattle.ssb_text.specs.Load.{AreTexts}
+use Rattle.ssb_text.specs.Layouts.{AreRows}
 use Rattle.ssb_files.proofs.StandingLaws.{may_have_too_many, may_not_stand, standing_no_words}
 use Rattle.ssb_files.specs.Standing.{MayNotStandToServe}
 use Rattle.serve_command.proofs.runs.load_marked.Goals as goal
@@ -16,7 +16,7 @@ pub returns-in_err-read-clause-refused : goal.returns-in_err-read-clause-refused
 returns-in_err-read-clause-refused g c =
     let is : c.from_residual.result ≡ Err c.in_err-read.field-0.0 = search rules in
     let here : status_of c.in_err-read.field-0.0 ≡ 1 → (texts : Table → List ℕ)
-    → AreTexts g.I.Read.remaining c.args.tables texts → AreRefusedToServe texts ⊎ MayNotStandToServe texts c.args.standing.now
+    → AreRows g.I.Read.remaining c.args.tables texts → AreRefusedToServe texts ⊎ MayNotStandToServe texts c.args.standing.now
     = λ status texts are. inl (c.in_err-read.ensures.data status texts are) in
     rw is here
 
@@ -24,7 +24,7 @@ pub returns-in_err-base-clause-refused : goal.returns-in_err-base-clause-refused
 returns-in_err-base-clause-refused g c =
     let is : c.from_residual-in_err-base.result ≡ Err common.OutOfMemory = search rules in
     let here : status_of common.OutOfMemory ≡ 1 → (texts : Table → List ℕ)
-    → AreTexts g.I.Read.remaining c.args.tables texts → AreRefusedToServe texts ⊎ MayNotStandToServe texts c.args.standing.now
+    → AreRows g.I.Read.remaining c.args.tables texts → AreRefusedToServe texts ⊎ MayNotStandToServe texts c.args.standing.now
     = λ status texts are. absurd (omega (arith, status)) in
     rw is here
 

@@ -8,14 +8,14 @@ use Rattle.serve_command.specs.Status.{serving_status}
 use Rattle.ssb_files.specs.declared.fault.Fault.TheVariants as common
 use Rattle.ssb_files.specs.declared.job.JobFault.TheVariants.{Program}
 use Rattle.ssb_schema.specs.declared.table.Table.{Table}
-use Rattle.ssb_text.specs.Load.{AreTexts}
+use Rattle.ssb_text.specs.Layouts.{AreRows}
 use Rattle.serve_command.proofs.serving.run_alone.Goals as goal
 
 pub returns-in_err-push-clause-refused : goal.returns-in_err-push-clause-refused
 returns-in_err-push-clause-refused g c =
     let is : c.from_residual.result ≡ Err (Program common.OutOfMemory) = search rules in
     let here : serving_status (Program common.OutOfMemory) ≡ 1 → (texts : Table → List ℕ)
-    → AreTexts g.I.Read.remaining c.args.tables texts
+    → AreRows g.I.Read.remaining c.args.tables texts
     → AreRefused texts c.args.settings.standing.items
     (option_map (λ place. g.P.OpensJournal.holds place.file.now) c.args.place)
     (IfSome c.args.place (λ place. g.P.OpensJournal.is_taken place.file.now))
