@@ -1,5 +1,7 @@
 //! A server whose figures are written while it serves.
 
+ghost use Rattle.std.specs.Thread.{IsSend};
+
 use crate::command::{OpenedServer, serve_loading};
 use crate::end_bell::EndBell;
 use crate::metrics::MetricsFile;
@@ -63,7 +65,9 @@ where
     let (_, status) = thread::join(
         rt,
         || metrics.write_until(rt, &bell, errors),
-        || -> u8 { serving_to_the_end(rt, files, words, opened, streams, &bell) },
+        || -> u8
+            requires { IsSend I.row × IsSend W.row × IsSend F.File.row × IsSend F.Dir.row }
+        { serving_to_the_end(rt, files, words, opened, streams, &bell) },
     );
     status
 }

@@ -160,7 +160,7 @@ fn run_without<R, S, D: Drop>(
     speakers: Vec<S>,
 ) -> Result<SessionsRun<S::Left, D>, ServeFault>
 where
-    R: Threads + Sync + Wait + AllocGlobal,
+    R: Threads + Sync + Wait + Clock + AllocGlobal,
     S: Speaks<R, Nothing> + Drop + Send,
     S::Left: Drop + Send,
     ensures run { IfOk result (λ run. IsStreamRun S.spoken loaded speakers.items dispatchers run.left.items run.log) }
@@ -299,11 +299,9 @@ where
             run_behind(rt, dispatchers, &place, tables, speakers, screen)
         },
         None => {
-            let LoadedTables { loaded, ready } = load_tables(
-                rt, hashing, &standing, tables, watched,
-            )?;
-            tell_ready(ready, screen);
-            run_without(rt, dispatchers, loaded, speakers)
+            let served = load_tables(rt, hashing, &standing, tables, watched)?;
+            tell_ready(served.ready, screen);
+            run_without(rt, dispatchers, served.loaded, speakers)
         },
     }
 }

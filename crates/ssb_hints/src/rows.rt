@@ -7,7 +7,7 @@ use crate::paths::help_with_path;
 use crate::records::{open_plain, record_of, text_at};
 use csv::ByteRecord;
 use ssb_schema::{Column, Kind, Table};
-use ssb_text::{Barred, Delimiter, field_at, trimmed_at};
+use ssb_text::{Barred, TableLayout, field_at, trimmed_at};
 use std::alloc::Global;
 use std::io::Write;
 use std::rt::Files;
@@ -146,11 +146,12 @@ struct ToldRow<'a> {
     place: RowPlace<'a>,
     table: Table,
     record: ByteRecord,
+    has_heads: bool,
 }
 
-// Says that a first row names columns, where it does.
+// Says that a first row names columns, where it does and no line of heads is wanted.
 fn help_with_names<E: Write>(row: &ToldRow<'_>, err: &mut E) -> io::Result<()> {
-    if row.place.row == 1 && begins_with_letter(&row.record) {
+    if row.place.row == 1 && !row.has_heads && begins_with_letter(&row.record) {
         return write_line(err, &RowHelp::ColumnNames);
     }
     Ok(())
@@ -265,13 +266,13 @@ fn told_row<'a, F: Files + AllocGlobal>(
     files: &F,
     path: &'a str,
     table: Table,
-    delimiter: Delimiter,
+    layout: TableLayout,
     number: &str,
 ) -> io::Result<Option<ToldRow<'a>>> {
     let Ok(row) = number.parse::<u64>() else {
         return Ok(None);
     };
-    let file = Barred::new(open_plain(files, path)?, delimiter);
+    let file = Barred::new(open_plain(files, path)?, layout.delimiter);
     let Some(record) = record_of(files.alloc(), file, row)? else {
         return Ok(None);
     };
@@ -280,6 +281,7 @@ fn told_row<'a, F: Files + AllocGlobal>(
         place,
         table,
         record,
+        has_heads: layout.has_heads,
     }))
 }
 
@@ -301,7 +303,7 @@ pub fn help_with_tables<F: Files, E: Write>(
     let [row, rest @ ..] = rest else {
         return help_with_path(files, path.as_str(), err);
     };
-    match told_row(files, path.as_str(), table, tables.layout.delimiter, row)? {
+    match told_row(files, path.as_str(), table, tables.layout, row)? {
         Some(row) => help_with_row(files.alloc(), &row, number, rest, err),
         None => Ok(()),
     }

@@ -15,11 +15,19 @@ use Rattle.history_core.specs.declared.event.Who.TheVariants.{Client}
 use Rattle.row_store.specs.History.{CommitRecord, IsPrefix}
 use Rattle.row_store.specs.Legal.{IsLegal}
 use Rattle.ssb_clients.specs.Tickets.{IsQuiet}
+use Rattle.ssb_serving.proofs.ListLaws.{none_before}
 use Rattle.ssb_serving.proofs.PlaceLaws.{some_is, get_mapped, map_at, row_at, all_at, zip_at}
 use Rattle.ssb_serving.proofs.MemberLaws.{number_in, new_clients_quiet, ready_where}
 use Rattle.ssb_serving.specs.Members.{AreStill, IsReady}
 use Rattle.stream_sessions.specs.OneRequest.{AreAlike}
 use Rattle.ssb_serving.specs.Streams.{AreSpoken, IsSpoken, IsSpokenTo, IsStreamRun, IsClosedWith}
+
+-- what was left of all that were started is what was left of the seats
+pub all_left : {X H P : Type 0} (leaves : X → P → Type 0) (read : H → X) (before after : List H) (seats : List X)
+    (left : List P) → before ≡ [] → map read after ≡ map read before ++ seats → AllZip leaves (map read after) left
+    → AllZip leaves seats left
+all_left leaves read before after seats left none started all =
+    subst (λ xs. AllZip leaves xs left) (started ∙ none_before read before seats seats none refl) all
 
 -- one of each more
 pub zip_longer : {X Y : Type 0} (R : X → Y → Type 0) (xs longer : List X) (ys more : List Y) (x : X) (y : Y)

@@ -24,6 +24,12 @@ use Rattle.stream_sessions.proofs.RequestLaws.{served_more}
 no_is : false ≡ true → ⊥
 no_is e = cc
 
+-- what was served to a client of a number was served to the client of the same number
+pub numbered_served : (one number : ℕ) (old new : TokenRecord) (request : RequestRecord) (reply : Reply)
+    → one ≡ number → IsServed one old request reply new → IsServed number old request reply new
+numbered_served one number old new request reply same is =
+    subst (λ n. IsServed n old request reply new) same is
+
 -- one thing more was served, to the same client
 pub served_next : (old mid new : TokenRecord) (front : List RequestRecord) (given : List Reply) (one : RequestRecord)
     (reply : Reply)

@@ -13,7 +13,7 @@ use std::alloc::Global;
 fn format_of(fields: &ByteRecord) -> Option<ReplyFormat>
     ensures { result ≡ format_of (fields_of fields.now) }
 {
-    if has_columns(fields, 2) && trimmed_at(fields, 0) == b"format" {
+    if has_columns(fields, 2) && trimmed_at(fields, 0) == b"format".as_slice() {
         return ReplyFormat::named(trimmed_at(fields, 1));
     }
     None

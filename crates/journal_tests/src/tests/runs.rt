@@ -122,7 +122,7 @@ pub(crate) fn kept_in(alloc: Global, bytes: &[u8]) -> Result<usize, Fail> {
             kept,
             torn: _,
         },
-    ) = open(alloc, &MARKS, TearingDisk::new(alloc, bytes, None)?)
+    ) = open(alloc, &marks(), TearingDisk::new(alloc, bytes, None)?)
     else {
         return Err(Fail::from("not opened again"));
     };
@@ -141,15 +141,16 @@ pub(crate) fn kept_in(alloc: Global, bytes: &[u8]) -> Result<usize, Fail> {
 
 /// The journal of a file that is opened again.
 pub(crate) fn mended(alloc: Global, bytes: &[u8]) -> Result<Journal<TearingDisk>, Fail> {
+    let marks = marks();
     let Ok(OpenedJournal { found, kept, torn }) = open(
         alloc,
-        &MARKS,
+        &marks,
         TearingDisk::new(alloc, bytes, None)?,
     ) else {
         return Err(Fail::from("not opened again"));
     };
     let torn = InMemory.keep_torn(torn)?;
-    match begin::<TearingDisk, InMemory>(alloc, &MARKS, found, kept.is_new, &torn) {
+    match begin::<TearingDisk, InMemory>(alloc, &marks, found, kept.is_new, &torn) {
         Ok(journal) => Ok(journal),
         Err((error, _)) => Err(Fail::from(error)),
     }

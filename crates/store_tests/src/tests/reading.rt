@@ -2,11 +2,11 @@
 //! that never ends.
 
 use crate::tests::{reads, same};
-use small_data::{LINEORDER, tables};
+use small_data::tables;
 use ssb_base::Limits;
 use ssb_script::{ScriptError, read_script};
 use ssb_text::{Tables, load, load_with_checksums};
-use std::alloc::Global;
+use std::alloc::{AllocError, Global};
 use std::io::{self, Read};
 use std::test::Fail;
 use std::thread::Threads;
@@ -37,16 +37,28 @@ fn a_table_past_its_limit_is_told_at_the_first_row_behind_it(rt: HostRuntime) ->
     Ok(())
 }
 
-// How many bytes the lines have that are the small data set's so many times, and what they and its customers are hashed
-// to, within blocks of so many bytes.
+// So many orders of one line each, with keys from 1.
+fn orders(alloc: Global, count: u64) -> Result<String, AllocError> {
+    let mut text = String::new(alloc);
+    for key in 1..=count {
+        let line = format!(in alloc;
+            "{key}|1|2|2|2|19930101|o|0|24|1000|3000|3|970|600|0|19930101|AIR|\n"
+        )?;
+        text.push_str(line.as_str())?;
+    }
+    Ok(text)
+}
+
+// How many bytes so many orders have, and what they and the small data set's customers are hashed to, within blocks of
+// so many bytes.
 fn hashed<R: Threads + Sync>(
     rt: &R,
     alloc: Global,
     block: u32,
-    times: usize,
+    count: u64,
 ) -> Result<(usize, u128, u128), Fail> {
     let limits = Limits::new(4, 100_000, 1).ok_or("limits")?;
-    let text = LINEORDER.repeat(alloc, times)?;
+    let text = orders(alloc, count)?;
     let tables = Tables {
         lineorder: text.as_bytes(),
         ..tables()
@@ -65,12 +77,12 @@ fn hashed<R: Threads + Sync>(
 #[test]
 fn a_table_has_the_checksum_of_its_pieces(rt: HostRuntime) -> Result<(), Fail> {
     let wanted = (
-        2_214_000,
-        0x9812_f9ea_5514_de87_5163_d909_0c35_28d9,
+        2_364_894,
+        0xe2fb_be06_9de5_f5a2_cebb_6650_775b_a628,
         0xb4e7_e836_3e0a_ec2f_4094_1aed_1695_5e6c,
     );
-    for block in [64, 1_000_000, 4_000_000] {
-        same(&rt, &hashed(&rt, rt.alloc(), block, 9000)?, &wanted);
+    for block in [1_000, 1_000_000, 4_000_000] {
+        same(&rt, &hashed(&rt, rt.alloc(), block, 36_000)?, &wanted);
     }
     Ok(())
 }

@@ -33,7 +33,8 @@ returns-in_err-loaded-clause-refused g c =
     let p = err_from_is_err_and c.from_residual-in_err-loaded.result c.from_residual-in_err-loaded.ensures.1 in
     let same : c.in_ok-base.base.value ≡ c.in_ok-read.read.0 = search rules in
     rw p.1 (λ status texts are. inr (may_not_stand _ texts _ _ _ same (c.in_ok-read.ensures.base texts are)
-    (may_have_too_many _ _ _ _ refl c.in_err-loaded.ensures.too_many (sym p.2 ∙ status))))
+    (may_have_too_many _ _ c.in_ok-base.base.value c.args.standing.now refl c.in_err-loaded.ensures.too_many
+    (sym p.2 ∙ status))))
 
 pub returns-in_err-loaded-clause-words : goal.returns-in_err-loaded-clause-words
 returns-in_err-loaded-clause-words g c =

@@ -1,5 +1,6 @@
 use Rattle.std.proofs.Common.{◌≡◌, [], ◌∷◌, ◌++◌, length, map, take, refl, ap, sym, ◌∙◌, append_assoc, append-nil}
 use Rattle.std.proofs.Common.{arith}
+use Rattle.std.proofs.lemmas.List.{nil_from_length}
 use Rattle.std.specs.Vec.Iter.{into_iter_items}
 use Rattle.history.specs.Members.{number_of}
 use Rattle.ssb_script.specs.Requests.{request_of, requests_of}
@@ -53,8 +54,11 @@ returns-in-Err-clause-answered g c = λ request spelled.
 pub returns-clause-answered : goal.returns-clause-answered
 returns-clause-answered g c = λ request spelled.
     let inv = c.loop-request.invariant in
+    let left = c.next.new.self.rest in
+    let none : left.items ≡ []
+    = nil_from_length left.items (omega (arith, left.ok.0, c.in_default.ensures.cases.1)) in
     let whole : requests_of c.args.script ≡ inv.0
-    = inv.2 ∙ ap (λ t. inv.0 ++ map request_of t) c.in_default.ensures.items ∙ append-nil inv.0 in
+    = inv.2 ∙ ap (λ t. inv.0 ++ map request_of t) (c.in_default.ensures.items ∙ none) ∙ append-nil inv.0 in
     adds_replies (number_of c.args.client.now.who) request c.args.client.now c.loop-request.client c.args.format
     (requests_of c.args.script) inv.0 inv.1 c.args.replies.now.items c.loop-request.replies.items spelled whole inv.3
     inv.4

@@ -3,5 +3,5 @@ use Rattle.stream_sessions.proofs.fault_line.write_text.Goals as goal
 pub unreachable-requires : goal.unreachable-requires
 unreachable-requires g c = c.in-Err.ensures.cases.0 c.requires
 
-pub returns-in-Ok : goal.returns-in-Ok
-returns-in-Ok g c = rw c.in-Ok.ensures.cases.0 at c.write_fault_as.ensures
+pub returns : goal.returns
+returns g c = rw c.in-Ok.ensures.cases.0 at c.write_fault_as.ensures

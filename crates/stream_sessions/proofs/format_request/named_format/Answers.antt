@@ -6,7 +6,7 @@ use Rattle.stream_sessions.proofs.format_request.named_format.Goals as goal
 pub returns-then-not-branch-clause-none : goal.returns-then-not-branch-clause-none
 returns-then-not-branch-clause-none c =
     let next = rw c.if-not-branch.true at c.in_ok-next_record.ensures.next in
-    none_read _ c.args.request.now _ _ (fields_of c.next_record.new.next)
+    none_read _ c.args.request.now _ c.next_record.new.reader (fields_of c.next_record.new.next)
     (c.record_reader-reader.ensures.start c.args.request.now refl) next
 
 pub returns-in_default-clause-none : goal.returns-in_default-clause-none
@@ -26,6 +26,7 @@ pub returns-clause-named : goal.returns-clause-named
 returns-clause-named c =
     let next = rw c.if-not-branch.false at c.in_ok-next_record.ensures.next in
     let ends = rw c.if-branch.false at c.in_ok-next_record-2.ensures.next in
-    one_read _ c.args.request.now _ _ _ (fields_of c.next_record.new.next) (fields_of c.next_record-2.new.next)
+    one_read _ c.args.request.now _ _ c.next_record-2.new.reader (fields_of c.next_record.new.next)
+    (fields_of c.next_record-2.new.next)
     c.in-Some.format (c.record_reader-reader.ensures.start c.args.request.now refl) next ends
     (sym c.format_of.ensures ∙ c.in-Some.is)

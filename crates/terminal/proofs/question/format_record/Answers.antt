@@ -7,5 +7,6 @@ pub returns : goal.returns
 returns c =
     let fields = flat_map (λ field. field_text field.now) c.args.behind.now in
     c.in_ok-push.ensures.items ∙ ap (λ (text : List ℕ). text ++ 10 ∷ []) (c.in_ok-push_fields.ensures
-    ∙ ap (λ (head : List ℕ). head ++ fields) c.in_ok-extend_from_slice.ensures.items
+    ∙ ap (λ (head : List ℕ). head ++ fields) (c.in_ok-extend_from_slice.ensures.items
+    ∙ ap (λ (text : List ℕ). text ++ codes "format") c.new-text.ensures.items)
     ∙ ap (λ (text : List ℕ). codes "format" ++ text) (sym (over_references c.args.behind.now)))
