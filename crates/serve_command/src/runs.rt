@@ -89,7 +89,7 @@ struct MarkedTables {
 
 // What is seen of a server: for how many clients it is told that it is ready, if it is, and the figures that it counts in.
 #[derive(Drop)]
-struct Watched {
+struct WatchedServer {
     told: Option<usize>,
     figures: Arc<LiveFigures>,
 }
@@ -100,7 +100,7 @@ fn load_tables<R: Threads + Sync + AllocGlobal, I: Read + Drop>(
     hashing: RandomState,
     standing: &[Question],
     tables: TableFiles<I>,
-    watched: Watched,
+    watched: WatchedServer,
 ) -> Result<LoadedTables, Fault>
     ensures base { IfOk result (λ made. (texts : Table → List ℕ) → AreRows I.remaining tables texts
         → IsLoadedToServe texts made.loaded) }
@@ -108,7 +108,7 @@ fn load_tables<R: Threads + Sync + AllocGlobal, I: Read + Drop>(
         → AreRows I.remaining tables texts → AreRefusedToServe texts ⊎ MayNotStandToServe texts standing.now) }
     ensures words { IfErr result (λ fault. status_of fault ≢ 2) }
 {
-    let Watched { told, figures } = watched;
+    let WatchedServer { told, figures } = watched;
     let base = base_of(rt, rt.alloc(), tables, LoadedFor::Serving)?;
     let ready = ReadyLine::of(&base, told);
     let base = Arc::new(rt.alloc(), base)?;
@@ -126,7 +126,7 @@ fn load_marked<R: Threads + Sync + AllocGlobal, I: Read + Drop>(
     standing: &[Question],
     tables: TableFiles<I>,
     bytes: &TableBytes,
-    watched: Watched,
+    watched: WatchedServer,
 ) -> Result<MarkedTables, Fault>
     ensures base { IfOk result (λ made. (texts : Table → List ℕ) → AreRows I.remaining tables texts
         → IsLoadedToServe texts made.loaded) }
@@ -138,7 +138,7 @@ fn load_marked<R: Threads + Sync + AllocGlobal, I: Read + Drop>(
     ensures words { IfErr result (λ fault. status_of fault ≢ 2) }
 {
     let layout = tables.layout;
-    let Watched { told, figures } = watched;
+    let WatchedServer { told, figures } = watched;
     let read = checked_base_of(rt, rt.alloc(), tables, LoadedFor::Serving)?;
     let (base, checksums) = read;
     let marks = table_marks(&base, layout, bytes, &checksums);
@@ -289,7 +289,7 @@ where
         tells_ready,
         figures,
     } = settings;
-    let watched = Watched {
+    let watched = WatchedServer {
         told: tells_ready.then_some(speakers.len()),
         figures,
     };

@@ -18,7 +18,7 @@ use std::sync::Wait;
 use std::time::{Clock, Duration};
 use std::{fmt, io, thread};
 use stream_sessions::{
-    Acknowledges, Evidence, Served, SessionError, SessionFault, Speaker, Speaks, Wire,
+    Acknowledges, Ending, Evidence, Served, SessionError, SessionFault, Speaker, Speaks, Wire,
     serve_session,
 };
 
@@ -167,7 +167,8 @@ impl<'a, F: Files, E: Print> PathClient<'a, F, E> {
     }
 
     // What follows a session that ended so. Its fault is told, but for that of a journal: it is told once, and not by
-    // each client. Who broke it may still have both ends open, and has to see that they are closed.
+    // each client. Who broke it, or sent too long a request, may still have both ends open, and has to see that they are
+    // closed: what it sends on would be read in the next session.
     fn end_of<R: Clock>(
         &self,
         rt: &R,
@@ -179,7 +180,12 @@ impl<'a, F: Files, E: Print> PathClient<'a, F, E> {
         ensures again { result ≡ SessionEnd.Again → IsTrue comes_again }
     {
         match ended {
-            Ok(_) if comes_again => SessionEnd::Again,
+            Ok(served) if comes_again => {
+                if served.ending == Ending::RequestTooLong {
+                    thread::sleep(rt, Duration::from_millis(BETWEEN_SESSIONS));
+                }
+                SessionEnd::Again
+            }
             Ok(_) => SessionEnd::Last,
             Err(_) if has_failed => SessionEnd::Broken,
             Err(error) => {
