@@ -182,6 +182,7 @@ def sessions_of(ends, count, faults):
 
 def come_and_go(watched, words):
     """Many sessions: no thread, no open file and no memory is left of them."""
+    time.sleep(0.5)             # between sessions an output is closed for 50 ms, and then open
     open_before, threads_before, start = watched.count("fd"), watched.count("task"), time.monotonic()
     faults, each = [], max(1, words.sessions // len(watched.ends))
     clients = [threading.Thread(target=sessions_of, args=(ends, each, faults), daemon=True) for ends in watched.ends]
