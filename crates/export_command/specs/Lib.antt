@@ -1,4 +1,0 @@
-pub mod After
-pub mod Standing
-pub mod Status
-pub mod Exported

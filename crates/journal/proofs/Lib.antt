@@ -1,4 +1,0 @@
-mod DigitLaws
-mod GroupLaws
-pub mod MomentLaws
-mod StepLaws

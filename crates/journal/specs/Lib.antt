@@ -1,3 +1,0 @@
-pub mod Calls
-pub mod Disk
-pub mod Groups

@@ -1,2 +1,0 @@
-mod OwnLaws
-mod NewJournalLaws

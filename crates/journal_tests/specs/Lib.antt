@@ -1,3 +1,0 @@
-pub mod DiskCalls
-pub mod TearingDisks
-pub mod OwnCommits

@@ -1,4 +1,0 @@
-mod crashes;
-mod own_log;
-mod refusals;
-mod runs;

@@ -1,5 +1,0 @@
-pub mod AskedLaws
-pub mod OpeningLaws
-pub mod ReportLaws
-pub mod SizeLaws
-pub mod BoardLaws

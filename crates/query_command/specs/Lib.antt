@@ -1,5 +1,0 @@
-pub mod Asked
-pub mod Reported
-pub mod Sizes
-pub mod Explained
-pub mod Board

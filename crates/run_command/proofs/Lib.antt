@@ -1,5 +1,0 @@
-pub mod PrintingLaws
-pub mod TraceLaws
-pub mod AloneLaws
-pub mod RunLaws
-pub mod DemoLaws

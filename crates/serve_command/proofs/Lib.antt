@@ -1,9 +1,0 @@
-mod BeginningLaws
-mod ReadingLaws
-mod SeatLaws
-mod RemakingLaws
-mod RunLaws
-mod StatusLaws
-mod SessionLaws
-mod JournalLaws
-mod ServedLaws

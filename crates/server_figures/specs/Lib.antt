@@ -1,3 +1,0 @@
-pub mod MetricsText
-pub mod StatusText
-pub mod Laws

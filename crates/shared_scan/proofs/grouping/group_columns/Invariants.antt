@@ -1,6 +1,0 @@
-use Rattle.std.proofs.Common.{take}
-use Rattle.shared_scan.specs.GroupColumns.{AreGroupColumns}
-use Rattle.shared_scan.proofs.grouping.group_columns.Given as goal
-
-abbrev pub invariant-loop-place : goal.invariant-loop-place
-invariant-loop-place l = AreGroupColumns l.index l.lines (take l.place l.columns) (take l.place l.parts) l.groups.items

@@ -1,4 +1,0 @@
-pub mod Traces
-pub mod Legal
-pub mod InOrder
-pub mod Visits

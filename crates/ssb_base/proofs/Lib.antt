@@ -1,3 +1,0 @@
-pub mod BaseLaws
-pub mod PairLaws
-pub mod BitLaws

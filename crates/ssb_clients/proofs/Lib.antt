@@ -1,4 +1,0 @@
-pub mod RefreshingLaws
-pub mod PollingLaws
-pub mod FetchingLaws
-pub mod StayingLaws

@@ -1,3 +1,0 @@
-pub mod TextLaws
-pub mod SameLaws
-pub mod JoinLaws

@@ -1,7 +1,0 @@
-use Rattle.std.proofs.Common.{◌≡◌, filter, take}
-use Rattle.ssb_explain.specs.Joins as spec
-use Rattle.ssb_explain.specs.Names.{dimensions}
-use Rattle.ssb_explain.proofs.joins.needed_tables.Given as goal
-
-abbrev pub invariant-loop-table : goal.invariant-loop-table
-invariant-loop-table l = l.tables.items ≡ filter (spec.is_needed l.plan) (take l.table-index dimensions)

@@ -1,4 +1,0 @@
-pub mod CellLaws
-pub mod JsonLaws
-pub mod ShownLaws
-pub mod TextLaws

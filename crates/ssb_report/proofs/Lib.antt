@@ -1,3 +1,0 @@
-pub mod RowLaws
-pub mod CommitLaws
-pub mod ReplyLaws

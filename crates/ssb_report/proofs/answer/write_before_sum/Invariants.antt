@@ -1,9 +1,0 @@
-use Rattle.std.proofs.Common.{take, flat_map}
-use Rattle.std.specs.Io.KnownBytes.{Appends}
-use Rattle.ssb_report.specs.AnswerText.{with_bar}
-use Rattle.ssb_report.proofs.answer.write_before_sum.Given as goal
-
-abbrev pub invariant-loop-value : goal.invariant-loop-value
-invariant-loop-value g l =
-    Appends (g.W.Write.contents l.fn.writer) (g.W.Write.contents l.writer)
-    (flat_map with_bar (take l.value-index l.groups))

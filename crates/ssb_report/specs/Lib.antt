@@ -1,5 +1,0 @@
-pub mod AnswerText
-pub mod RefreshText
-pub mod Replies
-pub mod Report
-pub mod Laws

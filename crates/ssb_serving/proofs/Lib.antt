@@ -1,4 +1,0 @@
-pub mod ListLaws
-pub mod PlaceLaws
-pub mod MemberLaws
-mod StreamLaws

@@ -1,9 +1,0 @@
-use Rattle.std.proofs.Common.{take, flat_map}
-use Rattle.std.specs.Io.KnownBytes.{Appends}
-use Rattle.ssb_trace.specs.TraceText.{told_row_text}
-use Rattle.ssb_trace.proofs.answers.write_told_rows.Given as goal
-
-abbrev pub invariant-loop-row : goal.invariant-loop-row
-invariant-loop-row g l =
-    Appends (g.W.Write.contents l.fn.writer) (g.W.Write.contents l.writer)
-    (flat_map (told_row_text l.query) (take l.row-index l.rows))

@@ -1,6 +1,0 @@
-use Rattle.stream_sessions.proofs.RequestLaws.{refreshed_alike}
-use Rattle.stream_sessions.proofs.reply.reply_to.Goals as goal
-
-pub returns-in-Refresh-clause-same : goal.returns-in-Refresh-clause-same
-returns-in-Refresh-clause-same g c = refreshed_alike _ _ _ _ _
-    (c.refresh-result.ensures.refreshed c.args.number c.requires.who) c.requires.quiet

@@ -1,4 +1,0 @@
-pub mod Calls
-pub mod Filled
-pub mod Noted
-pub mod FilesFolder

@@ -1,4 +1,0 @@
-pub mod NoTables
-pub mod Rule
-pub mod Twin
-pub mod Laws
