@@ -1,15 +1,11 @@
 //! The texts of the help.
 
-/// What `query --help` shows.
-pub const QUERY_HELP: &str = "\
-Loads the five table files of a folder and prints the report of one question: a line with the query's name, the number
-of commits (0) and the number of rows, and then the rows. With --all it prints the reports of the thirteen queries with
-the benchmark's constants, in order, answered in one pass over the lines.
-
-The queries are Q1.1, Q1.2, Q1.3, Q2.1, Q2.2, Q2.3, Q3.1, Q3.2, Q3.3, Q3.4, Q4.1, Q4.2, Q4.3 and star. Without
-constants, one of the thirteen has those of the benchmark. Else give all of its constants, in this order:
-
-  Q1.1        year; discount from, to; quantity from, to
+// A help that says what the queries' constants are and how star is asked, between two other texts.
+macro_rules! help_with_questions {
+    ($before:literal, $behind:literal) => {
+        concat!(
+            $before,
+            "  Q1.1        year; discount from, to; quantity from, to
   Q1.2        year and month, like 199401; discount from, to; quantity from, to
   Q1.3        week; year; discount from, to; quantity from, to
   Q2.1        category; supplier region
@@ -38,7 +34,24 @@ The query star is a question of your own. Its constants, at most 64, are a measu
 
 COLUMN is C_CITY, C_NATION, C_REGION, S_CITY, S_NATION, S_REGION, P_MFGR, P_CATEGORY, P_BRAND1, D_YEAR, D_YEARMONTHNUM,
 D_YEARMONTH or D_WEEKNUMINYEAR.
+",
+            $behind
+        )
+    };
+}
 
+/// What `query --help` shows.
+pub const QUERY_HELP: &str = help_with_questions!(
+    "\
+Loads the five table files of a folder and prints the report of one question: a line with the query's name, the number
+of commits (0) and the number of rows, and then the rows. With --all it prints the reports of the thirteen queries with
+the benchmark's constants, in order, answered in one pass over the lines.
+
+The queries are Q1.1, Q1.2, Q1.3, Q2.1, Q2.2, Q2.3, Q3.1, Q3.2, Q3.3, Q3.4, Q4.1, Q4.2, Q4.3 and star. Without
+constants, one of the thirteen has those of the benchmark. Else give all of its constants, in this order:
+
+",
+    "
 With any other --format than report the columns have heads: the names of the group columns, and the measure as star
 spells it. JSON has one object a line. An empty line parts the answers, but not those of JSON. Bars are drawn beside the
 sums, each as long as its sum is great; that of a negative sum is drawn with another sign. HTML is a page for a browser,
@@ -60,7 +73,8 @@ Examples:
   ssb_live query --data tables --all --times
   ssb_live query --data tables --board morning.board --format html > morning.html
   ssb_live query --explain Q2.1
-  ssb_live query --explain --sql postgresql star COUNT C_REGION";
+  ssb_live query --explain --sql postgresql star COUNT C_REGION"
+);
 
 /// What `run --help` shows.
 pub const RUN_HELP: &str = "\
@@ -136,7 +150,8 @@ Example:
   ssb_live export --data tables --journal orders.journal --to tables-2";
 
 /// What the word `help` shows on the terminal of a live session.
-pub const TERMINAL_HELP: &str = "\
+pub const TERMINAL_HELP: &str = help_with_questions!(
+    "\
 Q1.1 asks with the benchmark's constants, and Q1.1 1994 1 3 0 24 with these. Names may be in any case. Where a constant
 has a blank in it, the fields are parted by bars: star|COUNT|C_REGION=MIDDLE EAST. ask, then 1 to 16 questions, then
 answer asks them together: all are answered after the same commits. begin, then add or amend with line|.. records, and
@@ -153,33 +168,6 @@ Ctrl-C ends the program at once: a refresh without its commit is not done. Witho
 
 The queries, and their constants in this order:
 
-  Q1.1        year; discount from, to; quantity from, to
-  Q1.2        year and month, like 199401; discount from, to; quantity from, to
-  Q1.3        week; year; discount from, to; quantity from, to
-  Q2.1        category; supplier region
-  Q2.2        brand from, to; supplier region
-  Q2.3        brand; supplier region
-  Q3.1        customer region; supplier region; year from, to
-  Q3.2        customer nation; supplier nation; year from, to
-  Q3.3        two customer cities; two supplier cities; year from, to
-  Q3.4        two customer cities; two supplier cities; year and month, like Dec1997
-  Q4.1        customer region; supplier region; two manufacturers
-  Q4.2        those of Q4.1; two years
-  Q4.3        customer region; supplier nation; two years; category
-
-The query star is a question of your own. Its constants, at most 64, are a measure, then group columns, then tests:
-
-  LO_REVENUE, LO_REVENUE-LO_SUPPLYCOST, LO_EXTENDEDPRICE*LO_DISCOUNT, LO_QUANTITY or COUNT
-              the measure: what is summed over the lines; COUNT is the number of lines
-  COLUMN      a group column; they are printed in the order given; at most four, each once
-  COLUMN=VALUE
-              a test: the column has this value; given again for the column: one of these values, at most 16
-  COLUMN=FROM..TO
-              a test: from FROM to TO, both included; once for a column, and no other test of it
-  LO_QUANTITY=FROM..TO, LO_DISCOUNT=FROM..TO
-              a test of the line itself; also with one number; once each
-  ORDER=SUM   at the end: the largest sum first; without it rows are in the order of the group columns
-
-COLUMN is C_CITY, C_NATION, C_REGION, S_CITY, S_NATION, S_REGION, P_MFGR, P_CATEGORY, P_BRAND1, D_YEAR, D_YEARMONTHNUM,
-D_YEARMONTH or D_WEEKNUMINYEAR.
-";
+",
+    ""
+);

@@ -31,9 +31,9 @@ pub record IsBegun {R H : Type 0} (remaining : R → Option (List ℕ)) (known :
 -- what was parsed was joined to these lines, and the next blocks were read
 pub record GoesAhead {R H : Type 0} (remaining : R → Option (List ℕ)) (limit : ℕ) (rows : List (List Value))
     (parsed : List (Result Parsed ReadError)) (left : Option (List ℕ)) (ahead : ReadAhead R H) : Type 0 where
-  pub few : length ahead.lines.items ≤ limit
-  pub joins : Joins IsParsedOk parsed rows (map line_values ahead.lines.items)
-  pub gives : Gives left (bytes_left remaining ahead.source) (block_bytes ahead.blocks.items)
+  pub few : length ahead.joined.lines.items ≤ limit
+  pub joins : Joins IsParsedOk parsed rows (map line_values ahead.joined.lines.items)
+  pub gives : Gives left (bytes_left remaining ahead.next.source) (block_bytes ahead.next.blocks.items)
 
 -- the same, and the blocks that were read before were parsed
 pub record TakesStep {R H : Type 0} (remaining : R → Option (List ℕ)) (limit : ℕ) (old new : Reading R H) : Type 0 where

@@ -1,4 +1,4 @@
-//! The lines of a whole text, where one thread reads and joins blocks while others parse.
+//! The lines of a whole text, where one thread reads blocks and one joins them while others parse.
 
 ghost use Rattle.std.specs.Prelude.{◌≡◌, ◌⊎◌, ◌<◌, ◌≤◌, ◌^◌, ℕ, List, [], Some, IfErr, IfOk, IfSome, length, map};
 ghost use Rattle.std.specs.List.{AllZip};
@@ -6,7 +6,7 @@ ghost use Rattle.ssb_schema.specs.Rows.{line_values};
 ghost use Rattle.ssb_schema.specs.declared.table.Table.TheVariants as table;
 ghost use Rattle.ssb_text.specs.Tables.{IsFirstFault, IsReadFault, SpellsRows};
 ghost use Rattle.ssb_text.specs.Blocks.{HasHashed, HashesOn, bytes_left};
-ghost use Rattle.ssb_text.specs.Ahead.{GoesAhead, IsBegun, TakesStep};
+ghost use Rattle.ssb_text.specs.Ahead.{Gives, GoesAhead, IsBegun, TakesStep, block_bytes};
 ghost use Rattle.ssb_text.specs.Joining.{Joins, Stops};
 ghost use Rattle.ssb_text.specs.Parsing.{IsParsedOk};
 
@@ -26,21 +26,42 @@ use std::thread::Threads;
 const BLOCKS: usize = 8;
 
 /// How far a text was read: the lines of its first blocks, what was parsed of the next ones, the bytes of those behind
-/// them, and the source of the rest.
+/// them, and the source of the rest. The rooms are buffers that are free again.
 #[derive(Drop)]
 pub(crate) struct Reading<R, H> {
     pub(crate) lines: Vec<Line>,
     pub(crate) parsed: Vec<Result<Parsed, ReadError>>,
     pub(crate) blocks: Vec<Block>,
+    pub(crate) rooms: Vec<Block>,
     pub(crate) source: Blocks<R, H>,
 }
 
-/// What one thread does while others parse: the lines with those that were parsed before, and the next blocks.
+/// The lines of the first blocks, and what was parsed of the next ones and is not joined to them yet.
 #[derive(Drop)]
-pub(crate) struct ReadAhead<R, H> {
+pub(crate) struct Unjoined {
     pub(crate) lines: Vec<Line>,
+    pub(crate) parsed: Vec<Result<Parsed, ReadError>>,
+}
+
+/// The lines of all blocks that were parsed, and the blocks' buffers.
+#[derive(Drop)]
+pub(crate) struct JoinedLines {
+    pub(crate) lines: Vec<Line>,
+    pub(crate) rooms: Vec<Block>,
+}
+
+/// The next blocks, and the source of the rest.
+#[derive(Drop)]
+pub(crate) struct NextBlocks<R, H> {
     pub(crate) blocks: Vec<Block>,
     pub(crate) source: Blocks<R, H>,
+}
+
+/// What two threads do while others parse: the lines with those that were parsed before, and the next blocks.
+#[derive(Drop)]
+pub(crate) struct ReadAhead<R, H> {
+    pub(crate) joined: JoinedLines,
+    pub(crate) next: NextBlocks<R, H>,
 }
 
 // The fault where no block could be read.
@@ -70,36 +91,82 @@ fn begin<R: Read + Drop, H: TableHash>(
             lines: Vec::new(alloc),
             parsed: Vec::new(alloc),
             blocks,
+            rooms: Vec::new(alloc),
             source,
         }),
         Err(why) => Err(unread(why)),
     }
 }
 
-// Joins what was parsed before, and reads the next blocks into its buffers.
-fn go_ahead<R: Read + Drop, H: TableHash>(
-    alloc: Global,
-    limit: usize,
-    mut lines: Vec<Line>,
-    parsed: Vec<Result<Parsed, ReadError>>,
-    mut source: Blocks<R, H>,
-) -> Result<ReadAhead<R, H>, LoadError>
+// Joins what was parsed to the lines before it.
+fn join_parsed(alloc: Global, limit: usize, unjoined: Unjoined) -> Result<JoinedLines, LoadError>
     requires small { limit < 2 ^ 32 }
-    requires few { length lines.items ≤ limit }
-    ensures ahead { IfOk result (GoesAhead R.remaining limit (map line_values lines.items) parsed.items
-        (bytes_left R.remaining source)) }
-    ensures hashed { IfOk result (λ ahead. HashesOn R.remaining H.holds source ahead.source) }
-    ensures stops { IfErr result (Stops IsParsedOk parsed.items limit (map line_values lines.items)) }
+    requires few { length unjoined.lines.items ≤ limit }
+    ensures few { IfOk result (λ joined. length joined.lines.items ≤ limit) }
+    ensures joined { IfOk result (λ joined. Joins IsParsedOk unjoined.parsed.items
+        (map line_values unjoined.lines.items) (map line_values joined.lines.items)) }
+    ensures stops { IfErr result (Stops IsParsedOk unjoined.parsed.items limit (map line_values unjoined.lines.items)) }
 {
+    let Unjoined { mut lines, parsed } = unjoined;
     let rooms = join_blocks(alloc, &mut lines, parsed, limit)?;
+    Ok(JoinedLines { lines, rooms })
+}
+
+// Reads the next blocks into free buffers.
+fn read_blocks<R: Read + Drop, H: TableHash>(
+    alloc: Global,
+    rooms: Vec<Block>,
+    mut source: Blocks<R, H>,
+) -> Result<NextBlocks<R, H>, LoadError>
+    ensures gives { IfOk result (λ next. Gives (bytes_left R.remaining source) (bytes_left R.remaining next.source)
+        (block_bytes next.blocks.items)) }
+    ensures hashed { IfOk result (λ next. HashesOn R.remaining H.holds source next.source) }
+    ensures fault { IfErr result (IsReadFault table.Lineorder) }
+{
     match source.next_blocks(alloc, BLOCKS, rooms) {
-        Ok(blocks) => Ok(ReadAhead {
-            lines,
-            blocks,
-            source,
-        }),
+        Ok(blocks) => Ok(NextBlocks { blocks, source }),
         Err(why) => Err(unread(why)),
     }
+}
+
+// Joins what was parsed before, and reads the next blocks meanwhile, each in a thread of its own.
+fn go_ahead<R: Read + Drop, H: TableHash>(
+    rt: &(impl Threads + Sync),
+    alloc: Global,
+    limit: usize,
+    unjoined: Unjoined,
+    rooms: Vec<Block>,
+    source: Blocks<R, H>,
+) -> Result<ReadAhead<R, H>, LoadError>
+    requires small { limit < 2 ^ 32 }
+    requires few { length unjoined.lines.items ≤ limit }
+    ensures ahead { IfOk result (GoesAhead R.remaining limit (map line_values unjoined.lines.items)
+        unjoined.parsed.items (bytes_left R.remaining source)) }
+    ensures hashed { IfOk result (λ ahead. HashesOn R.remaining H.holds source ahead.next.source) }
+    ensures stops { IfErr result (Stops IsParsedOk unjoined.parsed.items limit (map line_values unjoined.lines.items)) }
+{
+    let (joined, next) = thread::join(
+        rt,
+        move || -> Result<JoinedLines, LoadError>
+            requires small { limit < 2 ^ 32 }
+            requires few { length unjoined.lines.items ≤ limit }
+            ensures few { IfOk result (λ joined. length joined.lines.items ≤ limit) }
+            ensures joined { IfOk result (λ joined. Joins IsParsedOk unjoined.parsed.items
+                (map line_values unjoined.lines.items) (map line_values joined.lines.items)) }
+            ensures stops { IfErr result (Stops IsParsedOk unjoined.parsed.items limit
+                (map line_values unjoined.lines.items)) }
+        { join_parsed(alloc, limit, unjoined) },
+        move || -> Result<NextBlocks<R, H>, LoadError>
+            ensures gives { IfOk result (λ next. Gives (bytes_left R.remaining source)
+                (bytes_left R.remaining next.source) (block_bytes next.blocks.items)) }
+            ensures hashed { IfOk result (λ next. HashesOn R.remaining H.holds source next.source) }
+            ensures fault { IfErr result (IsReadFault table.Lineorder) }
+        { read_blocks(alloc, rooms, source) },
+    );
+    Ok(ReadAhead {
+        joined: joined?,
+        next: next?,
+    })
 }
 
 // Parses the blocks that were read, and goes ahead meanwhile.
@@ -119,9 +186,11 @@ fn step<R: Read + Drop, H: TableHash>(
         lines,
         parsed,
         blocks,
+        rooms,
         source,
     } = reading;
-    let (next, ahead) = thread::join(
+    let unjoined = Unjoined { lines, parsed };
+    let (parsed, ahead) = thread::join(
         rt,
         move || -> Result<Vec<Result<Parsed, ReadError>>, AllocError>
             ensures { IfOk result (λ parsed. AllZip (λ block read. IsParsedOk block.bytes.items read) blocks.items
@@ -129,22 +198,26 @@ fn step<R: Read + Drop, H: TableHash>(
         { parse_blocks(rt, alloc, blocks) },
         move || -> Result<ReadAhead<R, H>, LoadError>
             requires small { limit < 2 ^ 32 }
-            requires few { length lines.items ≤ limit }
-            ensures ahead { IfOk result (GoesAhead R.remaining limit (map line_values lines.items) parsed.items
-                (bytes_left R.remaining source)) }
-            ensures hashed { IfOk result (λ ahead. HashesOn R.remaining H.holds source ahead.source) }
-            ensures stops { IfErr result (Stops IsParsedOk parsed.items limit (map line_values lines.items)) }
-        { go_ahead(alloc, limit, lines, parsed, source) },
+            requires few { length unjoined.lines.items ≤ limit }
+            ensures ahead { IfOk result (GoesAhead R.remaining limit (map line_values unjoined.lines.items)
+                unjoined.parsed.items (bytes_left R.remaining source)) }
+            ensures hashed { IfOk result (λ ahead. HashesOn R.remaining H.holds source ahead.next.source) }
+            ensures stops { IfErr result (Stops IsParsedOk unjoined.parsed.items limit
+                (map line_values unjoined.lines.items)) }
+        { go_ahead(rt, alloc, limit, unjoined, rooms, source) },
     );
-    let ahead = ahead?;
-    let Ok(next) = next else {
+    let ReadAhead { joined, next } = ahead?;
+    let JoinedLines { lines, rooms } = joined;
+    let NextBlocks { blocks, source } = next;
+    let Ok(parsed) = parsed else {
         return Err(LoadError::OutOfMemory);
     };
     Ok(Reading {
-        lines: ahead.lines,
-        parsed: next,
-        blocks: ahead.blocks,
-        source: ahead.source,
+        lines,
+        parsed,
+        blocks,
+        rooms,
+        source,
     })
 }
 
@@ -167,6 +240,7 @@ fn finish<R: Read + Drop, H: TableHash>(
         mut lines,
         parsed,
         blocks: _,
+        rooms: _,
         source,
     } = reading;
     join_blocks(alloc, &mut lines, parsed, limit)?;
@@ -176,8 +250,8 @@ fn finish<R: Read + Drop, H: TableHash>(
     })
 }
 
-/// The lines that a lineorder text spells, and what its bytes are hashed to; or its first fault. One thread reads,
-/// hashes and joins while others parse.
+/// The lines that a lineorder text spells, and what its bytes are hashed to; or its first fault. One thread reads and
+/// hashes, and one joins, while others parse.
 pub(crate) fn read_lines<R: Read + Drop, H: TableHash>(
     rt: &(impl Threads + Sync),
     alloc: Global,

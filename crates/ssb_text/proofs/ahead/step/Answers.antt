@@ -5,11 +5,11 @@ use Rattle.ssb_text.proofs.ahead.step.Goals as goal
 pub returns-clause-step : goal.returns-clause-step
 returns-clause-step g c =
     let old = c.args.reading in
-    let ahead = rw c.in_ok-ahead.was at c.join-next.ensures.second.0 in
-    let parsed = rw c.in-Ok.is at c.join-next.ensures.first in
+    let ahead = rw c.in_ok-joined.was at c.join-parsed.ensures.second.0 in
+    let parsed = rw c.in-Ok.is at c.join-parsed.ensures.first in
     record {
       few = ahead.few;
       joins = ahead.joins;
       gives = ahead.gives;
-      parsed = AllZip-map (λ b. b.bytes.items) IsParsedOk _ c.in-Ok.next.items parsed;
+      parsed = AllZip-map (λ b. b.bytes.items) IsParsedOk _ c.in-Ok.parsed.items parsed;
     }
