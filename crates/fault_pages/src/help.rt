@@ -7,6 +7,7 @@ use ssb_hints::{
 };
 use ssb_questions::{Query, Question};
 use ssb_schema::{C_CITY, Table};
+use ssb_text::Delimiter;
 use std::alloc::{AllocError, Global};
 use std::collections::BTreeSet;
 use std::io;
@@ -82,8 +83,8 @@ impl ListsFaults for RowHelp<'static, 'static> {
 
     fn next(&self) -> Option<RowHelp<'static, 'static>> {
         Some(match self {
-            RowHelp::FieldCount(_, _, _) => RowHelp::Commas(3),
-            RowHelp::Commas(_) => RowHelp::ColumnNames,
+            RowHelp::FieldCount(_, _, _) => RowHelp::Commas(3, Delimiter::bar()),
+            RowHelp::Commas(_, _) => RowHelp::ColumnNames,
             RowHelp::ColumnNames => RowHelp::NotUtf8(PLACE, "C_CITY"),
             RowHelp::NotUtf8(_, _) => RowHelp::NotANumber(PLACE, "C_CITY", "1x"),
             RowHelp::NotANumber(_, _, _) => RowHelp::OutOfRange(PLACE, "C_CITY", "1x", 1, 7),

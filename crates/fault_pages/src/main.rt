@@ -7,8 +7,8 @@
 //! it ends with status 0.
 //!
 //! `faults` lists the faults, and `help` the lines of help, each type variant by variant, so that a variant that is not
-//! listed is refused by the compiler. `page` reads a row, and puts the values that the listed faults have in the place of its words in capitals:
-//! the row `7 KeyRepeated TABLE ROW` promises the line `7 KeyRepeated customer 2`.
+//! listed is refused by the compiler. `page` reads a row, and puts the values that the listed faults have in the place
+//! of its words in capitals: the row `7 KeyRepeated TABLE ROW` promises the line `7 KeyRepeated customer 2`.
 #![tactic(auto)]
 
 mod faults;

@@ -15,6 +15,7 @@ pub struct PageRow {
 fn value_of(word: &str) -> &str {
     match word {
         "\\|" => "|",
+        "C" => "|",
         "WORD" => "LO_TAX",
         "CONSTANT" => "year",
         "VALUE" => "1x",
@@ -81,8 +82,8 @@ fn are_two(cells: &str) -> bool {
     }
 }
 
-/// The row of a table of faults that a line of the page is, if it is one: its first cell is a fault's line, or a line of
-/// help, in code.
+/// The row of a table of faults that a line of the page is, if it is one: its first cell is a fault's line, or a line
+/// of help, in code.
 pub fn row_of(alloc: Global, text: &str) -> Result<Option<PageRow>, AllocError> {
     let Some(rest) = text.strip_prefix("| `") else {
         return Ok(None);

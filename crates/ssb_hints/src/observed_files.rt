@@ -8,8 +8,8 @@ use std::io;
 use std::path::PathBuf;
 use std::rt::Files;
 
-/// Files of which it is kept why one could not be opened, made, named, read or written. That a path is looked at, and
-/// nothing is there, is no failure. What the program asks of no file, as a link, is not passed on.
+/// Files of which it is kept why one could not be opened, made, named, read or written. That a path or a link is looked
+/// at, and nothing is there, is no failure. What the program asks of no file, as to change its owner, is not passed on.
 #[derive(Drop)]
 pub struct ObservedFiles<'a, F: Files> {
     files: &'a F,
@@ -72,6 +72,10 @@ impl<'a, F: Files> Files for ObservedFiles<'a, F> {
 
     fn canonicalize<B: Allocator>(&self, alloc: B, path: &str) -> io::Result<PathBuf<B>> {
         self.files.canonicalize(alloc, path)
+    }
+
+    fn read_link<B: Allocator>(&self, alloc: B, path: &str) -> io::Result<PathBuf<B>> {
+        self.files.read_link(alloc, path)
     }
 
     fn copy(&self, from: &str, to: &str) -> io::Result<u64> {

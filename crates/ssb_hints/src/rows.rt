@@ -7,7 +7,7 @@ use crate::paths::help_with_path;
 use crate::records::{open_plain, record_of, text_at};
 use csv::ByteRecord;
 use ssb_schema::{Column, Kind, Table};
-use ssb_text::{Barred, TableLayout, field_at, trimmed_at};
+use ssb_text::{Barred, Delimiter, TableLayout, field_at, trimmed_at};
 use std::alloc::Global;
 use std::io::Write;
 use std::rt::Files;
@@ -31,8 +31,8 @@ impl<'a> fmt::Display for RowPlace<'a> {
 pub enum RowHelp<'p, 'a> {
     /// How many fields it has, and how many are wanted.
     FieldCount(RowPlace<'p>, usize, usize),
-    /// How many commas it has, where it has no bar.
-    Commas(usize),
+    /// How many commas it has, where it has nothing that parts fields, and what parts them.
+    Commas(usize, Delimiter),
     /// It names columns.
     ColumnNames,
     /// This column is no text.
@@ -49,13 +49,26 @@ pub enum RowHelp<'p, 'a> {
     UnknownKey(RowPlace<'p>, &'a str, &'a str, Table),
 }
 
+// A tab is named, since nobody sees it.
+fn write_commas<W: fmt::Write>(
+    f: &mut fmt::Formatter<W>,
+    count: usize,
+    delimiter: Delimiter,
+) -> fmt::Result {
+    write!(f, "it has {count} commas; fields are parted by ")?;
+    match delimiter.byte() {
+        b'\t' => f.write_str("tab"),
+        byte => f.write_char(char::from(byte)),
+    }
+}
+
 impl<'p, 'a> fmt::Display for RowHelp<'p, 'a> {
     fn fmt<W: fmt::Write>(&self, f: &mut fmt::Formatter<W>) -> fmt::Result {
         match self {
             RowHelp::FieldCount(place, found, wanted) => {
                 write!(f, "{place} has {found} fields, and {wanted} are wanted")
             }
-            RowHelp::Commas(count) => { write!(f, "it has {count} commas; fields are parted by |") }
+            RowHelp::Commas(count, delimiter) => write_commas(f, *count, *delimiter),
             RowHelp::ColumnNames => f.write_str("it looks like column names; the file has none"),
             RowHelp::NotUtf8(place, column) => write!(f, "{place} column {column} is not UTF-8"),
             RowHelp::NotANumber(place, column, value) => write!(
@@ -133,6 +146,7 @@ fn begins_with_letter(record: &ByteRecord) -> bool {
     }
 }
 
+// How many commas a row's first field has: none where commas part fields, since a bar is read for each.
 fn commas_in(record: &ByteRecord) -> usize {
     field_at(record, 0)
         .iter()
@@ -146,12 +160,12 @@ struct ToldRow<'a> {
     place: RowPlace<'a>,
     table: Table,
     record: ByteRecord,
-    has_heads: bool,
+    layout: TableLayout,
 }
 
 // Says that a first row names columns, where it does and no line of heads is wanted.
 fn help_with_names<E: Write>(row: &ToldRow<'_>, err: &mut E) -> io::Result<()> {
-    if row.place.row == 1 && !row.has_heads && begins_with_letter(&row.record) {
+    if row.place.row == 1 && !row.layout.has_heads && begins_with_letter(&row.record) {
         return write_line(err, &RowHelp::ColumnNames);
     }
     Ok(())
@@ -163,8 +177,9 @@ fn help_with_count<E: Write>(row: &ToldRow<'_>, err: &mut E) -> io::Result<()> {
         err,
         &RowHelp::FieldCount(row.place, found, row.table.kinds().len()),
     )?;
-    if found == 1 && commas_in(&row.record) > 0 {
-        write_line(err, &RowHelp::Commas(commas_in(&row.record)))?;
+    let commas = commas_in(&row.record);
+    if found == 1 && commas > 0 {
+        write_line(err, &RowHelp::Commas(commas, row.layout.delimiter))?;
     }
     help_with_names(row, err)
 }
@@ -281,7 +296,7 @@ fn told_row<'a, F: Files + AllocGlobal>(
         place,
         table,
         record,
-        has_heads: layout.has_heads,
+        layout,
     }))
 }
 
