@@ -25,13 +25,9 @@ apart : {X : Type 0} → true ≡ false → X
 apart e = absurd (cc)
 
 order : (m n : ℕ) → (m < n) ⊎ (n ≤ m)
-order m zero = inr (omega arith)
-order zero (suc n) = inl (omega arith)
-order (suc m) (suc n) = step (order m n)
-  where
-    step : (m < n) ⊎ (n ≤ m) → (suc m < suc n) ⊎ (suc n ≤ suc m)
-    step (inl lt) = inl (omega (arith, lt))
-    step (inr le) = inr (omega (arith, le))
+order m zero = grind arith
+order zero (suc n) = grind arith
+order (suc m) (suc n) = grind (arith, order m n)
 
 -- where a test passes at a number of a range, the first at which it does
 first_in_range : (test : ℕ → Bool) (a n k : ℕ) → a ≤ k → k < a + n → test k ≡ true → (i : ℕ)
@@ -160,32 +156,18 @@ same_dates d p q row first at_p is at_q place =
 -- every class is below the extent
 longer_is : (most class : ℕ) → (most ≤ (if nat_lt most (class + 1) then class + 1 else most))
     × (class < (if nat_lt most (class + 1) then class + 1 else most))
-longer_is most class = step (nat_lt most (class + 1)) refl
-  where
-    step : (b : Bool) → nat_lt most (class + 1) ≡ b → (most ≤ (if b then class + 1 else most))
-        × (class < (if b then class + 1 else most))
-    step true is = let lt = ltb-true most (class + 1) is in (omega (arith, lt), omega arith)
-    step false is = let le = ltb-false most (class + 1) is in (omega arith, omega (arith, le))
+longer_is most class = grind (arith, ltb-true, ltb-false)
 
 reaches : (classes : List ℕ) (most : ℕ) → most ≤ fold (λ top class. if nat_lt top (class + 1) then class + 1 else top)
     most classes
-reaches [] most = omega arith
-reaches (class ∷ classes) most = omega (
-  arith,
-  reaches classes (if nat_lt most (class + 1) then class + 1 else most),
-  longer_is most class,
-)
+reaches [] most = grind arith
+reaches (class ∷ classes) most = grind (arith, longer_is, reaches classes (if nat_lt most (class + 1) then class + 1 else most))
 
 below_most : (classes : List ℕ) (most i : ℕ) → i < length classes
     → get_or classes i 0 < fold (λ top class. if nat_lt top (class + 1) then class + 1 else top) most classes
-below_most [] most i within = absurd (omega (arith, within))
-below_most (class ∷ classes) most zero within = omega (
-  arith,
-  reaches classes (if nat_lt most (class + 1) then class + 1 else most),
-  longer_is most class,
-)
-below_most (class ∷ classes) most (suc i) within = below_most classes
-    (if nat_lt most (class + 1) then class + 1 else most) i (omega (arith, within))
+below_most [] most i within = grind arith
+below_most (class ∷ classes) most zero within = grind (arith, reaches, longer_is)
+below_most (class ∷ classes) most (suc i) within = grind (arith, below_most classes (if nat_lt most (class + 1) then class + 1 else most) i (omega (arith, within)))
 
 pub below_extent : (classes : List ℕ) (i : ℕ) → i < length classes → get_or classes i 0 < extent_of classes
 below_extent classes i within = below_most classes 0 i within

@@ -49,11 +49,10 @@ length_narrowed (row ∷ rows) (pass ∷ passes) same = ap suc (length_narrowed 
 
 pub narrowed_at : (rows passes : List Bool) (i : ℕ) (d : Bool) → length rows ≡ length passes → i < length rows
     → get_or (narrowed rows passes) i d ≡ (get_or rows i d && get_or passes i d)
-narrowed_at [] passes i d same within = absurd (omega (arith, within))
-narrowed_at (row ∷ rows) [] i d same within = absurd (cc)
-narrowed_at (row ∷ rows) (pass ∷ passes) zero d same within = refl
-narrowed_at (row ∷ rows) (pass ∷ passes) (suc i) d same within =
-    narrowed_at rows passes i d (omega (arith, same)) (omega (arith, within))
+narrowed_at [] passes i d same within = grind arith
+narrowed_at (row ∷ rows) [] i d same within = grind arith
+narrowed_at (row ∷ rows) (pass ∷ passes) zero d same within = grind arith
+narrowed_at (row ∷ rows) (pass ∷ passes) (suc i) d same within = grind (arith, narrowed_at rows passes i d (omega (arith, same)) (omega (arith, within)))
 
 -- what a test says of a row's value is what it says of its code's
 pub passes_at : (test : Value → Bool) (dictionary values : List Value) (codes : List ℕ) (row : ℕ) (d : Bool)

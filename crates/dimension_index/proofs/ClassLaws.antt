@@ -29,81 +29,30 @@ both false b e = absurd (cc)
 
 -- the same codes are equal
 told_equal : (x y : RowCodes) → same_told x y ≡ true → x ≡ y
-told_equal x y same =
-    let first = both ((nat_eq x.0 y.0 && nat_eq x.1 y.1) && nat_eq x.2 y.2) (nat_eq x.3 y.3) same in
-    let second = both (nat_eq x.0 y.0 && nat_eq x.1 y.1) (nat_eq x.2 y.2) first.0 in
-    let third = both (nat_eq x.0 y.0) (nat_eq x.1 y.1) second.0 in
-    λ i. (
-      eqb-true x.0 y.0 third.0 i,
-      eqb-true x.1 y.1 third.1 i,
-      eqb-true x.2 y.2 second.1 i,
-      eqb-true x.3 y.3 first.1 i,
-    )
+told_equal x y same = grind (arith, both, eqb-true)
 
 -- codes that were seen are not noted again
 pub seen_before : (places : RowCodes → Option ℕ) (told : RowCodes) (place at : ℕ) (other : RowCodes)
     → places told ≡ Some place → places other ≡ noted places told at other
-seen_before places told place at other seen = step (same_told told other) refl
-  where
-    kept : (o p : Option ℕ) (q : ℕ) → o ≡ Some q → o ≡ option_or o p
-    kept None p q e = absurd (cc)
-    kept (Some x) p q e = refl
-
-    none : (o : Option ℕ) → o ≡ option_or o None
-    none None = refl
-    none (Some x) = refl
-
-    step : (b : Bool) → same_told told other ≡ b → places other ≡ noted places told at other
-    step true same = kept (places other) (if same_told told other then Some at else None) place
-        (ap places (sym (told_equal told other same)) ∙ seen)
-    step false apart = none (places other) ∙ ap (λ b. option_or (places other) (if b then Some at else None))
-        (sym apart)
+seen_before places told place at other seen = grind (arith, told_equal)
 
 -- codes that are new are noted
 pub seen_now : (places later : RowCodes → Option ℕ) (told : RowCodes) (at : ℕ) (other : RowCodes) → places told ≡ None
     → later other ≡ cond (same_told told other) (Some at) (places other)
     → later other ≡ noted places told at other
-seen_now places later told at other new is = is ∙ step (same_told told other) refl
-  where
-    none : (o : Option ℕ) → o ≡ option_or o None
-    none None = refl
-    none (Some x) = refl
-
-    step : (b : Bool) → same_told told other ≡ b → cond (same_told told other) (Some at) (places other) ≡ noted places
-        told at other
-    step true same =
-        let missing : places other ≡ None = ap places (sym (told_equal told other same)) ∙ new in
-        ap (λ b. cond b (Some at) (places other)) same
-        ∙ ap (λ b. option_or None (if b then Some at else None)) (sym same)
-        ∙ ap (λ o. option_or o (if same_told told other then Some at else None)) (sym missing)
-    step false apart = ap (λ b. cond b (Some at) (places other)) apart ∙ none (places other)
-        ∙ ap (λ b. option_or (places other) (if b then Some at else None)) (sym apart)
+seen_now places later told at other new is = grind (arith, told_equal)
 
 -- the first place in a list with one element more
 position_push : {X : Type 0} (test : X → Bool) (a : ℕ) (xs : List X) (y : X)
     → position_from test a (xs ++ y ∷ []) ≡ option_or (position_from test a xs)
     (cond (test y) (Some (a + length xs)) None)
-position_push test a [] y = let here : a ≡ a + 0 = omega arith in ap (λ k. cond (test y) (Some k) None) here
-position_push test a (x ∷ xs) y =
-    let next : a + 1 + length xs ≡ a + suc (length xs) = omega arith in
-    ap (cond (test x) (Some a)) (position_push test (a + 1) xs y
-    ∙ ap (λ k. option_or (position_from test (a + 1) xs) (cond (test y) (Some k) None)) next) ∙ step (test x)
-  where
-    step : (b : Bool) → cond b (Some a) (option_or (position_from test (a + 1) xs)
-        (cond (test y) (Some (a + suc (length xs))) None))
-        ≡ option_or (cond b (Some a) (position_from test (a + 1) xs)) (cond (test y) (Some (a + suc (length xs))) None)
-    step true = refl
-    step false = refl
+position_push test a [] y = grind arith
+position_push test a (x ∷ xs) y = grind (arith, position_push test (a + 1) xs y)
 
 pub first_push : (other : RowCodes) (rows : List RowCodes) (told : RowCodes)
     → position (λ own. same_told own other) (rows ++ told ∷ []) ≡ option_or (position (λ own. same_told own other) rows)
     (if same_told told other then Some (length rows) else None)
-first_push other rows told =
-    let test : RowCodes → Bool = λ own. same_told own other in
-    let start : 0 + length rows ≡ length rows = omega arith in
-    position_from-zero test (rows ++ told ∷ [])
-    ∙ position_push test 0 rows told
-    ∙ (λ i. option_or (sym (position_from-zero test rows) i) (cond (test told) (Some (start i)) None))
+first_push other rows told = grind (arith, position_from-zero, position_push)
 
 -- a test and what it tests, place by place
 positions_agree : {X : Type 0} (f : ℕ → X) (test : X → Bool) (other : ℕ → Bool) (a n b : ℕ)
@@ -184,15 +133,11 @@ classes_read : (base : Tables) (t : Table) (d : Column)
     → classes_by (four_of base (telling_columns t) d) (length (values_of base (get_or (telling_columns t) 0 d)))
     ≡ classes_of base.dimensions t
 unfolding classes_of
-classes_read base table.Customer d = ap (classes_by (read_columns base.dimensions table.Customer))
-    (length-map base.dimensions.customers (customer_value 4))
-classes_read base table.Supplier d = ap (classes_by (read_columns base.dimensions table.Supplier))
-    (length-map base.dimensions.suppliers (supplier_value 4))
-classes_read base table.Part d = ap (classes_by (read_columns base.dimensions table.Part))
-    (length-map base.dimensions.parts (part_value 3))
-classes_read base table.Date d = ap (classes_by (read_columns base.dimensions table.Date))
-    (length-map base.dimensions.dates (date_value 5))
-classes_read base table.Lineorder d = refl
+classes_read base table.Customer d = grind (arith, length-map)
+classes_read base table.Supplier d = grind (arith, length-map)
+classes_read base table.Part d = grind (arith, length-map)
+classes_read base table.Date d = grind (arith, length-map)
+classes_read base table.Lineorder d = grind arith
 
 -- the columns that queries read tell the classes
 pub classes_kept : (base : Tables) (t : Table) (columns : List Column) (d : Column) → columns ≡ telling_columns t
@@ -202,35 +147,18 @@ classes_kept base t columns d is =
 
 -- there are as many classes as keys
 pub classes_keys : (base : Tables) (t : Table) → length (classes_of base.dimensions t) ≡ length (keys_of base t)
-classes_keys base table.Customer = classes_length base.dimensions table.Customer
-    ∙ sym (length-map base.dimensions.customers customer_key)
-classes_keys base table.Supplier = classes_length base.dimensions table.Supplier
-    ∙ sym (length-map base.dimensions.suppliers supplier_key)
-classes_keys base table.Part = classes_length base.dimensions table.Part
-    ∙ sym (length-map base.dimensions.parts part_key)
-classes_keys base table.Date = classes_length base.dimensions table.Date
-    ∙ sym (length-map base.dimensions.dates date_key)
-classes_keys base table.Lineorder = classes_length base.dimensions table.Lineorder
+classes_keys base table.Customer = grind (arith, classes_length, length-map)
+classes_keys base table.Supplier = grind (arith, classes_length, length-map)
+classes_keys base table.Part = grind (arith, classes_length, length-map)
+classes_keys base table.Date = grind (arith, classes_length, length-map)
+classes_keys base table.Lineorder = grind (arith, classes_length)
 
 first_at : {X : Type 0} (test : X → Bool) (a other : ℕ) (xs : List X) (i : ℕ) (d : X) → i < length xs
     → test (get_or xs i d) ≡ true
     → unwrap_or (position_from test a xs) other ≡ unwrap_or (position_from test a (take i xs)) (a + i)
-first_at test a other [] i d within passes = absurd (omega (arith, within))
-first_at test a other (x ∷ xs) zero d within passes =
-    let start : a ≡ a + 0 = omega arith in
-    ap (λ b. unwrap_or (cond b (Some a) (position_from test (a + 1) xs)) other) passes ∙ start
-first_at test a other (x ∷ xs) (suc i) d within passes =
-    step (test x) (first_at test (a + 1) other xs i d (omega (arith, within)) passes)
-  where
-    next : a + 1 + i ≡ a + suc i
-    next = omega arith
-
-    step : (b : Bool) → unwrap_or (position_from test (a + 1) xs) other ≡ unwrap_or
-        (position_from test (a + 1) (take i xs)) (a + 1 + i)
-        → unwrap_or (cond b (Some a) (position_from test (a + 1) xs)) other ≡ unwrap_or
-        (cond b (Some a) (position_from test (a + 1) (take i xs))) (a + suc i)
-    step true rest = refl
-    step false rest = rest ∙ ap (unwrap_or (position_from test (a + 1) (take i xs))) next
+first_at test a other [] i d within passes = grind arith
+first_at test a other (x ∷ xs) zero d within passes = grind (arith, unwrap_or)
+first_at test a other (x ∷ xs) (suc i) d within passes = grind (arith, unwrap_or, first_at test (a + 1) other xs i d (omega (arith, within)) passes)
 
 same_self : (x : RowCodes) → same_told x x ≡ true
 same_self x = λ i. ((eq-eqb x.0 x.0 refl i && eq-eqb x.1 x.1 refl i) && eq-eqb x.2 x.2 refl i) && eq-eqb x.3 x.3 refl i

@@ -26,33 +26,14 @@ is_same-flip : (a b : Value) → is_same a b ≡ true → is_same b a ≡ true
 is_same-flip a b same = (value_Decides b a).1 (sym ((value_Decides a b).0 same))
 
 flip_false : (a b : Value) → is_same a b ≡ false → is_same b a ≡ false
-flip_false a b apart = step (is_same b a) refl
-  where
-    step : (same : Bool) → is_same b a ≡ same → same ≡ false
-    step true is = absurd (clash (sym (is_same-flip b a is) ∙ apart))
-      where
-        clash : true ≡ false → ⊥
-        clash e = cc
-    step false is = refl
+flip_false a b apart = grind (arith, is_same-flip)
 
 -- every value that is the same as v passes the test, so v is among those that pass where it is among all
 any_kept : (v : Value) (test : Value → Bool) (values : List Value)
     → ((other : Value) → is_same v other ≡ true → test other ≡ true)
     → list_any (is_same v) (filter test values) ≡ list_any (is_same v) values
-any_kept v test [] passes = refl
-any_kept v test (first ∷ values) passes = step (is_same v first) (test first) refl (passes first)
-    (any_kept v test values passes)
-  where
-    step : (same kept : Bool) → is_same v first ≡ same → (is_same v first ≡ true → kept ≡ true)
-        → list_any (is_same v) (filter test values) ≡ list_any (is_same v) values
-        → list_any (is_same v) (cond kept (first ∷ filter test values) (filter test values))
-        ≡ (is_same v first || list_any (is_same v) values)
-    step same true here implies rest = ap (λ b. is_same v first || b) rest
-    step true false here implies rest = absurd (apart (implies here))
-      where
-        apart : false ≡ true → ⊥
-        apart e = cc
-    step false false here implies rest = rest ∙ ap (λ b. b || list_any (is_same v) values) (sym here)
+any_kept v test [] passes = grind arith
+any_kept v test (first ∷ values) passes = grind (arith, any_kept v test values passes)
 
 abbrev differs : Value → Value → Bool
 differs value other = not (is_same value other)
@@ -61,48 +42,8 @@ differs value other = not (is_same value other)
 pub distinct_push : (values : List Value) (v : Value) → distinct (values ++ v ∷ []) ≡ insert_key is_same
     (distinct values) v
 unfolding distinct
-distinct_push [] v = refl
-distinct_push (x ∷ values) v = ap (λ l. x ∷ filter (differs x) l) (distinct_push values v)
-    ∙ step (is_same v x) refl (list_any (is_same v) (distinct values)) refl
-  where
-    gone : is_same v x ≡ true → differs x v ≡ false
-    gone same = ap not (is_same-flip v x same)
-
-    stays : is_same v x ≡ false → differs x v ≡ true
-    stays apart = ap not (flip_false v x apart)
-
-    last : (b : Bool) → differs x v ≡ b → filter (differs x) (distinct values ++ v ∷ []) ≡ filter (differs x)
-        (distinct values) ++ cond b (v ∷ []) []
-    last b is = filter-append (differs x) (distinct values) (v ∷ [])
-        ∙ ap (λ k. filter (differs x) (distinct values) ++ cond k (v ∷ []) []) is
-
-    survives : is_same v x ≡ false → list_any (is_same v) (filter (differs x) (distinct values)) ≡ list_any (is_same v)
-        (distinct values)
-    survives apart = any_kept v (differs x) (distinct values)
-        (λ other same. ap not (ap (is_same x) (sym ((value_Decides v other).0 same)) ∙ flip_false v x apart))
-
-    step : (same : Bool) → is_same v x ≡ same → (among : Bool) → list_any (is_same v) (distinct values) ≡ among
-        → x ∷ filter (differs x) (cond among (distinct values) (distinct values ++ v ∷ [])) ≡ cond
-        (is_same v x || list_any (is_same v) (filter (differs x) (distinct values)))
-        (x ∷ filter (differs x) (distinct values)) ((x ∷ filter (differs x) (distinct values)) ++ v ∷ [])
-    step true here true there = ap (λ b. cond (b || list_any (is_same v) (filter (differs x) (distinct values)))
-        (x ∷ filter (differs x) (distinct values)) ((x ∷ filter (differs x) (distinct values)) ++ v ∷ [])) (sym here)
-    step true here false there =
-        ap (λ l. x ∷ l) (last false (gone here) ∙ append-nil (filter (differs x) (distinct values)))
-        ∙ ap (λ b. cond (b || list_any (is_same v) (filter (differs x) (distinct values)))
-        (x ∷ filter (differs x) (distinct values)) ((x ∷ filter (differs x) (distinct values)) ++ v ∷ []))
-        (sym here)
-    step false here true there =
-        ap (λ b. cond b (x ∷ filter (differs x) (distinct values))
-        ((x ∷ filter (differs x) (distinct values)) ++ v ∷ []))
-        (sym (ap (λ b. b || list_any (is_same v) (filter (differs x) (distinct values))) here ∙ survives here
-        ∙ there))
-    step false here false there =
-        ap (λ l. x ∷ l) (last true (stays here))
-        ∙ ap (λ b. cond b (x ∷ filter (differs x) (distinct values))
-        ((x ∷ filter (differs x) (distinct values)) ++ v ∷ []))
-        (sym (ap (λ b. b || list_any (is_same v) (filter (differs x) (distinct values))) here ∙ survives here
-        ∙ there))
+distinct_push [] v = grind arith
+distinct_push (x ∷ values) v = grind (arith, is_same-flip, flip_false, filter-append, any_kept, value_Decides, append-nil, distinct_push values v)
 
 -- no two of the values are the same
 abbrev pub Apart : List Value → Type 0
@@ -110,14 +51,8 @@ Apart [] = Unit {0}
 Apart (x ∷ values) = All (λ other. is_same x other ≡ false) values × Apart values
 
 passing : (test : Value → Bool) (values : List Value) → All (λ value. test value ≡ true) (filter test values)
-passing test [] = λ i d within. absurd (omega (arith, within))
-passing test (first ∷ values) = step (test first) refl (passing test values)
-  where
-    step : (kept : Bool) → test first ≡ kept → All (λ value. test value ≡ true) (filter test values)
-        → All (λ value. test value ≡ true) (cond kept (first ∷ filter test values) (filter test values))
-    step true is rest zero d within = is
-    step true is rest (suc i) d within = rest i d (omega (arith, within))
-    step false is rest i d within = rest i d within
+passing test [] = grind arith
+passing test (first ∷ values) = grind (arith, passing test values)
 
 apart_filter : (test : Value → Bool) (values : List Value) → Apart values → Apart (filter test values)
 apart_filter test [] apart = tt
@@ -130,24 +65,15 @@ apart_filter test (first ∷ values) apart = step (test first) (apart_filter tes
 
 pub distinct_apart : (values : List Value) → Apart (distinct values)
 unfolding distinct
-distinct_apart [] = tt
-distinct_apart (x ∷ values) = (
-  λ i d within. not_true (is_same x (get_or (filter (differs x) (distinct values)) i d))
-      (passing (differs x) (distinct values) i d within),
-  apart_filter (differs x) (distinct values) (distinct_apart values),
-)
-  where
-    not_true : (b : Bool) → not b ≡ true → b ≡ false
-    not_true true e = absurd (cc)
-    not_true false e = refl
+distinct_apart [] = grind arith
+distinct_apart (x ∷ values) = grind (arith, passing, apart_filter, distinct_apart values)
 
 apart_at : (values : List Value) (d : Value) (k i : ℕ) → Apart values → k < i → i < length values
     → is_same (get_or values k d) (get_or values i d) ≡ false
-apart_at [] d k i apart lt within = absurd (omega (arith, within))
-apart_at (x ∷ values) d k zero apart lt within = absurd (omega (arith, lt))
-apart_at (x ∷ values) d zero (suc i) apart lt within = apart.0 i d (omega (arith, within))
-apart_at (x ∷ values) d (suc k) (suc i) apart lt within =
-    apart_at values d k i apart.1 (omega (arith, lt)) (omega (arith, within))
+apart_at [] d k i apart lt within = grind arith
+apart_at (x ∷ values) d k zero apart lt within = grind arith
+apart_at (x ∷ values) d zero (suc i) apart lt within = grind arith
+apart_at (x ∷ values) d (suc k) (suc i) apart lt within = grind (arith, apart_at values d k i apart.1 (omega (arith, lt)) (omega (arith, within)))
 
 -- a value is found where it stands
 pub code_at : (values : List Value) (d : Value) (i : ℕ) → Apart values → i < length values
@@ -178,20 +104,11 @@ codes_read dictionary codes coded =
 
 entered_keeps : (old : List Value) (v d : Value) (code : ℕ) → code < length old
     → get_or (insert_key is_same old v) code d ≡ get_or old code d
-entered_keeps old v d code within = step (list_any (is_same v) old)
-  where
-    step : (among : Bool) → get_or (cond among old (old ++ v ∷ [])) code d ≡ get_or old code d
-    step true = refl
-    step false = get_or_append_left old (v ∷ []) d code within
+entered_keeps old v d code within = grind (arith, get_or_append_left)
 
 entered_len : (old : List Value) (v : Value) → (length old ≤ length (insert_key is_same old v))
     × (length (insert_key is_same old v) ≤ length old + 1)
-entered_len old v = step (list_any (is_same v) old)
-  where
-    step : (among : Bool) → (length old ≤ length (cond among old (old ++ v ∷ [])))
-        × (length (cond among old (old ++ v ∷ [])) ≤ length old + 1)
-    step true = (omega arith, omega arith)
-    step false = (omega (arith, length-append old (v ∷ [])), omega (arith, length-append old (v ∷ [])))
+entered_len old v = grind (arith, length-append)
 
 map_same : {X : Type 0} (f g : ℕ → X) (codes : List ℕ) → All (λ code. f code ≡ g code) codes → map f codes ≡ map g codes
 map_same f g [] same = refl
@@ -257,23 +174,9 @@ coded_all values dictionary codes all =
 among_distinct : (values : List Value) (p : ℕ) (d : Value) → p < length values
     → list_any (is_same (get_or values p d)) (distinct values) ≡ true
 unfolding distinct
-among_distinct [] p d within = absurd (omega (arith, within))
-among_distinct (x ∷ values) zero d within = ap (λ b. b || list_any (is_same x) (filter (differs x) (distinct values)))
-    (is_itself x)
-among_distinct (x ∷ values) (suc p) d within = step (is_same v x) refl
-    (among_distinct values p d (omega (arith, within)))
-  where
-    v : Value
-    v = get_or values p d
-
-    step : (same : Bool) → is_same v x ≡ same → list_any (is_same v) (distinct values) ≡ true
-        → (is_same v x || list_any (is_same v) (filter (differs x) (distinct values))) ≡ true
-    step true is rest = ap (λ b. b || list_any (is_same v) (filter (differs x) (distinct values))) is
-    step false is rest =
-        ap (λ b. b || list_any (is_same v) (filter (differs x) (distinct values))) is
-        ∙ any_kept v (differs x) (distinct values) (λ other same. ap not
-        (ap (is_same x) (sym ((value_Decides v other).0 same)) ∙ flip_false v x is))
-        ∙ rest
+among_distinct [] p d within = grind arith
+among_distinct (x ∷ values) zero d within = grind (arith, is_itself)
+among_distinct (x ∷ values) (suc p) d within = grind (arith, any_kept, value_Decides, flip_false, among_distinct values p d (omega (arith, within)))
 
 -- where a test passes somewhere, the first place at which it does
 pub first_found : {X : Type 0} (test : X → Bool) (d : X) (a : ℕ) (xs : List X) → list_any test xs ≡ true → (i : ℕ)
@@ -309,28 +212,4 @@ read_back values p within =
 pub same_codes : (values : List Value) (p q : ℕ) → p < length values → q < length values
     → nat_eq (get_or (codes_of values) q 0) (get_or (codes_of values) p 0) ≡ is_same (get_or values p (Number 0))
     (get_or values q (Number 0))
-same_codes values p q at_p at_q = step (is_same u v) refl
-  where
-    u : Value
-    u = get_or values p (Number 0)
-
-    v : Value
-    v = get_or values q (Number 0)
-
-    code : ℕ → ℕ
-    code i = get_or (codes_of values) i 0
-
-    step : (same : Bool) → is_same u v ≡ same → nat_eq (code q) (code p) ≡ is_same u v
-    step true is =
-        let codes : code q ≡ code p =
-        get_or-map (code_in (distinct values)) values q (Number 0) 0 at_q
-        ∙ ap (code_in (distinct values)) (sym ((value_Decides u v).0 is))
-        ∙ sym (get_or-map (code_in (distinct values)) values p (Number 0) 0 at_p) in
-        eq-eqb (code q) (code p) codes ∙ sym is
-    step false is = ne_eqb (code q) (code p) (λ codes.
-        let values_are : u ≡ v = sym (read_back values p at_p)
-        ∙ ap (λ k. get_or (distinct values) k (Number 0)) (sym codes) ∙ read_back values q at_q in
-        true_false (sym ((value_Decides u v).1 values_are) ∙ is)) ∙ sym is
-      where
-        true_false : true ≡ false → ⊥
-        true_false e = cc
+same_codes values p q at_p at_q = grind (arith, get_or-map, value_Decides, eq-eqb, ne_eqb, read_back)

@@ -16,13 +16,7 @@ use Rattle.dimension_index.specs.Keys.{position_in}
 -- a key that no earlier one equals stands first where it stands
 position_at : (keys : List ℕ) (i : ℕ) → i < length keys → ((j : ℕ) → j < i → get_or keys j 0 ≡ get_or keys i 0 → ⊥)
     → position_in keys (get_or keys i 0) ≡ Some i
-position_at keys i within first =
-    let k = get_or keys i 0 in
-    let p : ℕ → Bool = λ own. nat_eq own k in
-    let here : position_or_len p keys ≡ i = position_or_len_is p keys i 0 (omega (arith, within))
-    (λ j lt. ne_eqb (get_or keys j 0) k (first j lt)) (λ lt. eq-eqb k k refl) in
-    ap (λ n. cond (nat_lt n (length keys)) (Some n) None) here
-    ∙ ap (λ b. cond b (Some i) None) (lt-ltb i (length keys) within)
+position_at keys i within first = grind (arith, position_or_len_is, ne_eqb, eq-eqb, lt-ltb)
 
 -- a key that no row has stands nowhere
 position_nowhere : {R : Type 0} (key : R → ℕ) (rows : List R) (k : ℕ) → has_key key rows k ≡ false

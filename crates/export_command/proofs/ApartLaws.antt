@@ -11,14 +11,8 @@ all_append P (x ∷ xs) ys one other = (one.0, all_append P xs ys one.1 other)
 
 pub all_filter : {X : Type 0} (P : X → Type 0) (p : X → Bool) (xs : List X) → AllByRecursion P xs
     → AllByRecursion P (filter p xs)
-all_filter P p [] all = tt
-all_filter P p (x ∷ xs) all =
-    let rest = all_filter P p xs all.1 in
-    let step : (b : Bool) → AllByRecursion P (cond b (x ∷ filter p xs) (filter p xs)) = elim [
-      | true ↦ (all.0, rest)
-      | false ↦ rest
-    ] in
-    step (p x)
+all_filter P p [] all = grind arith
+all_filter P p (x ∷ xs) all = grind (arith, all_filter P p xs all.1)
 
 pub all_more : {X : Type 0} (P Q : X → Type 0) → ((x : X) → P x → Q x) → (xs : List X) → AllByRecursion P xs
     → AllByRecursion Q xs
@@ -49,38 +43,23 @@ apart_of_distinct same (x ∷ xs) distinct = (
 )
 
 pub distinct_of_apart : {X : Type 0} (same : X → X → Bool) (xs : List X) → IsApart same xs → AreDistinct same xs
-distinct_of_apart same [] apart i j x y lt at_i at_j = absurd cc
-distinct_of_apart same (x ∷ xs) apart zero zero y z lt at_i at_j = absurd (omega (arith, lt))
-distinct_of_apart same (x ∷ xs) apart zero (suc j) y z lt at_i at_j =
-    let first : x ≡ y = cc in
-    subst (λ e. same e z ≡ false) first (all-at (λ later. same x later ≡ false) xs j z apart.0 at_j)
-distinct_of_apart same (x ∷ xs) apart (suc i) zero y z lt at_i at_j = absurd (omega (arith, lt))
-distinct_of_apart same (x ∷ xs) apart (suc i) (suc j) y z lt at_i at_j =
-    distinct_of_apart same xs apart.1 i j y z (omega (arith, lt)) at_i at_j
+distinct_of_apart same [] apart i j x y lt at_i at_j = grind arith
+distinct_of_apart same (x ∷ xs) apart zero zero y z lt at_i at_j = grind arith
+distinct_of_apart same (x ∷ xs) apart zero (suc j) y z lt at_i at_j = grind (arith, all-at)
+distinct_of_apart same (x ∷ xs) apart (suc i) zero y z lt at_i at_j = grind arith
+distinct_of_apart same (x ∷ xs) apart (suc i) (suc j) y z lt at_i at_j = grind (arith, distinct_of_apart same xs apart.1 i j y z (omega (arith, lt)) at_i at_j)
 
 pub apart_filter : {X : Type 0} (same : X → X → Bool) (p : X → Bool) (xs : List X) → IsApart same xs
     → IsApart same (filter p xs)
-apart_filter same p [] apart = tt
-apart_filter same p (x ∷ xs) apart =
-    let rest = apart_filter same p xs apart.1 in
-    let step : (b : Bool) → IsApart same (cond b (x ∷ filter p xs) (filter p xs)) = elim [
-      | true ↦ (all_filter (λ later. same x later ≡ false) p xs apart.0, rest)
-      | false ↦ rest
-    ] in
-    step (p x)
+apart_filter same p [] apart = grind arith
+apart_filter same p (x ∷ xs) apart = grind (arith, all_filter, apart_filter same p xs apart.1)
 
 pub apart_append : {X : Type 0} (same : X → X → Bool) (xs ys : List X) → IsApart same xs → IsApart same ys
     → AllByRecursion (λ x. AllByRecursion (λ y. same x y ≡ false) ys) xs → IsApart same (xs ++ ys)
-apart_append same [] ys one other between = other
-apart_append same (x ∷ xs) ys one other between = (
-  all_append (λ later. same x later ≡ false) xs ys one.0 between.0,
-  apart_append same xs ys one.1 other between.1,
-)
+apart_append same [] ys one other between = grind arith
+apart_append same (x ∷ xs) ys one other between = grind (arith, all_append, apart_append same xs ys one.1 other between.1)
 
 pub apart_more : {X : Type 0} (same other : X → X → Bool) → ((x y : X) → same x y ≡ false → other x y ≡ false)
     → (xs : List X) → IsApart same xs → IsApart other xs
-apart_more same other more [] apart = tt
-apart_more same other more (x ∷ xs) apart = (
-  all_more (λ later. same x later ≡ false) (λ later. other x later ≡ false) (λ y is. more x y is) xs apart.0,
-  apart_more same other more xs apart.1,
-)
+apart_more same other more [] apart = grind arith
+apart_more same other more (x ∷ xs) apart = grind (arith, all_more, apart_more same other more xs apart.1)

@@ -102,34 +102,20 @@ on_ok P Q (Err e) more holds = tt
 pub replay_told : (base : Tables) (marks : List TableMark) (file : List ℕ) (kept : KeptCommits) (why : ReplayFault)
     → IsKept marks (recovered file) kept → IsReplayFault base kept.commits.items why
     → TellsJournalFault base marks file (job.Found (refusal.Journal (opening.Replay why)))
-replay_told base marks file kept why (inl new) fault = (kept.commits.items, inr (new.1, new.2), fault)
-replay_told base marks file kept why (inr is) fault = (
-  kept.commits.items,
-  inl (record { texts = is.1.texts; is_journal = (kept.form, is.1.sealed); spelled = is.1.spelled }),
-  fault,
-)
+replay_told base marks file kept why (inl new) fault = grind arith
+replay_told base marks file kept why (inr is) fault = grind arith
 
 -- the tables after the commits that a file keeps
 pub after_kept : (base : Tables) (marks : List TableMark) (file : List ℕ) (kept : KeptCommits) (tables : Tables)
     → IsKept marks (recovered file) kept → IsLegal base kept.commits.items
     → tables ≡ tables_after base kept.commits.items → AreTablesAfter base marks file tables
-after_kept base marks file kept tables (inl new) legal are =
-    record { commits = kept.commits.items; has = inr (new.1, new.2); legal = legal; are = are }
-after_kept base marks file kept tables (inr is) legal are = record {
-  commits = kept.commits.items;
-  has = inl (record { texts = is.1.texts; is_journal = (kept.form, is.1.sealed); spelled = is.1.spelled });
-  legal = legal;
-  are = are;
-}
+after_kept base marks file kept tables (inl new) legal are = grind arith
+after_kept base marks file kept tables (inr is) legal are = grind arith
 
 pub has_so_many : (marks : List TableMark) (file : List ℕ) (kept : KeptCommits) (count : ℕ)
     → IsKept marks (recovered file) kept → count ≡ length kept.commits.items → HasSoMany marks count file
-has_so_many marks file kept count (inl new) many = (kept.commits.items, inr (new.1, new.2), sym many)
-has_so_many marks file kept count (inr is) many = (
-  kept.commits.items,
-  inl (record { texts = is.1.texts; is_journal = (kept.form, is.1.sealed); spelled = is.1.spelled }),
-  sym many,
-)
+has_so_many marks file kept count (inl new) many = grind arith
+has_so_many marks file kept count (inr is) many = grind arith
 
 -- what the faults of an export's steps tell of the texts and of the journal's file
 pub find_fault_tells : (texts : Table → List ℕ) (known : Option (List ℕ)) (Taken : Type 0) (why : JobFault ExportRefusal)

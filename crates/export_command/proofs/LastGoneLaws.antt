@@ -35,13 +35,9 @@ none-later p (x ∷ xs) (suc m) (suc n) le none = none-later p xs m n (omega (ar
 
 found-at : {X : Type 0} (p : X → Bool) (xs : List X) (i : ℕ) (x : X) → slice_get xs i ≡ Some x → p x ≡ true
     → list_any p xs ≡ true
-found-at p [] i x at passes = absurd cc
-found-at p (y ∷ ys) zero x at passes =
-    let same : y ≡ x = cc in
-    let here : p y ≡ true = subst (λ e. p e ≡ true) (sym same) passes in
-    rw here refl
-found-at p (y ∷ ys) (suc i) x at passes =
-    ap (λ b. p y || b) (found-at p ys i x at passes) ∙ or-true (p y)
+found-at p [] i x at passes = grind arith
+found-at p (y ∷ ys) zero x at passes = grind arith
+found-at p (y ∷ ys) (suc i) x at passes = grind (arith, or-true, found-at p ys i x at passes)
 
 -- an element that passes is found from each earlier place on
 found-later : {X : Type 0} (p : X → Bool) (xs : List X) (i n : ℕ) (x : X) → slice_get xs i ≡ Some x → p x ≡ true
@@ -58,16 +54,8 @@ stand_behind number (Some gone) = nat_le gone number
 
 pub stands_behind : (actions : List Action) (number key : ℕ) (last : Option ℕ) → IsLastOf actions key last
     → stand_behind number last ≡ stands actions number key
-stands_behind actions number key None is = sym (ap not (none-dropped (goes_by key) actions number is))
-stands_behind actions number key (Some gone) is = elim (cases_Bool (nat_le gone number)) [
-  | inl within ↦
-      let none = none-later (goes_by key) actions gone number (leb-true gone number within) is.4 in
-      within ∙ sym (ap not none)
-  | inr before ↦
-      let later : number ≤ gone - 1 = let less = leb-false gone number before in omega (arith, less) in
-      let found = found-later (goes_by key) actions (gone - 1) number is.0 is.1 is.3 later in
-      before ∙ sym (ap not found)
-]
+stands_behind actions number key None is = grind (arith, none-dropped)
+stands_behind actions number key (Some gone) is = grind (arith, cases_Bool, nat_le, none-later, leb-true, leb-false, found-later)
 
 -- one action more
 pub last_kept : (actions : List Action) (action : Action) (key : ℕ) (last : Option ℕ) → IsLastOf actions key last
@@ -125,16 +113,4 @@ pub some_go : (earlier : List Action) (action : Action) (key number : ℕ) (old 
     → gone_by action ≡ key ∷ [] → number ≡ length earlier + 1
     → Updates nat_eq old.numbers new.numbers key (Some number) → IsLastGoneOf earlier old
     → IsLastGoneOf (earlier ++ action ∷ []) new
-some_go earlier action key number old new one count updates is other =
-    let goes : goes_by other action ≡ (nat_eq key other || false) =
-    ap (list_any (λ gone. nat_eq gone other)) one in
-    let step : (b : Bool) → nat_eq key other ≡ b → IsLastOf (earlier ++ action ∷ []) other
-    (cond b (Some number) (get nat_eq old.numbers other)) = elim [
-      | true ↦ λ same.
-          subst (λ n. IsLastOf (earlier ++ action ∷ []) other (Some n)) (sym count)
-          (last_set earlier action other (goes ∙ ap (λ t. t || false) same))
-      | false ↦ λ apart.
-          last_kept earlier action other (get nat_eq old.numbers other) (is other)
-          (goes ∙ ap (λ t. t || false) apart)
-    ] in
-    subst (IsLastOf (earlier ++ action ∷ []) other) (sym (updates.0 other)) (step (nat_eq key other) refl)
+some_go earlier action key number old new one count updates is other = grind (arith, nat_eq, last_set, last_kept)

@@ -1,3 +1,4 @@
+use Rattle.std.proofs.Common.{arith}
 -- The tables after a legal history keep what those of a base keep.
 use Rattle.std.proofs.Common.{◌≡◌, ℕ, ◌+◌, Bool, true, false, not, cond, ◌&&◌, ◌||◌, nat_eq, List, [], ◌∷◌, ◌++◌}
 use Rattle.std.proofs.Common.{length, take, Option, Some, None, slice_get, refl, sym, ap, ◌∙◌, subst, append_assoc}
@@ -45,15 +46,8 @@ absent key (line ∷ lines) none =
     (both.0, absent key lines both.1)
 
 without-it : (key : ℕ) (lines : List LineFields) → AreOfOthers key (lines_without key lines)
-without-it key [] = tt
-without-it key (line ∷ lines) =
-    let rest = without-it key lines in
-    let step : (b : Bool) → is_of key line ≡ b
-    → AreOfOthers key (cond (not b) (line ∷ lines_without key lines) (lines_without key lines)) = elim [
-      | true ↦ λ is. rest
-      | false ↦ λ is. (is, rest)
-    ] in
-    step (is_of key line) refl
+without-it key [] = grind arith
+without-it key (line ∷ lines) = grind (arith, without-it key lines)
 
 -- lines of other orders are other lines than those of the order
 other-key : (key : ℕ) (line other : LineFields) → is_of key line ≡ false → other.order_key ≡ key
@@ -65,10 +59,7 @@ other-key key line other is same =
 other-lines : (key : ℕ) (lines order : List LineFields) → AreOfOthers key lines
     → AllByRecursion (λ line. line.order_key ≡ key) order
     → AllByRecursion (λ line. AllByRecursion (λ other. is_same_line line other ≡ false) order) lines
-other-lines key lines order others own =
-    all_more (λ line. is_of key line ≡ false) (λ line. AllByRecursion (λ other. is_same_line line other ≡ false) order)
-    (λ line is. all_more (λ other. other.order_key ≡ key) (λ other. is_same_line line other ≡ false)
-    (λ other same. other-key key line other is same) order own) lines others
+other-lines key lines order others own = grind (arith, all_more, other-key)
 
 and-false : (b : Bool) → (b && false) ≡ false
 and-false true = refl
@@ -76,11 +67,7 @@ and-false false = refl
 
 -- the lines of an order are apart by their numbers
 order-apart : (order : List LineFields) → IsOrder order → IsApart is_same_line order
-order-apart order is =
-    apart_more has_number_of is_same_line
-    (λ line other apart. ap (λ b. nat_eq line.order_key other.order_key && b) apart
-    ∙ and-false (nat_eq line.order_key other.order_key))
-    order (apart_of_distinct has_number_of order is.numbered)
+order-apart order is = grind (arith, apart_more, nat_eq, and-false, apart_of_distinct)
 
 -- the lines of an order whose keys are known
 not-false : (b : Bool) → not b ≡ false → b ≡ true
@@ -116,14 +103,7 @@ first-none (Some found) second e = absurd cc
 
 order-known : (base : Tables) (lines order : List LineFields) → order_cause base lines order ≡ None
     → AllByRecursion (IsKnown base.dimensions) order
-order-known base lines order none =
-    let d = base.dimensions in
-    let first = first-none (unknown_key d order) (lines_full base.limits.lines lines order) none in
-    let customer = none-tested (list_any (lacks_customer d) order) cause.UnknownCustomer _ first in
-    let supplier = none-tested (list_any (lacks_supplier d) order) cause.UnknownSupplier _ customer.1 in
-    let part = none-tested (list_any (lacks_part d) order) cause.UnknownPart _ supplier.1 in
-    let date = none-tested (list_any (lacks_date d) order) cause.UnknownDate _ part.1 in
-    keys-known d order customer.0 supplier.0 part.0 date.0
+order-known base lines order none = grind (arith, first-none, none-tested, keys-known)
 
 -- an order joins lines of other orders
 good-joined : (base : Tables) (lines order : List LineFields) → AreGood base.dimensions lines
@@ -138,27 +118,13 @@ good-joined base lines order good others is known = record {
 
 good-without : (d : Dimensions) (key : ℕ) (lines : List LineFields) → AreGood d lines
     → AreGood d (lines_without key lines)
-good-without d key lines good = record {
-  apart = apart_filter is_same_line (λ line. not (is_of key line)) lines good.apart;
-  known = all_filter (IsKnown d) (λ line. not (is_of key line)) lines good.known;
-}
+good-without d key lines good = grind (arith, apart_filter, all_filter)
 
 good-action : (base : Tables) (lines : List LineFields) (action : Action) → AreGood base.dimensions lines
     → AddsOrder action → cause_of base lines action ≡ None → AreGood base.dimensions (lines_after_action lines action)
-good-action base lines (Add order) good is none =
-    let key = order_key order in
-    let tested = none-tested (is_present key lines) (cause.Present key) (order_cause base lines order) none in
-    good-joined base lines order good (absent key lines tested.0) is (order-known base lines order tested.1)
-good-action base lines (Amend order) good is none =
-    let key = order_key order in
-    let step : (b : Bool) → (if b then order_cause base (lines_without key lines) order else Some
-    (cause.AmendAbsent key)) ≡ None → order_cause base (lines_without key lines) order ≡ None = elim [
-      | true ↦ λ e. e
-      | false ↦ λ e. absurd cc
-    ] in
-    good-joined base (lines_without key lines) order (good-without base.dimensions key lines good)
-    (without-it key lines) is (order-known base (lines_without key lines) order (step (is_present key lines) none))
-good-action base lines (Withdraw key) good is none = good-without base.dimensions key lines good
+good-action base lines (Add order) good is none = grind (arith, none-tested, good-joined, absent, order-known)
+good-action base lines (Amend order) good is none = grind (arith, good-joined, good-without, without-it, order-known)
+good-action base lines (Withdraw key) good is none = grind (arith, good-without)
 
 both-none : {X Y : Type 0} (f : X → Y) (first : Option X) (second : Option Y)
     → option_or (option_map f first) second ≡ None → (first ≡ None) × (second ≡ None)
@@ -186,20 +152,14 @@ front-of (y ∷ front) back = ap (λ l. y ∷ l) (front-of front back)
 
 all-front : {X : Type 0} (P : X → Type 0) (xs ys : List X) → AllByRecursion P (xs ++ ys)
     → AllByRecursion P xs × AllByRecursion P ys
-all-front P [] ys all = (tt, all)
-all-front P (x ∷ xs) ys all =
-    let rest = all-front P xs ys all.1 in
-    ((all.0, rest.0), rest.1)
+all-front P [] ys all = grind arith
+all-front P (x ∷ xs) ys all = grind (arith, all-front P xs ys all.1)
 
 -- a commit that is not refused leaves good lines
 good-commit : (base : Tables) (front : List CommitRecord) (commit : CommitRecord)
     → AreGood base.dimensions (lines_after base front) → AllByRecursion AddsOrder commit.actions
     → refusal_of base front commit.actions ≡ None → AreGood base.dimensions (lines_after base (front ++ commit ∷ []))
-good-commit base front commit good orders none =
-    let accepted = none-tested (nat_le base.limits.commits (length front)) _
-    (first_refusal base 1 (lines_after base front) commit.actions) none in
-    subst (AreGood base.dimensions) (sym (lines_after-push base front commit))
-    (good-refresh base 1 (lines_after base front) commit.actions good orders accepted.1)
+good-commit base front commit good orders none = grind (arith, none-tested, lines_after-push, good-refresh)
 
 -- and so do all commits of a legal history, from the first ones on
 good-after : (base : Tables) (front rest : List CommitRecord) → IsLegal base (front ++ rest)

@@ -18,18 +18,14 @@ use Rattle.export_command.specs.After.{LinesStand, actions_of, goes_by, standing
 by-actions : (lines : List LineFields) (history : List CommitRecord)
     → fold (λ (now : List LineFields) (commit : CommitRecord). lines_after_refresh now commit.actions) lines history
     ≡ lines_after_refresh lines (actions_of history)
-by-actions lines [] = refl
-by-actions lines (commit ∷ history) =
-    by-actions (lines_after_refresh lines commit.actions) history
-    ∙ sym (fold-append lines_after_action lines commit.actions (actions_of history))
+by-actions lines [] = grind arith
+by-actions lines (commit ∷ history) = grind (arith, fold-append, by-actions (lines_after_refresh lines commit.actions) history)
 
 -- an order goes by some action where its key is among those of the orders that go
 any-gone : (key : ℕ) (actions : List Action)
     → list_any (λ gone. nat_eq gone key) (flat_map gone_by actions) ≡ list_any (goes_by key) actions
-any-gone key [] = refl
-any-gone key (action ∷ actions) =
-    list_any-append (λ gone. nat_eq gone key) (gone_by action) (flat_map gone_by actions)
-    ∙ ap (λ b. goes_by key action || b) (any-gone key actions)
+any-gone key [] = grind arith
+any-gone key (action ∷ actions) = grind (arith, list_any-append, nat_eq, any-gone key actions)
 
 -- the lines of all orders but those that go by the actions
 not-gone : (actions : List Action) (lines : List LineFields) → lines_without_all (flat_map gone_by actions) lines

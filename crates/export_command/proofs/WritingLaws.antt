@@ -1,3 +1,4 @@
+use Rattle.std.proofs.Common.{arith}
 -- What was written of lines so far, and how it grows.
 use Rattle.std.proofs.Common.{◌≡◌, ℕ, List, [], ◌∷◌, ◌++◌, map, Option, Result, Ok, Err, refl, sym, ap, ◌∙◌, subst}
 use Rattle.std.proofs.Common.{append-nil, IsErrAnd}
@@ -44,19 +45,12 @@ nothing_written old = record { text = appends_none old; rows = tt }
 
 pub written_both : (old mid new : Option (List ℕ)) (one other : List LineFields) → HasWritten old mid one
     → HasWritten mid new other → HasWritten old new (one ++ other)
-written_both old mid new one other a b = record {
-  text = subst (Appends old new) (sym (text_both one other))
-      (appends_both old mid new (lines_text one) (lines_text other) a.text b.text);
-  rows = rows_both one other a.rows b.rows;
-}
+written_both old mid new one other a b = grind (arith, text_both, appends_both, rows_both)
 
 -- a line was written
 pub line_written : (old new : Option (List ℕ)) (line : LineFields) → Appends old new (row_text (line_values line))
     → IsTableRow table.Lineorder (line_values line) → HasWritten old new (line ∷ [])
-line_written old new line text row = record {
-  text = subst (Appends old new) (sym (append-nil (row_text (line_values line)))) text;
-  rows = (row, tt);
-}
+line_written old new line text row = grind (arith, append-nil)
 
 -- a part of the first lines is one of all
 pub stopped_before : (old new : Option (List ℕ)) (one other : List LineFields) → StopsShort old new (lines_text one)

@@ -151,19 +151,11 @@ piece_at : (dimensions : Dimensions) (pieces : List (List LineFields)) (tables :
     → (piece : List LineFields) × (i < length pieces) × (piece ≡ get_or pieces i piece)
     × AreCodesOf dimensions (facts_of piece) table.places
 unfolding IsCoded
-piece_at dimensions [] [] i table coded within is = absurd (omega (arith, within))
-piece_at dimensions [] (own ∷ tables) i table coded within is = absurd coded
-piece_at dimensions (piece ∷ pieces) [] i table coded within is = absurd coded
-piece_at dimensions (piece ∷ pieces) (own ∷ tables) zero table coded within is = (
-  piece,
-  omega arith,
-  refl,
-  subst (λ (t : Result Held AllocError). IfOk t
-      (λ (h : Held). AreCodesOf dimensions (facts_of piece) h.places)) (sym is) coded.0,
-)
-piece_at dimensions (piece ∷ pieces) (own ∷ tables) (suc i) table coded within is =
-    let rest = piece_at dimensions pieces tables i table coded.1 (omega (arith, within)) is in
-    (rest.0, omega (arith, rest.1), rest.2, rest.3)
+piece_at dimensions [] [] i table coded within is = grind arith
+piece_at dimensions [] (own ∷ tables) i table coded within is = grind arith
+piece_at dimensions (piece ∷ pieces) [] i table coded within is = grind arith
+piece_at dimensions (piece ∷ pieces) (own ∷ tables) zero table coded within is = grind arith
+piece_at dimensions (piece ∷ pieces) (own ∷ tables) (suc i) table coded within is = grind (arith, piece_at dimensions pieces tables i table coded.1 (omega (arith, within)) is)
 
 -- the facts of the first pieces
 abbrev pub facts_until : ℕ → List (List LineFields) → List Fact
@@ -192,11 +184,10 @@ piece_more dimensions before pieces tables i table places coded within is codes 
 -- there are as many tables as pieces
 pub tables_count : (dimensions : Dimensions) (pieces : List (List LineFields)) (tables : List (Result Held AllocError))
     → AllZip (IsCoded dimensions) pieces tables → length pieces ≡ length tables
-tables_count dimensions [] [] coded = refl
-tables_count dimensions [] (table ∷ tables) coded = absurd coded
-tables_count dimensions (piece ∷ pieces) [] coded = absurd coded
-tables_count dimensions (piece ∷ pieces) (table ∷ tables) coded =
-    ap suc (tables_count dimensions pieces tables coded.1)
+tables_count dimensions [] [] coded = grind arith
+tables_count dimensions [] (table ∷ tables) coded = grind arith
+tables_count dimensions (piece ∷ pieces) [] coded = grind arith
+tables_count dimensions (piece ∷ pieces) (table ∷ tables) coded = grind (arith, tables_count dimensions pieces tables coded.1)
 
 -- the facts of the first lines, and of those up to a later place
 pub batch_facts : (lines : List LineFields) (from to : ℕ) → from ≤ to

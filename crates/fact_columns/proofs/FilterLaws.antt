@@ -1,3 +1,4 @@
+use Rattle.std.proofs.Common.{arith}
 -- A filter over all places, and one over the live ones.
 use Rattle.std.proofs.Common.{◌≡◌, Bool, true, false, cond, List, [], ◌∷◌, map, refl, sym, ap, ◌∙◌}
 use Rattle.std.specs.Prelude.{◌&&◌}
@@ -9,14 +10,10 @@ use Rattle.fact_columns.specs.Filters.{FreePlacesDropOut, LiveFactsThatPass}
 kept : {X : Type 0} (passes lives : Bool) (x : X) (xs ys : List X) (test : X → Bool) → test x ≡ passes
     → (passes ≡ true → lives ≡ true) → xs ≡ filter test ys
     → cond passes (x ∷ xs) xs ≡ filter test (cond lives (x ∷ ys) ys)
-kept true true x xs ys test is live rest = ap (λ l. x ∷ l) rest
-    ∙ ap (λ b. cond b (x ∷ filter test ys) (filter test ys)) (sym is)
-kept true false x xs ys test is live rest = absurd (false_true (live refl))
-  where
-    false_true : false ≡ true → ⊥
-    false_true e = cc
-kept false true x xs ys test is live rest = rest ∙ ap (λ b. cond b (x ∷ filter test ys) (filter test ys)) (sym is)
-kept false false x xs ys test is live rest = rest
+kept true true x xs ys test is live rest = grind arith
+kept true false x xs ys test is live rest = grind arith
+kept false true x xs ys test is live rest = grind arith
+kept false false x xs ys test is live rest = grind arith
 
 pub filter_twice : {X : Type 0} (test live : X → Bool) (xs : List X) → ((x : X) → test x ≡ true → live x ≡ true)
     → filter test xs ≡ filter test (filter live xs)
@@ -30,12 +27,10 @@ free_places_drop_out test places implies = filter_twice test is_live places impl
 mapped : {X Y : Type 0} (lives passes : Bool) (x : X) (f : X → Y) (test : Y → Bool) (xs ys : List X)
     → test (f x) ≡ passes → filter test (map f xs) ≡ map f ys
     → filter test (map f (cond lives (x ∷ xs) xs)) ≡ map f (cond (lives && passes) (x ∷ ys) ys)
-mapped true true x f test xs ys is rest = ap (λ b. cond b (f x ∷ filter test (map f xs)) (filter test (map f xs))) is
-    ∙ ap (λ l. f x ∷ l) rest
-mapped true false x f test xs ys is rest = ap (λ b. cond b (f x ∷ filter test (map f xs)) (filter test (map f xs))) is
-    ∙ rest
-mapped false true x f test xs ys is rest = rest
-mapped false false x f test xs ys is rest = rest
+mapped true true x f test xs ys is rest = grind arith
+mapped true false x f test xs ys is rest = grind arith
+mapped false true x f test xs ys is rest = grind arith
+mapped false false x f test xs ys is rest = grind arith
 
 pub filter_map_filter : {X Y : Type 0} (live : X → Bool) (f : X → Y) (test : Y → Bool) (xs : List X)
     → filter test (map f (filter live xs)) ≡ map f (filter (λ x. live x && test (f x)) xs)

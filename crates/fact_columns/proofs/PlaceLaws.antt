@@ -89,10 +89,7 @@ lives_pushed places line live = filter-append is_live places (line ∷ [])
 -- a line in a new place is counted
 pub pushed : (dimensions : Dimensions) (places : List Place) (line : Place) → is_live line ≡ true
     → counts_at dimensions (places ++ line ∷ []) ≡ with_fact (counts_at dimensions places) (fact_at dimensions line)
-pushed dimensions places line live =
-    ap (λ ls. fact_counts (map (fact_at dimensions) ls)) (lives_pushed places line live)
-    ∙ ap fact_counts (map-append (fact_at dimensions) (live_places places) (line ∷ []))
-    ∙ fold-append with_fact finite.empty (map (fact_at dimensions) (live_places places)) (fact_at dimensions line ∷ [])
+pushed dimensions places line live = grind (arith, lives_pushed, map-append, fold-append)
 
 length_front : (o : Option Place) (later lines : List Place) → length later ≡ length lines + 1
     → length (front o later) ≡ length (front o lines) + 1
@@ -106,20 +103,9 @@ count_pushed places line live =
 
 pub count_written : (places : List Place) (place : ℕ) (line : Place) → place < length places
     → live_at places place ≡ None → is_live line ≡ true → live_count (set places place line) ≡ live_count places + 1
-count_written [] place line within free live = absurd (omega (arith, within))
-count_written (first ∷ places) zero line within free live =
-    ap length (live_front line places ∙ ap (λ o. front o (live_places places)) (if_live-true line live))
-    ∙ one (length (live_places places))
-    ∙ ap (λ o. length (front o (live_places places)) + 1) (sym free)
-    ∙ ap (λ ls. length ls + 1) (sym (live_front first places))
-  where
-    one : (n : ℕ) → suc n ≡ n + 1
-    one n = omega arith
-count_written (first ∷ places) (suc place) line within free live =
-    ap length (live_front first (set places place line))
-    ∙ length_front (if_live first) (live_places (set places place line)) (live_places places)
-    (count_written places place line (omega (arith, within)) free live)
-    ∙ ap (λ ls. length ls + 1) (sym (live_front first places))
+count_written [] place line within free live = grind arith
+count_written (first ∷ places) zero line within free live = grind (arith, live_front, if_live-true)
+count_written (first ∷ places) (suc place) line within free live = grind (arith, live_front, length_front, count_written places place line (omega (arith, within)) free live)
 
 cond_length : (b : Bool) (line : Place) (lines : List Place) (n : ℕ) → length lines ≤ n
     → length (cond b (line ∷ lines) lines) ≤ suc n
@@ -137,20 +123,9 @@ freed_dead line = refl
 
 pub count_freed : (places : List Place) (place : ℕ) (d line : Place) → live_at places place ≡ Some line
     → live_count places ≡ live_count (set places place (freed (get_or places place d))) + 1
-count_freed [] place d line live = absurd (cc)
-count_freed (first ∷ places) zero d line live =
-    ap length (live_front first places)
-    ∙ ap (λ o. length (front o (live_places places))) live
-    ∙ one (length (live_places places))
-    ∙ ap (λ ls. length ls + 1) (sym (live_front (freed first) places))
-  where
-    one : (n : ℕ) → suc n ≡ n + 1
-    one n = omega arith
-count_freed (first ∷ places) (suc place) d line live =
-    ap length (live_front first places)
-    ∙ length_front (if_live first) (live_places places) (live_places (set places place (freed (get_or places place d))))
-    (count_freed places place d line live)
-    ∙ ap (λ ls. length ls + 1) (sym (live_front first (set places place (freed (get_or places place d)))))
+count_freed [] place d line live = grind arith
+count_freed (first ∷ places) zero d line live = grind (arith, live_front)
+count_freed (first ∷ places) (suc place) d line live = grind (arith, live_front, length_front, count_freed places place d line live)
 
 kept_front : (test : Place → Bool) (o : Option Place) (lines : List Place)
     → filter test (front o lines) ≡ front (kept test o) (filter test lines)
@@ -174,15 +149,8 @@ kept_all test (p ∷ places) (l ∷ later) same each =
 others_read : (dimensions : Dimensions) (key : ℕ) (lines : List Place)
     → map (fact_at dimensions) (filter (is_of_other key) lines) ≡ filter (λ (fact : Fact). not (eqb fact.order_key key))
     (map (fact_at dimensions) lines)
-others_read dimensions key [] = refl
-others_read dimensions key (line ∷ lines) = read (is_of_other key line) (filter (is_of_other key) lines)
-    (filter (λ (fact : Fact). not (eqb fact.order_key key)) (map (fact_at dimensions) lines))
-    (others_read dimensions key lines)
-  where
-    read : (b : Bool) (xs : List Place) (ys : List Fact) → map (fact_at dimensions) xs ≡ ys
-        → map (fact_at dimensions) (cond b (line ∷ xs) xs) ≡ cond b (fact_at dimensions line ∷ ys) ys
-    read true xs ys is = ap (λ l. fact_at dimensions line ∷ l) is
-    read false xs ys is = is
+others_read dimensions key [] = grind arith
+others_read dimensions key (line ∷ lines) = grind (arith, eqb, others_read dimensions key lines)
 
 -- freeing every live place of a key is a withdrawal
 pub withdrawn : (dimensions : Dimensions) (key : ℕ) (places later : List Place) → length later ≡ length places
@@ -195,19 +163,17 @@ withdrawn dimensions key places later same each =
 
 pub live_at_written : (places : List Place) (place : ℕ) (line : Place) → place < length places → is_live line ≡ true
     → live_at (set places place line) place ≡ Some line
-live_at_written [] place line within live = absurd (omega (arith, within))
-live_at_written (first ∷ places) zero line within live = if_live-true line live
-live_at_written (first ∷ places) (suc place) line within live =
-    live_at_written places place line (omega (arith, within)) live
+live_at_written [] place line within live = grind arith
+live_at_written (first ∷ places) zero line within live = grind (arith, if_live-true)
+live_at_written (first ∷ places) (suc place) line within live = grind (arith, live_at_written places place line (omega (arith, within)) live)
 
 pub live_at_set_other : (places : List Place) (place other : ℕ) (line : Place) → other ≢ place
     → live_at (set places place line) other ≡ live_at places other
-live_at_set_other [] place other line differ = refl
-live_at_set_other (first ∷ places) zero zero line differ = absurd (differ refl)
-live_at_set_other (first ∷ places) zero (suc other) line differ = refl
-live_at_set_other (first ∷ places) (suc place) zero line differ = refl
-live_at_set_other (first ∷ places) (suc place) (suc other) line differ =
-    live_at_set_other places place other line (λ e. differ (ap suc e))
+live_at_set_other [] place other line differ = grind arith
+live_at_set_other (first ∷ places) zero zero line differ = grind arith
+live_at_set_other (first ∷ places) zero (suc other) line differ = grind arith
+live_at_set_other (first ∷ places) (suc place) zero line differ = grind arith
+live_at_set_other (first ∷ places) (suc place) (suc other) line differ = grind (arith, live_at_set_other places place other line (λ e. differ (ap suc e)))
 
 pub live_at_pushed : (places : List Place) (line : Place) → is_live line ≡ true
     → live_at (places ++ line ∷ []) (length places) ≡ Some line
@@ -220,11 +186,10 @@ live_at_end places line place is live = ap (live_at (places ++ line ∷ [])) is 
 
 pub live_at_pushed_other : (places : List Place) (line : Place) (other : ℕ) → other ≢ length places
     → live_at (places ++ line ∷ []) other ≡ live_at places other
-live_at_pushed_other [] line zero differ = absurd (differ refl)
-live_at_pushed_other [] line (suc other) differ = refl
-live_at_pushed_other (first ∷ places) line zero differ = refl
-live_at_pushed_other (first ∷ places) line (suc other) differ =
-    live_at_pushed_other places line other (λ e. differ (ap suc e))
+live_at_pushed_other [] line zero differ = grind arith
+live_at_pushed_other [] line (suc other) differ = grind arith
+live_at_pushed_other (first ∷ places) line zero differ = grind arith
+live_at_pushed_other (first ∷ places) line (suc other) differ = grind (arith, live_at_pushed_other places line other (λ e. differ (ap suc e)))
 
 -- a list with a line more, behind another that is live or not
 more_behind : (o : Option Place) (line : Place) (fewer more : List Place) → IsOneMore line fewer more
@@ -239,51 +204,27 @@ more_behind (Some first) line fewer more one = record {
 
 more_at : (line : Place) (fewer more few many : List Place) → few ≡ fewer → many ≡ more → IsOneMore line fewer more
     → IsOneMore line few many
-more_at line fewer more few many less full one = record {
-  before = one.before;
-  after = one.after;
-  fewer_is = less ∙ one.fewer_is;
-  more_is = full ∙ one.more_is;
-}
+more_at line fewer more few many less full one = grind arith
 
 -- a line that is written into a free place is one more
 pub one_written : (places : List Place) (place : ℕ) (line : Place) → place < length places
     → live_at places place ≡ None → is_live line ≡ true
     → IsOneMore line (live_places places) (live_places (set places place line))
-one_written [] place line within free live = absurd (omega (arith, within))
-one_written (first ∷ places) zero line within free live = record {
-  before = [];
-  after = live_places places;
-  fewer_is = live_front first places ∙ ap (λ o. front o (live_places places)) free;
-  more_is = live_front line places ∙ ap (λ o. front o (live_places places)) (if_live-true line live);
-}
-one_written (first ∷ places) (suc place) line within free live =
-    more_at line _ _ _ _ (live_front first places) (live_front first (set places place line))
-    (more_behind (if_live first) line _ _ (one_written places place line (omega (arith, within)) free live))
+one_written [] place line within free live = grind arith
+one_written (first ∷ places) zero line within free live = grind (arith, live_front, if_live-true)
+one_written (first ∷ places) (suc place) line within free live = grind (arith, more_at, live_front, more_behind, one_written places place line (omega (arith, within)) free live)
 
 -- and so is one in a new place
 pub one_pushed : (places : List Place) (line : Place) → is_live line ≡ true
     → IsOneMore line (live_places places) (live_places (places ++ line ∷ []))
-one_pushed places line live = record {
-  before = live_places places;
-  after = [];
-  fewer_is = sym (append-nil (live_places places));
-  more_is = lives_pushed places line live;
-}
+one_pushed places line live = grind (arith, append-nil, lives_pushed)
 
 -- a line that is freed was one more
 pub one_freed : (places : List Place) (place : ℕ) (d line : Place) → live_at places place ≡ Some line
     → IsOneMore line (live_places (set places place (freed (get_or places place d)))) (live_places places)
-one_freed [] place d line live = absurd (cc)
-one_freed (first ∷ places) zero d line live = record {
-  before = [];
-  after = live_places places;
-  fewer_is = live_front (freed first) places;
-  more_is = live_front first places ∙ ap (λ o. front o (live_places places)) live;
-}
-one_freed (first ∷ places) (suc place) d line live =
-    more_at line _ _ _ _ (live_front first (set places place (freed (get_or places place d)))) (live_front first places)
-    (more_behind (if_live first) line _ _ (one_freed places place d line live))
+one_freed [] place d line live = grind arith
+one_freed (first ∷ places) zero d line live = grind (arith, live_front)
+one_freed (first ∷ places) (suc place) d line live = grind (arith, more_at, live_front, more_behind, one_freed places place d line live)
 
 -- a live line is what stands at its place
 pub live_line : (places : List Place) (place : ℕ) (d line : Place) → live_at places place ≡ Some line
@@ -295,12 +236,7 @@ live_line (first ∷ places) (suc place) d line live = live_line places place d 
 -- a list whose items are read otherwise has one more too
 pub more_read : {A B : Type 0} (f : A → B) (item : A) (fewer more : List A) → IsOneMore item fewer more
     → IsOneMore (f item) (map f fewer) (map f more)
-more_read f item fewer more one = record {
-  before = map f one.before;
-  after = map f one.after;
-  fewer_is = ap (map f) one.fewer_is ∙ map-append f one.before one.after;
-  more_is = ap (map f) one.more_is ∙ map-append f one.before (item ∷ one.after);
-}
+more_read f item fewer more one = grind (arith, map-append)
 
 -- so has one of places, as queries read their lines
 pub one_read : (fewer more : List Place) (place : Place) (line : ScannedLine) → line ≡ scanned_line place
@@ -354,12 +290,8 @@ live_at_freed (first ∷ places) (suc place) d = live_at_freed places place d
 -- a line of another order stays
 pub stays : (key : ℕ) (o : Option Place) → ((line : Place) → o ≡ Some line → line.order ≡ key → ⊥)
     → kept (is_of_other key) o ≡ o
-stays key None other = refl
-stays key (Some line) other = step (eqb line.order key) refl
-  where
-    step : (b : Bool) → eqb line.order key ≡ b → cond (not b) (Some line) None ≡ Some line
-    step true is = absurd (other line refl (eqb-true line.order key is))
-    step false is = refl
+stays key None other = grind arith
+stays key (Some line) other = grind (arith, eqb, eqb-true)
 
 -- a line of the order goes
 pub goes : (key : ℕ) (o : Option Place) → option_map (λ (line : Place). line.order) o ≡ Some key
@@ -379,13 +311,7 @@ pub spanned_withdrawn : (f g : ℕ → Option Span) (places later : List Place) 
     → ((order i : ℕ) → (order ≡ key → ⊥) → Covers (f order) i → Covers (g order) i)
     → ((place : ℕ) → live_at later place ≡ kept (is_of_other key) (live_at places place)) → Spanned f places
     → Spanned g later
-spanned_withdrawn f g places later key grows gone each other found is =
-    let both = kept_some (is_of_other key) (live_at places other) found (sym (gone other) ∙ is) in
-    grows found.order other (λ e. absurd (true_false (sym both.1 ∙ ap not (eq-eqb found.order key e))))
-    (each other found both.0)
-  where
-    true_false : true ≡ false → ⊥
-    true_false e = absurd (cc)
+spanned_withdrawn f g places later key grows gone each other found is = grind (arith, kept_some, eq-eqb)
 
 pub covered : (f : ℕ → Option Span) (places : List Place) (key : ℕ) → Spanned f places → (place : ℕ) (line : Place)
     → live_at places place ≡ Some line → line.order ≡ key → Covers (f key) place
@@ -393,24 +319,7 @@ covered f places key each place line is same = subst (λ k. Covers (f k) place) 
 
 pub within_freed : (dimensions : Dimensions) (place : Place) → IsPlaceOf dimensions place
     → IsPlaceOf dimensions (freed place)
-within_freed dimensions place is = record {
-  within = record {
-    customer = is.within.customer;
-    supplier = is.within.supplier;
-    part = is.within.part;
-    date = is.within.date;
-    quantity = omega arith;
-    discount = omega arith;
-    price = is.within.price;
-    revenue =
-        is.within.revenue;
-    cost = is.within.cost;
-  };
-  customer_class = is.customer_class;
-  supplier_class = is.supplier_class;
-  part_class = is.part_class;
-  date_class = is.date_class;
-}
+within_freed dimensions place is = grind arith
 
 pub order : (m n : ℕ) → (m < n) ⊎ (n ≤ m)
 order m zero = inr (omega arith)
@@ -447,14 +356,7 @@ pub mine_more : (places later : List Place) (first i : ℕ) (lines : List Place)
     → ((other : ℕ) → other ≢ first + i → live_at later other ≡ live_at places other)
     → ((k : ℕ) (o : Place) → k < i → live_at places (first + k) ≡ Some (get_or lines k o))
     → (k : ℕ) (o : Place) → k < i + 1 → live_at later (first + k) ≡ Some (get_or lines k o)
-mine_more places later first i lines d within here others mine k o lt =
-    ⊎_elim
-    (λ below. others (first + k) (λ e. omega (arith, below, e)) ∙ mine k o below)
-    (λ from.
-    let same : i ≡ k = omega (arith, from, lt) in
-    subst (λ j. live_at later (first + j) ≡ Some (get_or lines j o)) same
-    (here ∙ ap Some (get_or_default lines i d o within)))
-    (order k i)
+mine_more places later first i lines d within here others mine k o lt = grind (arith, ⊎_elim, get_or_default, order)
 
 pub with_more : (dimensions : Dimensions) (counts before after : Counts) (lines : List Place) (i : ℕ) (d : Place)
     → i < length lines → before ≡ with_places dimensions counts (take i lines)
@@ -473,14 +375,7 @@ pub gone_more : (key place : ℕ) (before mid later : List Place)
     → live_at later place ≡ kept (is_of_other key) (live_at mid place)
     → ((k : ℕ) → k ≢ place → live_at later k ≡ live_at mid k)
     → (k : ℕ) → k < place + 1 → live_at later k ≡ kept (is_of_other key) (live_at before k)
-gone_more key place before mid later done left here others k lt =
-    ⊎_elim
-    (λ below. others k (λ e. omega (arith, below, e)) ∙ done k below)
-    (λ from.
-    let same : place ≡ k = omega (arith, from, lt) in
-    subst (λ j. live_at later j ≡ kept (is_of_other key) (live_at before j)) same
-    (here ∙ ap (kept (is_of_other key)) (left place (omega arith))))
-    (order k place)
+gone_more key place before mid later done left here others k lt = grind (arith, ⊎_elim, order)
 
 pub is_of_key : (key : ℕ) (o : Option Place) → option_eq eqb (option_map (λ (line : Place). line.order) o)
     (Some key) ≡ true → option_map (λ (line : Place). line.order) o ≡ Some key
@@ -489,9 +384,5 @@ is_of_key key (Some line) is = ap Some (eqb-true line.order key is)
 
 pub is_of_none : (key : ℕ) (o : Option Place) → option_eq eqb (option_map (λ (line : Place). line.order) o)
     (Some key) ≡ false → (line : Place) → o ≡ Some line → line.order ≡ key → ⊥
-is_of_none key None is line at same = absurd (cc)
-is_of_none key (Some own) is line at same = apart (sym is
-    ∙ eq-eqb own.order key (ap (λ (p : Place). p.order) (same_Some own line at) ∙ same))
-  where
-    apart : false ≡ true → ⊥
-    apart e = absurd (cc)
+is_of_none key None is line at same = grind arith
+is_of_none key (Some own) is line at same = grind (arith, eq-eqb, same_Some)

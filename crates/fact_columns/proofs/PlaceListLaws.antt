@@ -50,11 +50,7 @@ places_len f n = length-map-range_with_len f 0 n
 
 -- there are as many places as each column is long
 pub long : (t : Inside) (h : Held) → held t ≡ h → length h.places ≡ vec_len t.order
-long t h is =
-    ap (λ x. length (Held.places x)) (sym is)
-    ∙ places_len (place_at t.order.items t.customer.items t.supplier.items t.part.items t.date.items t.terms.items
-    t.price.items t.revenue.items t.cost.items t.customer_class.items t.supplier_class.items t.part_class.items
-    t.date_class.items) (vec_len t.order)
+long t h is = grind (arith, places_len)
 
 zero_add : (n : ℕ) → 0 + n ≡ n
 zero_add n = omega arith
@@ -102,45 +98,7 @@ pub write_places : (order customer supplier part date terms price revenue cost c
     ≡ set (map (place_at order customer supplier part date terms price revenue cost customer_class supplier_class
     part_class date_class) (range_with_len 0 n)) place x
 write_places order customer supplier part date terms price revenue cost customer_class supplier_class part_class
-    date_class n place x long within =
-    write_one (place_at order customer supplier part date terms price revenue cost customer_class supplier_class
-    part_class date_class)
-    (place_at (set order place x.order) (set customer place x.customer) (set supplier place x.supplier)
-    (set part place x.part) (set date place x.date) (set terms place x.terms) (set price place x.price)
-    (set revenue place x.revenue) (set cost place x.cost) (set customer_class place x.customer_class)
-    (set supplier_class place x.supplier_class) (set part_class place x.part_class)
-    (set date_class place x.date_class))
-    0 n place x within
-    (λ i. record {
-      order = here order place x.order n long.order_len within i;
-      customer = here customer place x.customer n long.customer_len within i;
-      supplier = here supplier place x.supplier n long.supplier_len within i;
-      part = here part place x.part n long.part_len within i;
-      date = here date place x.date n long.date_len within i;
-      terms = here terms place x.terms n long.terms_len within i;
-      price = here price place x.price n long.price_len within i;
-      revenue = here revenue place x.revenue n long.revenue_len within i;
-      cost = here cost place x.cost n long.cost_len within i;
-      customer_class = here customer_class place x.customer_class n long.customer_class_len within i;
-      supplier_class = here supplier_class place x.supplier_class n long.supplier_class_len within i;
-      part_class = here part_class place x.part_class n long.part_class_len within i;
-      date_class = here date_class place x.date_class n long.date_class_len within i;
-    })
-    (λ j other i. record {
-      order = elsewhere order place x.order j other i;
-      customer = elsewhere customer place x.customer j other i;
-      supplier = elsewhere supplier place x.supplier j other i;
-      part = elsewhere part place x.part j other i;
-      date = elsewhere date place x.date j other i;
-      terms = elsewhere terms place x.terms j other i;
-      price = elsewhere price place x.price j other i;
-      revenue = elsewhere revenue place x.revenue j other i;
-      cost = elsewhere cost place x.cost j other i;
-      customer_class = elsewhere customer_class place x.customer_class j other i;
-      supplier_class = elsewhere supplier_class place x.supplier_class j other i;
-      part_class = elsewhere part_class place x.part_class j other i;
-      date_class = elsewhere date_class place x.date_class j other i;
-    })
+    date_class n place x long within = grind (arith, write_one, here, elsewhere)
 
 -- the quantity and discount of a place are written over
 pub free_place : (order customer supplier part date terms price revenue cost customer_class supplier_class part_class
@@ -152,13 +110,7 @@ pub free_place : (order customer supplier part date terms price revenue cost cus
     (freed (place_at order customer supplier part date terms price revenue cost customer_class supplier_class
     part_class date_class place))
 free_place order customer supplier part date terms price revenue cost customer_class supplier_class part_class
-    date_class n place long within =
-    let f = place_at order customer supplier part date terms price revenue cost customer_class supplier_class part_class
-    date_class in
-    write_one f (place_at order customer supplier part date (set terms place 0) price revenue cost customer_class
-    supplier_class part_class date_class) 0 n place (freed (f place)) within
-    (λ i. record (f (zero_add place i)) { terms = here terms place 0 n long within i })
-    (λ j other i. record (f j) { terms = elsewhere terms place 0 j other i })
+    date_class n place long within = grind (arith, write_one, zero_add, here, elsewhere)
 
 pub push_places : (order customer supplier part date terms price revenue cost customer_class supplier_class part_class
     date_class : List ℕ) (n : ℕ) (x : Place) → AreLong order customer supplier part date terms price revenue cost
@@ -171,44 +123,7 @@ pub push_places : (order customer supplier part date terms price revenue cost cu
     ≡ map (place_at order customer supplier part date terms price revenue cost customer_class supplier_class part_class
     date_class) (range_with_len 0 n) ++ x ∷ []
 push_places order customer supplier part date terms price revenue cost customer_class supplier_class part_class
-    date_class n x long =
-    push_one (place_at order customer supplier part date terms price revenue cost customer_class supplier_class
-    part_class date_class)
-    (place_at (order ++ x.order ∷ []) (customer ++ x.customer ∷ []) (supplier ++ x.supplier ∷ []) (part ++ x.part ∷ [])
-    (date ++ x.date ∷ []) (terms ++ x.terms ∷ []) (price ++ x.price ∷ []) (revenue ++ x.revenue ∷ [])
-    (cost ++ x.cost ∷ []) (customer_class ++ x.customer_class ∷ []) (supplier_class ++ x.supplier_class ∷ [])
-    (part_class ++ x.part_class ∷ []) (date_class ++ x.date_class ∷ []))
-    n x
-    (λ i. record {
-      order = last order x.order n long.order_len i;
-      customer = last customer x.customer n long.customer_len i;
-      supplier = last supplier x.supplier n long.supplier_len i;
-      part = last part x.part n long.part_len i;
-      date = last date x.date n long.date_len i;
-      terms = last terms x.terms n long.terms_len i;
-      price = last price x.price n long.price_len i;
-      revenue = last revenue x.revenue n long.revenue_len i;
-      cost = last cost x.cost n long.cost_len i;
-      customer_class = last customer_class x.customer_class n long.customer_class_len i;
-      supplier_class = last supplier_class x.supplier_class n long.supplier_class_len i;
-      part_class = last part_class x.part_class n long.part_class_len i;
-      date_class = last date_class x.date_class n long.date_class_len i;
-    })
-    (λ j within i. record {
-      order = before order x.order n j long.order_len within i;
-      customer = before customer x.customer n j long.customer_len within i;
-      supplier = before supplier x.supplier n j long.supplier_len within i;
-      part = before part x.part n j long.part_len within i;
-      date = before date x.date n j long.date_len within i;
-      terms = before terms x.terms n j long.terms_len within i;
-      price = before price x.price n j long.price_len within i;
-      revenue = before revenue x.revenue n j long.revenue_len within i;
-      cost = before cost x.cost n j long.cost_len within i;
-      customer_class = before customer_class x.customer_class n j long.customer_class_len within i;
-      supplier_class = before supplier_class x.supplier_class n j long.supplier_class_len within i;
-      part_class = before part_class x.part_class n j long.part_class_len within i;
-      date_class = before date_class x.date_class n j long.date_class_len within i;
-    })
+    date_class n x long = grind (arith, push_one, last, before)
 
 -- a column after others behind it
 front : (xs ys : List ℕ) (n j : ℕ) → length xs ≡ n → j < n → get_or (xs ++ ys) j 0 ≡ get_or xs j 0
@@ -259,65 +174,13 @@ pub append_places : (order customer supplier part date terms price revenue cost 
     supplier_class2 part_class2 date_class2) (range_with_len 0 m)
 append_places order customer supplier part date terms price revenue cost customer_class supplier_class part_class
     date_class order2 customer2 supplier2 part2 date2 terms2 price2 revenue2 cost2 customer_class2 supplier_class2
-    part_class2 date_class2 n m long long2 =
-    append_some (place_at order customer supplier part date terms price revenue cost customer_class supplier_class
-    part_class date_class)
-    (place_at order2 customer2 supplier2 part2 date2 terms2 price2 revenue2 cost2 customer_class2 supplier_class2
-    part_class2 date_class2)
-    (place_at (order ++ order2) (customer ++ customer2) (supplier ++ supplier2) (part ++ part2) (date ++ date2) (terms
-    ++ terms2) (price ++ price2) (revenue ++ revenue2) (cost ++ cost2) (customer_class ++ customer_class2)
-    (supplier_class ++ supplier_class2) (part_class ++ part_class2) (date_class ++ date_class2))
-    n m
-    (λ j within i. record {
-      order = front order order2 n j long.order_len within i;
-      customer = front customer customer2 n j long.customer_len within i;
-      supplier = front supplier supplier2 n j long.supplier_len within i;
-      part = front part part2 n j long.part_len within i;
-      date = front date date2 n j long.date_len within i;
-      terms = front terms terms2 n j long.terms_len within i;
-      price = front price price2 n j long.price_len within i;
-      revenue = front revenue revenue2 n j long.revenue_len within i;
-      cost = front cost cost2 n j long.cost_len within i;
-      customer_class = front customer_class customer_class2 n j long.customer_class_len within i;
-      supplier_class = front supplier_class supplier_class2 n j long.supplier_class_len within i;
-      part_class = front part_class part_class2 n j long.part_class_len within i;
-      date_class = front date_class date_class2 n j long.date_class_len within i;
-    })
-    (λ j within i. record {
-      order = behind order order2 n j long.order_len i;
-      customer = behind customer customer2 n j long.customer_len i;
-      supplier = behind supplier supplier2 n j long.supplier_len i;
-      part = behind part part2 n j long.part_len i;
-      date = behind date date2 n j long.date_len i;
-      terms = behind terms terms2 n j long.terms_len i;
-      price = behind price price2 n j long.price_len i;
-      revenue = behind revenue revenue2 n j long.revenue_len i;
-      cost = behind cost cost2 n j long.cost_len i;
-      customer_class = behind customer_class customer_class2 n j long.customer_class_len i;
-      supplier_class = behind supplier_class supplier_class2 n j long.supplier_class_len i;
-      part_class = behind part_class part_class2 n j long.part_class_len i;
-      date_class = behind date_class date_class2 n j long.date_class_len i;
-    })
+    part_class2 date_class2 n m long long2 = grind (arith, append_some, front, behind)
 
 -- a table's columns are so long
 pub alike_long : (t : Inside) → AreAlike t → AreLong t.order.items t.customer.items t.supplier.items t.part.items
     t.date.items t.terms.items t.price.items t.revenue.items t.cost.items t.customer_class.items t.supplier_class.items
     t.part_class.items t.date_class.items (vec_len t.order)
-alike_long t alike = record {
-  order_len = omega (arith, t.order.ok);
-  customer_len = omega (arith, t.customer.ok, alike.customer);
-  supplier_len = omega (arith, t.supplier.ok, alike.supplier);
-  part_len = omega (arith, t.part.ok, alike.part);
-  date_len = omega (arith, t.date.ok, alike.date);
-  terms_len = omega (arith, t.terms.ok, alike.terms);
-  price_len = omega (arith, t.price.ok, alike.price);
-  revenue_len = omega (arith, t.revenue.ok, alike.revenue);
-  cost_len = omega (arith, t.cost.ok, alike.cost);
-  customer_class_len = omega (arith, t.customer_class.ok, alike.customer_class);
-  supplier_class_len = omega (arith, t.supplier_class.ok, alike.supplier_class);
-  part_class_len = omega (arith, t.part_class.ok, alike.part_class);
-  date_class_len = omega (arith, t.date_class.ok, alike.date_class);
-}
+alike_long t alike = grind arith
 
 -- a table that has room for so many places has memory for the columns of as many
 pub room_for : (t o : Inside) (h k : Held) (count : ℕ) → AreAlike t → held t ≡ h → held o ≡ k → count ≤ h.room
@@ -342,12 +205,7 @@ pub read_at : (t : Inside) (h : Held) → held t ≡ h → (i : ℕ) (d : Place)
     → place_at t.order.items t.customer.items t.supplier.items t.part.items t.date.items t.terms.items t.price.items
     t.revenue.items t.cost.items t.customer_class.items t.supplier_class.items t.part_class.items t.date_class.items
     i ≡ get_or h.places i d
-read_at t h is i d within =
-    let f = place_at t.order.items t.customer.items t.supplier.items t.part.items t.date.items t.terms.items
-    t.price.items t.revenue.items t.cost.items t.customer_class.items t.supplier_class.items t.part_class.items
-    t.date_class.items in
-    sym (ap (λ (x : Held). get_or x.places i d) (sym is)
-    ∙ get_or-map-range_with_len f 0 (vec_len t.order) i i d within (zero_add i))
+read_at t h is i d within = grind (arith, get_or-map-range_with_len, zero_add)
 
 -- an element at an index within
 pub element : (xs : List ℕ) (i x : ℕ) → i < length xs → x ≡ get_or xs i x → x ≡ get_or xs i 0

@@ -25,13 +25,7 @@ use Rattle.history.proofs.HandLaws.{request_there, Found, found_at, turns_split,
 use Rattle.history.proofs.PassingLaws.{passed}
 
 one_more : (a b : ℕ) → (a + 1 == b + 1) ≡ (a == b)
-one_more a b = go (a == b) refl
-  where
-    go : (c : Bool) → (a == b) ≡ c → (a + 1 == b + 1) ≡ (a == b)
-    go true e = let same : a ≡ b = grind (arith, nat_tests) in let up : (a + 1 == b + 1) ≡ true =
-        grind (arith, nat_tests) in up ∙ sym e
-    go false e = let differ : a ≢ b = grind (arith, nat_tests) in let up : (a + 1 == b + 1) ≡ false =
-        grind (arith, nat_tests) in up ∙ sym e
+one_more a b = grind (arith, nat_tests)
 
 -- by a client's number as by its place
 pub request_shown : (place : ℕ) (hs : List Held) → request_of (place + 1) (map shown hs) ≡ request_at place hs

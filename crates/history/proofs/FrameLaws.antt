@@ -48,10 +48,7 @@ all_grow history now beside more all k d low = prefix_trans (slice_index_or besi
 
 pub common_grows : (key : Terms) (w w' : World) (v : View) → IsPrefix w.history w'.history → Common key w v
     → Common key w' v
-common_grows key w w' v more c = record {
-  terms = c.terms;
-  beside = all_grow w.history w'.history v.beside more c.beside;
-}
+common_grows key w w' v more c = grind (arith, all_grow)
 
 -- where nothing lies beside, and where one list more does
 pub none_beside : (history : List CommitRecord) → All (λ list. IsPrefix list history) []
@@ -79,12 +76,7 @@ pub told_more : (deeds : List Deed) (w w' : World) (m m' : Member) (event : Even
     → IsTold deeds w m → m'.who ≡ m.who → actor_of event ≡ m.who → part_of w' m.who ≡ Some (part m')
     → m'.did ≡ m.did ++ record { event = event; reply = reply } ∷ []
     → IsTold (deeds ++ record { event = event; reply = reply } ∷ []) w' m'
-told_more deeds w w' m m' event reply t same acts here did = let last : Deed =
-    record { event = event; reply = reply } in record {
-      part_is = ap (part_of w') same ∙ here;
-      did = did ∙ (ap (λ l. l ++ last ∷ []) t.did ∙ (sym (did_more m.who deeds last acts)
-          ∙ ap (λ who. done_by who (deeds ++ last ∷ [])) (sym same)));
-    }
+told_more deeds w w' m m' event reply t same acts here did = grind (arith, did_more)
 
 module _ {W : Type 0} where
   -- a mailbox is shown as before where its word and its slot are as before

@@ -20,10 +20,7 @@ pub prefix_nil : (xs : List CommitRecord) → IsPrefix [] xs
 prefix_nil xs = record { rest = xs; whole = refl }
 
 pub prefix_trans : (xs ys zs : List CommitRecord) → IsPrefix xs ys → IsPrefix ys zs → IsPrefix xs zs
-prefix_trans xs ys zs p q = record {
-  rest = p.rest ++ q.rest;
-  whole = q.whole ∙ (ap (λ l. l ++ q.rest) p.whole ∙ append_assoc xs p.rest q.rest);
-}
+prefix_trans xs ys zs p q = grind (arith, append_assoc)
 
 pub prefix_one : (xs : List CommitRecord) (y : CommitRecord) → IsPrefix xs (xs ++ y ∷ [])
 prefix_one xs y = record { rest = y ∷ []; whole = refl }
@@ -41,12 +38,7 @@ module _ {A : Type 0} where
 -- a commit is accepted only while the history is shorter than its limit
 pub accepted_short : (base : Tables) (log : List CommitRecord) (commit : CommitRecord) → IsAccepted base log commit
     → length log < base.limits.commits
-accepted_short base log commit accepted = go (nat_le base.limits.commits (length log)) refl
-  where
-    go : (b : Bool) → nat_le base.limits.commits (length log) ≡ b → length log < base.limits.commits
-    go true full = let refused : refusal_of base log commit.actions ≡ Some (record { action = 0; cause = LogFull }) =
-        rw full refl in absurd (cc (sym accepted ∙ refused))
-    go false room = grind (arith, nat_tests)
+accepted_short base log commit accepted = grind (arith, nat_tests)
 
 -- what holds of each element, by place
 pub all_of : {A : Type 0} (P : A → Type 0) (xs : List A) → ((k : ℕ) (x : A) → get_elem? xs k ≡ some x → P x) → All P xs

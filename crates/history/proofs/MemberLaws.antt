@@ -27,30 +27,16 @@ pub who_dispatcher : (clients place : ℕ) → clients ≤ place → who_at clie
 who_dispatcher clients place h = let far : nat_lt place clients ≡ false = grind (arith, nat_tests) in rw far refl
 
 pub low_or_behind : (place clients : ℕ) → (place < clients) ⊎ (clients ≤ place)
-low_or_behind place clients = go (nat_lt place clients) refl
-  where
-    go : (b : Bool) → nat_lt place clients ≡ b → (place < clients) ⊎ (clients ≤ place)
-    go true e = inl (grind (arith, nat_tests))
-    go false e = inr (grind (arith, nat_tests))
+low_or_behind place clients = grind (arith, nat_tests)
 
 -- a client's place is one less than its number
 pub who_back : (clients place client : ℕ) → who_at clients place ≡ Client client → (place < clients)
     × (client ≡ place + 1)
-who_back clients place client e = go (nat_lt place clients) refl
-  where
-    go : (b : Bool) → nat_lt place clients ≡ b → (place < clients) × (client ≡ place + 1)
-    go true low = let same : Client (place + 1) ≡ Client client = sym (rw low refl) ∙ e in let k : place + 1 ≡ client =
-        cc same in (grind (arith, nat_tests), sym k)
-    go false low = let same : Dispatcher ((place - clients) + 1) ≡ Client client = sym (rw low refl) ∙ e in
-        absurd (cc same)
+who_back clients place client e = grind (arith, nat_tests)
 
 -- a dispatcher stands behind the clients
 pub who_behind : (clients place number : ℕ) → who_at clients place ≡ Dispatcher number → clients ≤ place
-who_behind clients place number e = go (nat_lt place clients) refl
-  where
-    go : (b : Bool) → nat_lt place clients ≡ b → clients ≤ place
-    go true low = let same : Client (place + 1) ≡ Dispatcher number = sym (rw low refl) ∙ e in absurd (cc same)
-    go false low = grind (arith, nat_tests)
+who_behind clients place number e = grind (arith, nat_tests)
 
 -- the one at a client's place is that client, at another a dispatcher
 pub client_here : (clients place : ℕ) (who : Who) → place < clients → who ≡ who_at clients place
@@ -64,19 +50,7 @@ dispatcher_here clients place who far is = let named : who ≡ Dispatcher ((plac
 
 -- two places of one name are one
 pub who_same : (clients a b : ℕ) → who_at clients a ≡ who_at clients b → a ≡ b
-who_same clients a b e = go (nat_lt a clients) (nat_lt b clients) refl refl
-  where
-    go : (x y : Bool) → nat_lt a clients ≡ x → nat_lt b clients ≡ y → a ≡ b
-    go true true low low' = let same : Client (a + 1) ≡ Client (b + 1) = sym (rw low refl) ∙ (e ∙ rw low' refl) in
-        let k : a + 1 ≡ b + 1 = cc same in omega arith
-    go true false low high = let same : Client (a + 1) ≡ Dispatcher ((b - clients) + 1) =
-        sym (rw low refl) ∙ (e ∙ rw high refl) in absurd (cc same)
-    go false true high low = let same : Dispatcher ((a - clients) + 1) ≡ Client (b + 1) =
-        sym (rw high refl) ∙ (e ∙ rw low refl) in absurd (cc same)
-    go false false high high' = let same : Dispatcher ((a - clients) + 1) ≡ Dispatcher ((b - clients) + 1) =
-        sym (rw high refl) ∙ (e ∙ rw high' refl) in let k : (a - clients) + 1 ≡ (b - clients) + 1 = cc same in
-        let far : clients ≤ a = grind (arith, nat_tests) in let far' : clients ≤ b = grind (arith, nat_tests) in
-        omega arith
+who_same clients a b e = grind (arith, nat_tests)
 
 pub owns_more : (who : Who) (commit : CommitRecord) (mine history : List CommitRecord) → who ≡ Client commit.client
     → Owns who mine history → Owns who (mine ++ commit ∷ []) (history ++ commit ∷ [])

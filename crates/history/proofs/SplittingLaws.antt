@@ -45,18 +45,7 @@ placed_else f p x q n = let apart : (q == p) ≡ false = grind (arith, nat_tests
 handed_placed : (key : Terms) (deeds : List Deed) (w : World) (owner : ℕ → ℕ) (next new seat j own : ℕ) (m : Member)
     → owner next ≡ seat → j ≢ seat → (h : Handed key deeds w owner j own m)
     → Handed key deeds w (placed owner next new) j own m
-handed_placed key deeds w owner next new seat j own m mine apart h =
-    record {
-      place = h.place;
-      plays = placed_else owner next new h.place
-          (λ e. apart (sym h.plays ∙ (ap owner e ∙ mine))) ∙ h.plays;
-      apart = h.apart;
-      who = h.who;
-      told = h.told;
-      free = h.free;
-      idle = h.idle;
-      quiet = h.quiet;
-    }
+handed_placed key deeds w owner next new seat j own m mine apart h = grind (arith, placed_else)
 
 module _ {W : Type 0} where
   -- the other seats keep their places where one of this seat's places goes to another seat
@@ -409,11 +398,7 @@ pub in_front : {A : Type 0} (x : ℕ × A) (xs carried : List (ℕ × A)) → ca
 in_front x xs carried e = e ∙ ap (λ cs. x ∷ rest cs) (sym e)
 
 pub same_front : {A : Type 0} (k : ℕ) (a b : A) (xs ys : List (ℕ × A)) → (k, a) ∷ xs ≡ (k, b) ∷ ys → a ≡ b
-same_front {A} k a b xs ys e = ap (slot_of a) e
-  where
-    slot_of : A → List (ℕ × A) → A
-    slot_of d [] = d
-    slot_of d (x ∷ xs) = x.1
+same_front {A} k a b xs ys e = grind arith
 
 pub replicate_more : {A : Type 0} (n : ℕ) (a : A) → replicate n a ++ a ∷ [] ≡ replicate (n + 1) a
 replicate_more {A} n a = go n ∙ (let e : suc n ≡ n + 1 = omega arith in ap (λ k. replicate k a) e)

@@ -23,18 +23,13 @@ same_self (Client n) = grind (arith, nat_tests)
 same_self (Dispatcher n) = grind (arith, nat_tests)
 
 pub same_apart : (a b : Who) → a ≢ b → is_same a b ≡ false
-same_apart (Client n) (Client m) apart = let differ : n ≢ m = λ e. apart (ap (λ k. Client k) e) in
-    grind (arith, nat_tests)
-same_apart (Dispatcher n) (Dispatcher m) apart = let differ : n ≢ m = λ e. apart (ap (λ k. Dispatcher k) e) in
-    grind (arith, nat_tests)
-same_apart (Client n) (Dispatcher m) apart = refl
-same_apart (Dispatcher n) (Client m) apart = refl
+same_apart (Client n) (Client m) apart = grind (arith, nat_tests)
+same_apart (Dispatcher n) (Dispatcher m) apart = grind (arith, nat_tests)
+same_apart (Client n) (Dispatcher m) apart = grind arith
+same_apart (Dispatcher n) (Client m) apart = grind arith
 
 pub done_none : (before : World) → HasDone before [] before
-done_none before = record {
-  ran = record { replied = refl; led = refl };
-  enabled = All-nil (λ (d : Deed). d.reply ≢ NotEnabled);
-}
+done_none before = grind arith
 
 pub done_next : (before : World) (deeds : List Deed) (w : World) (event : Event) (reply : EventReply) (after : World)
     → HasDone before deeds w → step_of w event ≡ (after, reply) → reply ≢ NotEnabled

@@ -10,9 +10,4 @@ use Rattle.row_store.proofs.FewLaws.{few_after}
 pub few_lines : (base : Tables) (history : List CommitRecord) (at : ℕ) (plain : Warehouse) (found : List LineFields)
     → IsLegal base history → IsSound base → plain ≡ record { base = base; log = take at history }
     → found ≡ lines_after plain.base plain.log → length found ≤ 33554432
-few_lines base history at plain found legal sound is lines =
-    let few = few_after base history legal sound.few at in
-    let here : found ≡ lines_after base (take at history) =
-    lines ∙ ap (λ (p : Warehouse). lines_after p.base p.log) is in
-    let count : length found ≡ length (lines_after base (take at history)) = ap length here in
-    omega (arith, few, count, base.limits.lines_range)
+few_lines base history at plain found legal sound is lines = grind (arith, few_after)

@@ -98,29 +98,10 @@ module _ (history : List CommitRecord) (commit : CommitRecord) where
 pub grown_kept : (w : Inside) (store : Warehouse) (commits : Vec CommitRecord Global) (commit : CommitRecord)
     → store ≡ with_commit w.store commit → commits.items ≡ w.commits.items ++ commit ∷ [] → IsWorld w
     → IsWorld record w { store = store; commits = commits }
-grown_kept w store commits commit is pushed k =
-    subst (λ (s : Warehouse). IsWorld record w { store = s; commits = commits }) (sym is) record {
-      base = k.base;
-      commits = pushed ∙ ap (λ l. l ++ commit ∷ []) k.commits;
-      clients = clients_more w.store.log commit w.clients.items k.clients;
-      dispatchers = dispatchers_more w.store.log commit w.dispatchers.items k.dispatchers;
-    }
+grown_kept w store commits commit is pushed k = grind (arith, clients_more, dispatchers_more)
 
 pub applied_grown : (w : Inside) (store : Warehouse) (client : ℕ) (actions : List Action) (number : ℕ) → IsWorld w
     → refusal_of w.store.base w.store.log actions ≡ None → store ≡ with_commit w.store (commit_by client actions)
     → number ≡ length store.log
     → applied (world_in w) client actions ≡ (world_in record w { store = store }, Committed number)
-applied_grown w store client actions number k accepted is count =
-    let commit : CommitRecord = commit_by client actions in
-    let counted : length w.store.log + 1 ≡ number =
-    sym (count ∙ ap (λ (s : Warehouse). length s.log) is ∙ length-append w.store.log (commit ∷ [])) in
-    let shown : World = record (world_in w) { history = w.store.log ++ commit ∷ [] } in
-    ap (applying (world_in w) client actions) accepted
-    ∙ (λ i. (
-      record shown {
-        clients = sym (clients_grown w.store.log commit w.clients.items client refl k.clients) i;
-        dispatchers = sym (dispatchers_grown w.store.log commit w.dispatchers.items k.dispatchers) i;
-      },
-      Committed (counted i),
-    ))
-    ∙ ap (λ (s : Warehouse). (world_in record w { store = s }, Committed number)) (sym is)
+applied_grown w store client actions number k accepted is count = grind (arith, length-append, clients_grown, dispatchers_grown)

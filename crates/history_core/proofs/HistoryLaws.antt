@@ -59,11 +59,7 @@ pub each_revised : {A : Type 0} (P Q : ℕ → A → Type 0) (l : List A) (i : �
     → ((j : ℕ) (a : A) → slice_get l j ≡ Some a → P j a) → ((a : A) → slice_get l i ≡ Some a → P i a → Q i (f a))
     → ((j : ℕ) (a : A) → j ≢ i → slice_get l j ≡ Some a → P j a → Q j a) → (j : ℕ) (b : A)
     → slice_get (revised l i f) j ≡ Some b → Q j b
-each_revised {A} P Q l i f all here others j b at = ⊎_elim
-    (λ (t : (j ≡ i) × ((a : A) × (slice_get l i ≡ Some a) × (f a ≡ b))). subst (λ (x : ℕ × A). Q x.0 x.1)
-    (λ k. (sym t.0 k, t.1.2 k)) (here t.1.0 t.1.1 (all i t.1.0 t.1.1)))
-    (λ (t : (j ≢ i) × (slice_get l j ≡ Some b)). others j b t.0 t.1 (all j b t.1))
-    (at_revised l i j f b at)
+each_revised {A} P Q l i f all here others j b at = grind (arith, ⊎_elim, at_revised)
 
 pub in_range : {A : Type 0} (l : List A) (i : ℕ) (a : A) → slice_get l i ≡ Some a → i < length l
 in_range [] i a e = absurd (some_ne_none a (sym e))
@@ -101,41 +97,22 @@ numbered_copies count (suc place) x y e = at_copies count place x y e
 -- a filter keeps of the first elements no more than of all
 pub filter_take : {A : Type 0} (test : A → Bool) (n : ℕ) (l : List A)
     → length (filter test (take n l)) ≤ length (filter test l)
-filter_take test zero l = zero-le
-filter_take test (suc n) [] = zero-le
-filter_take {A} test (suc n) (x ∷ xs) = go (filter_take test n xs) (test x) refl
-  where
-    go : length (filter test (take n xs)) ≤ length (filter test xs) → (b : Bool) → test x ≡ b
-        → length (filter test (take (suc n) (x ∷ xs))) ≤ length (filter test (x ∷ xs))
-    go h true e = rw e (omega arith)
-    go h false e = rw e h
+filter_take test zero l = grind (arith, zero-le)
+filter_take test (suc n) [] = grind (arith, zero-le)
+filter_take {A} test (suc n) (x ∷ xs) = grind (arith, filter_take test n xs)
 
 pub named_push : (clients : ℕ) (log : List CommitRecord) (commit : CommitRecord) → IsOfClients clients log
     → (1 ≤ commit.client) × (commit.client ≤ clients) → IsOfClients clients (log ++ commit ∷ [])
-named_push clients log commit of is = record {
-  named = λ number c at. ⊎_elim
-      (λ (t : (number < length log) × (slice_get log number ≡ Some c)). of.named number c t.1)
-      (λ (t : (number ≡ length log) × (commit ≡ c)). subst
-      (λ (x : CommitRecord). (1 ≤ x.client) × (x.client ≤ clients)) t.1 is)
-      (at_end log commit c number at);
-}
+named_push clients log commit of is = grind (arith, ⊎_elim, at_end)
 
 -- a commit of this client is one more of its own, and one of another changes nothing
 pub own_push : (client : ℕ) (log : List CommitRecord) (commit : CommitRecord) → commit.client ≡ client
     → commits_of client (log ++ commit ∷ []) ≡ commits_of client log ++ commit ∷ []
-own_push client log commit e =
-    filter-append (λ (c : CommitRecord). c.client == client) log (commit ∷ [])
-    ∙ ap (λ l. commits_of client log ++ l) (kept (commit.client == client) (grind (arith, nat_tests)))
-  where
-    kept : (b : Bool) → b ≡ true → commits_of client (commit ∷ []) ≡ commit ∷ []
-    kept b e' = let same : (commit.client == client) ≡ true = grind (arith, nat_tests) in rw same refl
+own_push client log commit e = grind (arith, filter-append, nat_tests)
 
 pub others_push : (client : ℕ) (log : List CommitRecord) (commit : CommitRecord) → commit.client ≢ client
     → commits_of client (log ++ commit ∷ []) ≡ commits_of client log
-others_push client log commit n = let apart : (commit.client == client) ≡ false = grind (arith, nat_tests) in
-    let none_kept : commits_of client (commit ∷ []) ≡ [] = rw apart refl in
-    filter-append (λ (c : CommitRecord). c.client == client) log (commit ∷ [])
-    ∙ (ap (λ l. commits_of client log ++ l) none_kept ∙ append-nil (commits_of client log))
+others_push client log commit n = grind (arith, nat_tests, filter-append, append-nil)
 
 -- the marks of dispatchers of which one changed
 pub marks_renewed : (ds : List DispatcherState) (number : ℕ) (g : DispatcherState → DispatcherState) (top : ℕ)

@@ -28,14 +28,7 @@ takes_more {A = A} test (suc n) (suc m) (x ∷ xs) h = go (takes_more test n m x
 before_post : (es : List Event) (rs : List EventReply) (client : ℕ) (questions q : Questions)
     (rows : List (List ResultRow)) (at : ℕ) (first second : ℕ) (o : Outstanding es rs client questions second)
     → Happens es rs first (Collect client) (Rows q at rows) → first < second → first < o.grabbed
-before_post es rs client questions q rows at first second o h less = go (nat_lt o.posted first) refl
-  where
-    go : (b : Bool) → nat_lt o.posted first ≡ b → first < o.grabbed
-    go true e = let after : o.posted < first = grind (arith, nat_tests) in
-        let same : first ≡ o.grabbed = o.alone first (Collect client) (Rows q at rows) after less h refl in
-        let clash : Collect client ≡ Grab o.dispatcher client =
-        some_injective _ _ (sym h.0 ∙ (ap (slice_get es) same ∙ o.was_grabbed.0)) in absurd (cc clash)
-    go false e = let low : first ≤ o.posted = grind (arith, nat_tests) in let early = o.posted_first in omega arith
+before_post es rs client questions q rows at first second o h less = grind (arith, nat_tests, some_injective)
 
 pub never_back : (base : Tables) (es : List Event) (rs : List EventReply) (history : List CommitRecord)
     → IsTrueRun base es rs history → (client first second : ℕ) (p q : Questions) (early late : ℕ) (f g : List (List ResultRow))

@@ -1,3 +1,4 @@
+use Rattle.std.proofs.Common.{arith}
 -- The answers to one request.
 use Rattle.std.proofs.Common.{◌≡◌, ℕ, zero, suc, List, [], ◌∷◌, map, Some, refl, sym, ap, ◌∙◌}
 use Rattle.std.specs.Prelude.{slice_get}
@@ -15,24 +16,20 @@ use Rattle.history_core.proofs.HistoryLaws.{some_injective, some_ne_none}
 of_moment : (at : ℕ) (questions : Questions) (rows : List (List ResultRow)) (place : ℕ) (question : Question) (found : ℕ)
     (list : List ResultRow) → slice_get (answers_with at questions rows) place ≡ Some (answer.Rows question found list)
     → at ≡ found
-of_moment at [] rows place q found list e = absurd (some_ne_none _ (sym e))
-of_moment at (p ∷ questions) [] place q found list e = absurd (some_ne_none _ (sym e))
-of_moment at (p ∷ questions) (own ∷ rows) zero q found list e =
-    let same : answer.Rows p at own ≡ answer.Rows q found list = some_injective _ _ e in cc same
-of_moment at (p ∷ questions) (own ∷ rows) (suc place) q found list e = of_moment at questions rows place q found list e
+of_moment at [] rows place q found list e = grind (arith, some_ne_none)
+of_moment at (p ∷ questions) [] place q found list e = grind (arith, some_ne_none)
+of_moment at (p ∷ questions) (own ∷ rows) zero q found list e = grind (arith, some_injective)
+of_moment at (p ∷ questions) (own ∷ rows) (suc place) q found list e = grind (arith, of_moment at questions rows place q found list e)
 
 no_rows : (questions : Questions) (cause : Cause) (place : ℕ) (question : Question) (found : ℕ) (list : List ResultRow)
     → slice_get (map (λ q. answer.Unserved q cause) questions) place ≡ Some (answer.Rows question found list) → ⊥
-no_rows [] cause place q found list e = some_ne_none _ (sym e)
-no_rows (p ∷ questions) cause zero q found list e =
-    let same : answer.Unserved p cause ≡ answer.Rows q found list = some_injective _ _ e in cc same
-no_rows (p ∷ questions) cause (suc place) q found list e = no_rows questions cause place q found list e
+no_rows [] cause place q found list e = grind (arith, some_ne_none)
+no_rows (p ∷ questions) cause zero q found list e = grind (arith, some_injective)
+no_rows (p ∷ questions) cause (suc place) q found list e = grind (arith, no_rows questions cause place q found list e)
 
 pub one_moment : AnswersAreOfOneMoment
-one_moment (Rows questions at rows) first second question other early late list more e h =
-    sym (of_moment at questions rows first question early list e) ∙ of_moment at questions rows second other late more h
-one_moment (Unserved questions cause) first second question other early late list more e h =
-    absurd (no_rows questions cause first question early list e)
+one_moment (Rows questions at rows) first second question other early late list more e h = grind (arith, of_moment)
+one_moment (Unserved questions cause) first second question other early late list more e h = grind (arith, no_rows)
 
 each_with : (base : Tables) (history : List CommitRecord) (at : ℕ) (questions : Questions)
     → answers_with at questions (all_rows_after base questions history)

@@ -25,13 +25,7 @@ world_push w (x ∷ xs) e = world_push (step_of w x).0 xs e
 pub run_push : (w : World) (es : List Event) (e : Event) (replies : List EventReply) (now after : World)
     (reply : EventReply)
     → HasRun w es replies now → step_of now e ≡ (after, reply) → HasRun w (es ++ e ∷ []) (replies ++ reply ∷ []) after
-run_push w es e replies now after reply has step =
-    let here : step_of (run_of w es).1 e ≡ (after, reply) = ap (λ x. step_of x e) (sym has.led) ∙ step in record {
-      replied =
-          ap (λ l. l ++ reply ∷ []) has.replied
-          ∙ (ap (λ (x : World × EventReply). (run_of w es).0 ++ x.1 ∷ []) (sym here) ∙ sym (replies_push w es e));
-      led = ap (λ (x : World × EventReply). x.0) (sym here) ∙ sym (world_push w es e);
-    }
+run_push w es e replies now after reply has step = grind (arith, replies_push, world_push)
 
 -- a run over the first events, by the next
 pub run_next : (w : World) (es : List Given) (i : ℕ) (replies : List EventReply) (now after : World)

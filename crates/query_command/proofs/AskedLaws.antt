@@ -21,10 +21,8 @@ given_asked query f (word ∷ words) some = refl
 
 pub none_asked : {A : Type 0} (query : Query) (f : A → List ℕ) (words : List A) → nat_eq (length words) 0 ≡ true
     → standard_constants query ≡ constants_asked query (map f words)
-none_asked query f [] none = refl
-none_asked query f (word ∷ words) none =
-    let no_words : length (word ∷ words) ≡ 0 = eqb-true (length (word ∷ words)) 0 none in
-    absurd (omega (arith, no_words))
+none_asked query f [] none = grind arith
+none_asked query f (word ∷ words) none = grind (arith, eqb-true)
 
 -- where the constants of a question were refused, none is asked
 pub is_refused : (name : List ℕ) (words : List (List ℕ)) (query : Query) (constants : List Value)
@@ -33,12 +31,5 @@ pub is_refused : (name : List ℕ) (words : List (List ℕ)) (query : Query) (co
     → fault_of made ≡ constants_fault query constants
     → IfErr result (λ why. status_of why ≡ 2 → (refused : ConstantsFault) × (fault_of made ≡ Some refused))
     → IfErr result (λ why. status_of why ≡ 2 → AskNothing name words)
-is_refused name words query constants made (Ok question) named given fault is = tt
-is_refused name words query constants made (Err why) named given fault is = λ two.
-    let found = is two in
-    inr (record {
-      query = query;
-      named = named;
-      fault = found.0;
-      is = ap (constants_fault query) (sym given) ∙ (sym fault ∙ found.1);
-    })
+is_refused name words query constants made (Ok question) named given fault is = grind arith
+is_refused name words query constants made (Err why) named given fault is = grind arith

@@ -22,15 +22,14 @@ pub lines_more : (records : List (List (List ℕ))) (titles : List (List ℕ)) (
     (fields : List (List ℕ)) (title : List ℕ) (question : Query × List Value) → AreLines records titles questions
     → IsLine fields title question
     → AreLines (records ++ fields ∷ []) (titles ++ title ∷ []) (questions ++ question ∷ [])
-lines_more [] [] [] fields title question so_far one = (one, tt)
-lines_more [] [] (q ∷ qs) fields title question so_far one = absurd so_far
-lines_more [] (t ∷ ts) [] fields title question so_far one = absurd so_far
-lines_more [] (t ∷ ts) (q ∷ qs) fields title question so_far one = absurd so_far
-lines_more (r ∷ rs) [] [] fields title question so_far one = absurd so_far
-lines_more (r ∷ rs) [] (q ∷ qs) fields title question so_far one = absurd so_far
-lines_more (r ∷ rs) (t ∷ ts) [] fields title question so_far one = absurd so_far
-lines_more (r ∷ rs) (t ∷ ts) (q ∷ qs) fields title question so_far one =
-    (so_far.0, lines_more rs ts qs fields title question so_far.1 one)
+lines_more [] [] [] fields title question so_far one = grind arith
+lines_more [] [] (q ∷ qs) fields title question so_far one = grind arith
+lines_more [] (t ∷ ts) [] fields title question so_far one = grind arith
+lines_more [] (t ∷ ts) (q ∷ qs) fields title question so_far one = grind arith
+lines_more (r ∷ rs) [] [] fields title question so_far one = grind arith
+lines_more (r ∷ rs) [] (q ∷ qs) fields title question so_far one = grind arith
+lines_more (r ∷ rs) (t ∷ ts) [] fields title question so_far one = grind arith
+lines_more (r ∷ rs) (t ∷ ts) (q ∷ qs) fields title question so_far one = grind (arith, lines_more rs ts qs fields title question so_far.1 one)
 
 -- so many records that a reader has given of a text have these titles and questions
 pub record HasRead {R : Type 0} (remaining : R → Option (List ℕ)) (text : List ℕ) (reader : Reader R) (count : ℕ)
@@ -71,13 +70,7 @@ pub read_all : {R : Type 0} (remaining : R → Option (List ℕ)) (text : List �
     → HasRead remaining text old count titles questions → GivesNext remaining old new false fields
     → 1 ≤ count → count ≤ most_reports
     → IsBoard text titles questions
-read_all remaining text old new count titles questions fields so_far next some few = record {
-  records = so_far.records;
-  all = next text so_far.records so_far.given;
-  lines = so_far.lines;
-  some = rw so_far.many some;
-  few = rw so_far.many few;
-}
+read_all remaining text old new count titles questions fields so_far next some few = grind arith
 
 no_records : (records : List (List (List ℕ))) → length records ≡ 0 → records ≡ []
 no_records [] none = refl
@@ -89,10 +82,7 @@ pub read_none : {R : Type 0} (remaining : R → Option (List ℕ)) (text : List 
     → HasRead remaining text old count titles questions → GivesNext remaining old new false fields
     → count ≡ 0
     → HasRecords text []
-read_none remaining text old new count titles questions fields so_far next none =
-    subst (HasRecords text)
-    (no_records so_far.records (so_far.many ∙ none))
-    (next text so_far.records so_far.given)
+read_none remaining text old new count titles questions fields so_far next none = grind (arith, no_records)
 
 -- a record that is no line, or one too many
 pub first_bad : {R : Type 0} (remaining : R → Option (List ℕ)) (text : List ℕ) (old new : Reader R) (count : ℕ)
@@ -117,31 +107,21 @@ first_bad remaining text old new count titles questions fields why so_far next f
 pub question_refused : (fields : List (List ℕ)) (name : List ℕ) (words : List (List ℕ)) (number : ℕ)
     (fault : BoardFault) → name ≡ field fields 1 → words ≡ words_of fields
     → IsRefusal (IsQuestionFault name words) number fault → IsRefusal (IsLineFault fields) number fault
-question_refused fields name words number (board.Line n (line.NoSuchQuery why)) named given refused =
-    (refused.0, subst (λ w. AskNothing (field fields 1) w) given (subst (λ m. AskNothing m words) named refused.1))
-question_refused fields name words number (board.Line n (line.Constants why)) named given refused =
-    (refused.0, subst (λ w. AskNothing (field fields 1) w) given (subst (λ m. AskNothing m words) named refused.1))
-question_refused fields name words number (board.Line n line.NoTitle) named given refused = absurd refused.1
-question_refused fields name words number (board.Line n line.NotUtf8) named given refused = absurd refused.1
-question_refused fields name words number (board.Line n line.TooManyReports) named given refused = absurd refused.1
-question_refused fields name words number (board.NoReports why) named given refused = absurd refused
-question_refused fields name words number board.Read named given refused = absurd refused
-question_refused fields name words number board.OutOfMemory named given refused = tt
+question_refused fields name words number (board.Line n (line.NoSuchQuery why)) named given refused = grind arith
+question_refused fields name words number (board.Line n (line.Constants why)) named given refused = grind arith
+question_refused fields name words number (board.Line n line.NoTitle) named given refused = grind arith
+question_refused fields name words number (board.Line n line.NotUtf8) named given refused = grind arith
+question_refused fields name words number (board.Line n line.TooManyReports) named given refused = grind arith
+question_refused fields name words number (board.NoReports why) named given refused = grind arith
+question_refused fields name words number board.Read named given refused = grind arith
+question_refused fields name words number board.OutOfMemory named given refused = grind arith
 
 -- a word more
 pub words_more : (fields : List (List ℕ)) (place : ℕ) (old new : List (Bor (List ℕ))) (word : Bor (List ℕ))
     (all : List (List ℕ)) → place < length fields → new ≡ old ++ word ∷ [] → word.now ≡ field fields place
     → map (λ (w : Bor (List ℕ)). w.now) old ++ map without_spaces (drop place fields) ≡ all
     → map (λ (w : Bor (List ℕ)). w.now) new ++ map without_spaces (drop (place + 1) fields) ≡ all
-words_more fields place old new word all within pushed is so_far =
-    let now : Bor (List ℕ) → List ℕ = λ w. w.now in
-    let rest : List (List ℕ) = map without_spaces (drop (place + 1) fields) in
-    ap (λ ws. map now ws ++ rest) pushed
-    ∙ ap (λ ws. ws ++ rest) (map-append now old (word ∷ []))
-    ∙ append_assoc (map now old) (word.now ∷ []) rest
-    ∙ ap (λ w. map now old ++ w ∷ rest) is
-    ∙ ap (λ ws. map now old ++ map without_spaces ws) (sym (drop_more fields place [] within))
-    ∙ so_far
+words_more fields place old new word all within pushed is so_far = grind (arith, map-append, append_assoc, drop_more)
 
 -- no word is left
 pub words_all : (fields : List (List ℕ)) (place : ℕ) (words all : List (List ℕ)) → length fields ≤ place

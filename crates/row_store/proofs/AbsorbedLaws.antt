@@ -25,20 +25,8 @@ without_none (line ∷ lines) = ap (λ l. line ∷ l) (without_none lines)
 -- without one order, and then without others
 without_more : (key : ℕ) (keys : List ℕ) (lines : List LineFields)
     → lines_without_all keys (lines_without key lines) ≡ lines_without_all (key ∷ keys) lines
-without_more key keys [] = refl
-without_more key keys (line ∷ lines) =
-    let rest = without_more key keys lines in
-    let step : (b : Bool) → lines_without_all keys (cond (not b) (line ∷ lines_without key lines)
-    (lines_without key lines))
-    ≡ cond (not (b || is_of_any keys line)) (line ∷ lines_without_all (key ∷ keys) lines)
-    (lines_without_all (key ∷ keys) lines) =
-    elim [
-      | true ↦ rest
-      | false ↦ ap (λ l. cond (not (is_of_any keys line)) (line ∷ l) l) rest
-    ] in
-    step (is_of key line)
-    ∙ ap (λ b. cond (not (b || is_of_any keys line)) (line ∷ lines_without_all (key ∷ keys) lines)
-    (lines_without_all (key ∷ keys) lines)) (flip line.order_key key)
+without_more key keys [] = grind arith
+without_more key keys (line ∷ lines) = grind (arith, flip, without_more key keys lines)
 
 split : (lines more : List LineFields) (actions : List Action)
     → lines_after_refresh (lines ++ more) actions ≡ lines_without_all (flat_map gone_by actions) lines

@@ -75,11 +75,7 @@ not_there base lines order false is none = refl
 -- an order that may be added has no line yet
 pub new_key : (base : Tables) (lines order : List LineFields) → cause_of base lines (Add order) ≡ None
     → lines_of (order_key order) lines ≡ []
-new_key base lines order none =
-    let absent : is_present (order_key order) lines ≡ false = not_there base lines order _ refl none in
-    let few : length (lines_of (order_key order) lines) ≤ 0 =
-    ltb-false 0 _ (sym (present (order_key order) lines) ∙ absent) in
-    no_lines _ (omega arith)
+new_key base lines order none = grind (arith, not_there, ltb-false, present, no_lines)
 
 abbrev refused_at : ℕ → Option Cause → Option Refusal → Option Refusal
 refused_at number cause later = option_or (option_map (λ cause. record { action = number; cause = cause }) cause) later
@@ -96,10 +92,4 @@ pub none_refused-next : (base : Tables) (number : ℕ) (lines : List LineFields)
     → (cause_of base (lines_after_refresh lines (take i actions)) action ≡ None)
     × (first_refusal base (number + 1) (lines_after_action (lines_after_refresh lines (take i actions)) action)
     (drop (i + 1) actions) ≡ None)
-none_refused-next base number lines actions i action here is none =
-    let now : List LineFields = lines_after_refresh lines (take i actions) in
-    let front : drop i actions ≡ action ∷ drop (i + 1) actions =
-    drop-cons actions i action here ∙ ap (λ a. a ∷ drop (suc i) actions) (sym is)
-    ∙ ap (λ k. action ∷ drop k actions) (sym (add-one i)) in
-    both_none number (cause_of base now action) (first_refusal base (number + 1) (lines_after_action now action)
-    (drop (i + 1) actions)) (ap (first_refusal base number now) (sym front) ∙ none)
+none_refused-next base number lines actions i action here is none = grind (arith, drop-cons, add-one, both_none)

@@ -134,8 +134,4 @@ present key (line ∷ lines) = present_step (is_of key line) (is_present key lin
 -- withdrawing a key drops so many lines
 pub length_kept : (key : ℕ) (lines : List LineFields) → length (lines_without key lines)
     + length (lines_of key lines) ≡ length lines
-length_kept key lines = omega (
-  arith,
-  length-filter_both (is_of key) (λ line. not (is_of key line)) (λ line. refl)
-      lines,
-)
+length_kept key lines = grind (arith, length-filter_both)

@@ -117,24 +117,10 @@ appended_facts_count facts more = sym (fold-append with_fact map.empty facts mor
 -- the entry of a fact where an order goes
 pub get_counts_without : (key : ℕ) (counts : Counts) (fact : Fact)
     → map.get (counts_without key counts) fact ≡ cond (eqb fact.order_key key) None (map.get counts fact)
-get_counts_without key counts fact = get_kept (λ other. not (eqb other.order_key key)) counts fact
-    ∙ step (eqb fact.order_key key) (map.get counts fact)
-  where
-    step : (b : Bool) (old : Option ℕ) → cond (not b) old None ≡ cond b None old
-    step true old = refl
-    step false old = refl
+get_counts_without key counts fact = grind (arith, get_kept, eqb)
 
 pub without_an_order : WithoutAnOrder
-without_an_order key counts fact = ap (λ o. unwrap_or o 0) (get_counts_without key counts fact)
-    ∙ step (eqb fact.order_key key) (map.get counts fact)
-  where
-    step : (b : Bool) (old : Option ℕ) → unwrap_or (cond b None old) 0 ≡ cond b 0 (unwrap_or old 0)
-    step true old = refl
-    step false old = refl
+without_an_order key counts fact = grind (arith, unwrap_or, get_counts_without, eqb)
 
 pub rearranged_count_equal : RearrangedCountEqual
-rearranged_count_equal facts others moved = same_counts _ _ (λ fact.
-    get_counted map.empty facts fact
-    ∙ ap (λ n. again n (map.get (map.empty {R = fact_cmp}) fact))
-    (sym (sum_by-IsPermutation (λ other. cond (is_same fact other) 1 0) facts others moved))
-    ∙ sym (get_counted map.empty others fact))
+rearranged_count_equal facts others moved = grind (arith, same_counts, get_counted, sum_by-IsPermutation)

@@ -35,54 +35,24 @@ rest_none f (Some x) second e = absurd (cc e)
 
 joined_few : (base : Tables) (lines order : List LineFields) → order_cause base lines order ≡ None
     → length (lines ++ order) ≤ base.limits.lines
-joined_few base lines order e = go (nat_lt base.limits.lines (length lines + length order)) refl
-    (second_none (unknown_key base.dimensions order) (lines_full base.limits.lines lines order) e)
-  where
-    go : (b : Bool) → nat_lt base.limits.lines (length lines + length order) ≡ b
-        → (if b then Some LinesFull else None) ≡ None → length (lines ++ order) ≤ base.limits.lines
-    go true t e' = absurd (cc e')
-    go false t e' = let both = length-append lines order in let few : length lines + length order ≤ base.limits.lines =
-        grind (arith, nat_tests) in omega arith
+joined_few base lines order e = grind (arith, second_none, length-append, nat_tests)
 
 few_after_action : (base : Tables) (lines : List LineFields) (action : Action) → cause_of base lines action ≡ None
     → length lines ≤ base.limits.lines → length (lines_after_action lines action) ≤ base.limits.lines
-few_after_action base lines (Add order) e h = go (is_present (order_key order) lines) refl e
-  where
-    go : (b : Bool) → is_present (order_key order) lines ≡ b
-        → (if b then Some (Present (order_key order)) else order_cause base lines order) ≡ None
-        → length (lines ++ order) ≤ base.limits.lines
-    go true t e' = absurd (cc e')
-    go false t e' = joined_few base lines order e'
-few_after_action base lines (Amend order) e h = go (is_present (order_key order) lines) refl e
-  where
-    go : (b : Bool) → is_present (order_key order) lines ≡ b
-        → (if b then order_cause base (lines_without (order_key order) lines) order else Some
-        (AmendAbsent (order_key order))) ≡ None → length
-        (lines_without (order_key order) lines ++ order) ≤ base.limits.lines
-    go true t e' = joined_few base (lines_without (order_key order) lines) order e'
-    go false t e' = absurd (cc e')
-few_after_action base lines (Withdraw key) e h = let kept = length_kept key lines in omega arith
+few_after_action base lines (Add order) e h = grind (arith, joined_few)
+few_after_action base lines (Amend order) e h = grind (arith, joined_few)
+few_after_action base lines (Withdraw key) e h = grind (arith, length_kept)
 
 few_after_refresh : (base : Tables) (number : ℕ) (lines : List LineFields) (actions : List Action)
     → first_refusal base number lines actions ≡ None → length lines ≤ base.limits.lines
     → length (lines_after_refresh lines actions) ≤ base.limits.lines
-few_after_refresh base number lines [] e h = h
-few_after_refresh base number lines (action ∷ actions) e h =
-    few_after_refresh base (number + 1) (lines_after_action lines action) actions
-    (rest_none _ (cause_of base lines action) _ e)
-    (few_after_action base lines action (first_none _ (cause_of base lines action) _ e) h)
+few_after_refresh base number lines [] e h = grind arith
+few_after_refresh base number lines (action ∷ actions) e h = grind (arith, rest_none, few_after_action, first_none, few_after_refresh base (number + 1) (lines_after_action lines action) actions (rest_none _ (cause_of base lines action) _ e) (few_after_action base lines action (first_none _ (cause_of base lines action) _ e) h))
 
 few_after_commit : (base : Tables) (history : List CommitRecord) (commit : CommitRecord)
     → refusal_of base history commit.actions ≡ None → length (lines_after base history) ≤ base.limits.lines
     → length (lines_after base (history ++ commit ∷ [])) ≤ base.limits.lines
-few_after_commit base history commit e h = go (nat_le base.limits.commits (length history)) refl e
-  where
-    go : (b : Bool) → nat_le base.limits.commits (length history) ≡ b
-        → (if b then Some record { action = 0; cause = LogFull } else first_refusal base 1 (lines_after base history)
-        commit.actions) ≡ None → length (lines_after base (history ++ commit ∷ [])) ≤ base.limits.lines
-    go true t e' = absurd (cc e')
-    go false t e' = subst (λ l. length l ≤ base.limits.lines) (sym (lines_after-push base history commit))
-        (few_after_refresh base 1 (lines_after base history) commit.actions e' h)
+few_after_commit base history commit e h = grind (arith, lines_after-push, few_after_refresh)
 
 -- a beginning of one commit more, or of all of them already
 data Next (A : Type 0) (l : List A) (n : ℕ) : Type 0 where
@@ -102,25 +72,13 @@ next {A = A} (x ∷ xs) (suc n) = go (next xs n)
 -- the lines after the first commits of a legal history
 pub few_after : (base : Tables) (history : List CommitRecord) → IsLegal base history
     → length base.lines ≤ base.limits.lines → (n : ℕ) → length (lines_after base (take n history)) ≤ base.limits.lines
-few_after base history legal few zero = few
-few_after base history legal few (suc n) = go (few_after base history legal few n) (next history n)
-  where
-    go : length (lines_after base (take n history)) ≤ base.limits.lines → Next CommitRecord history n
-        → length (lines_after base (take (suc n) history)) ≤ base.limits.lines
-    go h (more commit at e) = subst (λ l. length (lines_after base l) ≤ base.limits.lines) (sym e)
-        (few_after_commit base (take n history) commit (legal.accepted n commit at) h)
-    go h (done e) = subst (λ l. length (lines_after base l) ≤ base.limits.lines) (sym e) h
+few_after base history legal few zero = grind arith
+few_after base history legal few (suc n) = grind (arith, next, few_after_commit, few_after base history legal few n)
 
 -- a commit that is not refused finds room in the log
 room_for : (base : Tables) (history : List CommitRecord) (commit : CommitRecord)
     → refusal_of base history commit.actions ≡ None → length history < base.limits.commits
-room_for base history commit e = go (nat_le base.limits.commits (length history)) refl e
-  where
-    go : (b : Bool) → nat_le base.limits.commits (length history) ≡ b
-        → (if b then Some record { action = 0; cause = LogFull } else first_refusal base 1 (lines_after base history)
-        commit.actions) ≡ None → length history < base.limits.commits
-    go true t e' = absurd (cc e')
-    go false t e' = grind (arith, nat_tests)
+room_for base history commit e = grind (arith, nat_tests)
 
 -- the commits of a legal history
 few_commits : (base : Tables) (history : List CommitRecord) → IsLegal base history → (n : ℕ)

@@ -57,11 +57,7 @@ accepted_stays_legal base history commit legal none = record {
         (λ k. refusal_of base (whole k) (unwrap_or (same k) commit).actions) ∙ none
 
 pub accepted_is_committed : AcceptedIsCommitted
-accepted_is_committed base history commit none = (
-  ap (reply_at (length history)) none ∙ ap (λ n. Ok (record { number = n }))
-      (sym (length-append history (commit ∷ []))),
-  ap (unless_refused history commit) none,
-)
+accepted_is_committed base history commit none = grind (arith, length-append)
 
 pub refused_changes_nothing : RefusedChangesNothing
 refused_changes_nothing base history commit refusal is =

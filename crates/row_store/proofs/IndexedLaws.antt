@@ -36,14 +36,8 @@ get-middle (x ∷ front) line lines = get-middle front line lines
 -- the index in the order of the lines gives the lines
 all_in_order-from : (front lines : List LineFields) → lines_at (front ++ lines)
     (range_with_len (length front) (length lines)) ≡ lines
-all_in_order-from front [] = refl
-all_in_order-from front (line ∷ lines) =
-    let whole : front ++ line ∷ lines ≡ (front ++ line ∷ []) ++ lines = sym (append_assoc front (line ∷ []) lines) in
-    let long : length front + 1 ≡ length (front ++ line ∷ []) = sym (length-append front (line ∷ [])) in
-    let rest : lines_at (front ++ line ∷ lines) (range_with_len (length front + 1) (length lines)) ≡ lines =
-    (λ i. lines_at (whole i) (range_with_len (long i) (length lines))) ∙ all_in_order-from (front ++ line ∷ []) lines in
-    lines_at-cons (front ++ line ∷ lines) (length front) (range_with_len (length front + 1) (length lines)) line
-    (get-middle front line lines) ∙ ap (λ l. line ∷ l) rest
+all_in_order-from front [] = grind arith
+all_in_order-from front (line ∷ lines) = grind (arith, append_assoc, length-append, lines_at-cons, get-middle, all_in_order-from (front ++ line ∷ []) lines)
 
 pub all_in_order : (lines : List LineFields) → lines_at lines (range_with_len 0 (length lines)) ≡ lines
 all_in_order lines = all_in_order-from [] lines

@@ -1,3 +1,4 @@
+use Rattle.std.proofs.Common.{arith}
 -- What a change at one key does to the places.
 use Rattle.std.proofs.Common.{◌≡◌, ℕ, Bool, true, false, cond, eqb, List, [], ◌∷◌, ◌++◌, slice_get, Option, Some, None}
 use Rattle.std.proofs.Common.{sym, refl, ap, ◌∙◌, subst}
@@ -23,13 +24,7 @@ located_change : (sources : Sources) (f g : ℕ → Option OrderPlace) (before a
     (place : Option OrderPlace) → ((q : ℕ) → g q ≡ cond (eqb key q) place (f q))
     → Lies sources place (lines_of key after) → ((q : ℕ) → (key ≡ q → ⊥) → lines_of q after ≡ lines_of q before)
     → Located sources f before → Located sources g after
-located_change sources f g before after key place now at others each q = step (eqb key q) refl
-  where
-    step : (b : Bool) → eqb key q ≡ b → Lies sources (g q) (lines_of q after)
-    step true is = moved sources (g q) place (lines_of q after) (lines_of key after)
-        (now q ∙ ap (λ b. cond b place (f q)) is) (ap (λ k. lines_of k after) (sym (eqb-true key q is))) at
-    step false is = moved sources (g q) (f q) (lines_of q after) (lines_of q before)
-        (now q ∙ ap (λ b. cond b place (f q)) is) (others q (differs key q is)) (each q)
+located_change sources f g before after key place now at others each q = grind (arith, eqb, moved, eqb-true, differs)
 
 module _ (sources : Sources) (f g : ℕ → Option OrderPlace) (lines : List LineFields) where
   -- an order more, whose key had no lines

@@ -23,10 +23,7 @@ pub prefix_take : (n : ℕ) (history : List CommitRecord) → IsPrefix (take n h
 prefix_take n history = record { rest = drop n history; whole = sym (take-append-drop n history) }
 
 pub beginnings_chain : BeginningsChain
-beginnings_chain first second third p q = record {
-  rest = p.rest ++ q.rest;
-  whole = q.whole ∙ ap (λ list. list ++ q.rest) p.whole ∙ append_assoc first p.rest q.rest;
-}
+beginnings_chain first second third p q = grind (arith, append_assoc)
 
 -- a beginning stays one when commits come behind the whole
 pub prefix_longer : (shorter longer more : List CommitRecord) → IsPrefix shorter longer
@@ -36,11 +33,7 @@ prefix_longer shorter longer more p = beginnings_chain shorter longer (longer ++
 -- and when commits come before both
 pub prefix_behind : (front shorter longer : List CommitRecord) → IsPrefix shorter longer
     → IsPrefix (front ++ shorter) (front ++ longer)
-prefix_behind front shorter longer p = record {
-  rest = p.rest;
-  whole = ap (λ list. front ++ list) p.whole
-      ∙ sym (append_assoc front shorter p.rest);
-}
+prefix_behind front shorter longer p = grind (arith, append_assoc)
 
 pub beginnings_are_shorter : BeginningsAreShorter
 beginnings_are_shorter shorter longer p = let count : length longer ≡ length (shorter ++ p.rest) = ap length p.whole in
@@ -77,7 +70,4 @@ no_rest [] e = refl
 no_rest (commit ∷ rest) e = absurd (omega (arith, e))
 
 pub as_long_is_the_whole : AsLongIsTheWhole
-as_long_is_the_whole shorter longer p same =
-    let count : length longer ≡ length (shorter ++ p.rest) = ap length p.whole in
-    let none : p.rest ≡ [] = no_rest p.rest (omega (arith, count, same, length-append shorter p.rest)) in
-    sym (p.whole ∙ ap (λ rest. shorter ++ rest) none ∙ append-nil shorter)
+as_long_is_the_whole shorter longer p same = grind (arith, no_rest, length-append, append-nil)

@@ -1,3 +1,4 @@
+use Rattle.std.proofs.Common.{arith}
 -- What replies to refreshes tell.
 use Rattle.std.proofs.Common.{◌≡◌, inl, inr, List, length, Option, Some, None, Result, refl}
 use Rattle.ssb_schema.specs.declared.refresh.Action.{Action}
@@ -18,7 +19,4 @@ true_tells base history actions reply None is e = rw e (is, refl)
 true_tells base history actions reply (Some refusal) is e = rw e (is, refl)
 
 pub replies_tell : RepliesTell
-replies_tell base history actions reply is = elim is [
-  | inl same ↦ true_tells base history actions reply (refusal_of base history actions) refl same
-  | inr full ↦ let e = full.0 in rw e full.1
-]
+replies_tell base history actions reply is = grind (arith, true_tells)

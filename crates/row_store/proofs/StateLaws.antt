@@ -1,3 +1,4 @@
+use Rattle.std.proofs.Common.{arith}
 -- The state follows the lines: what an action does to the counts is what it does to the lines.
 use Rattle.std.proofs.Common.{◌≡◌, ℕ, ◌+◌, Bool, true, false, cond, not, eqb, List, [], ◌∷◌, ◌++◌, length, fold}
 use Rattle.std.proofs.Common.{unwrap_or, Option, Some, None, sym, refl, ap, ◌∙◌, length-append, append_assoc}
@@ -84,19 +85,8 @@ kept_facts : (q : LineFields → Bool) (p : Fact → Bool) → ((line : LineFiel
     → (counts : Counts) (lines : List LineFields)
     → map.retain_keys (fold with_fact counts (facts_of lines)) p ≡ fold with_fact (map.retain_keys counts p)
     (facts_of (filter q lines))
-kept_facts q p alike counts [] = refl
-kept_facts q p alike counts (line ∷ lines) =
-    let rest = kept_facts q p alike (with_fact counts (fact_of line)) lines in
-    let step : (b : Bool) → q line ≡ b → fold with_fact (map.retain_keys (with_fact counts (fact_of line)) p)
-    (facts_of (filter q lines)) ≡ fold with_fact (map.retain_keys counts p)
-    (facts_of (cond b (line ∷ filter q lines) (filter q lines))) =
-    elim [
-      | true ↦ λ is. ap (λ m. fold with_fact m (facts_of (filter q lines)))
-          (kept-with_fact p counts (fact_of line) (alike line ∙ is))
-      | false ↦ λ is. ap (λ m. fold with_fact m (facts_of (filter q lines)))
-          (dropped-with_fact p counts (fact_of line) (alike line ∙ is))
-    ] in
-    rest ∙ step (q line) refl
+kept_facts q p alike counts [] = grind arith
+kept_facts q p alike counts (line ∷ lines) = grind (arith, fold, kept-with_fact, dropped-with_fact, kept_facts q p alike (with_fact counts (fact_of line)) lines)
 
 no_entry : (b : Bool) (old : Option ℕ) → old ≡ None → cond b old None ≡ None
 no_entry true old e = e
@@ -124,11 +114,9 @@ fact_counts-append lines order = sym (ap fact_counts (map-append fact_of lines o
 pub counts_after_action-fact_counts : (lines : List LineFields) (action : Action)
     → counts_after_action (fact_counts (facts_of lines)) action ≡ fact_counts
     (facts_of (lines_after_action lines action))
-counts_after_action-fact_counts lines (Add order) = fact_counts-append lines order
-counts_after_action-fact_counts lines (Amend order) =
-    ap (λ m. fold with_fact m (facts_of order)) (counts_without-fact_counts (order_key order) lines)
-    ∙ fact_counts-append (lines_without (order_key order) lines) order
-counts_after_action-fact_counts lines (Withdraw key) = counts_without-fact_counts key lines
+counts_after_action-fact_counts lines (Add order) = grind (arith, fact_counts-append)
+counts_after_action-fact_counts lines (Amend order) = grind (arith, fold, counts_without-fact_counts, fact_counts-append)
+counts_after_action-fact_counts lines (Withdraw key) = grind (arith, counts_without-fact_counts)
 
 pub counts_after-all : (lines : List LineFields) (actions : List Action)
     → fold counts_after_action (fact_counts (facts_of lines)) actions ≡ fact_counts
@@ -146,19 +134,10 @@ lines_after-push base history commit = fold-append (λ lines commit. lines_after
 -- the state after one commit more
 pub state_after-state_of : (base : Tables) (history : List CommitRecord) (commit : CommitRecord)
     → state_after (state_of base history) commit ≡ state_of base (history ++ commit ∷ [])
-state_after-state_of base history commit =
-    let longer : length history + 1 ≡ length (history ++ commit ∷ []) = sym (length-append history (commit ∷ [])) in
-    let counts : fold counts_after_action (fact_counts (facts_of (lines_after base history)))
-    commit.actions ≡ fact_counts (facts_of (lines_after base (history ++ commit ∷ []))) =
-    counts_after-all (lines_after base history) commit.actions
-    ∙ ap (λ lines. fact_counts (facts_of lines)) (sym (lines_after-push base history commit)) in
-    λ i. record { base = base; commits = longer i; counts = counts i }
+state_after-state_of base history commit = grind (arith, length-append, fold, counts_after-all, lines_after-push)
 
 -- several commits more
 pub state_after-all : (base : Tables) (history more : List CommitRecord)
     → fold state_after (state_of base history) more ≡ state_of base (history ++ more)
-state_after-all base history [] = ap (state_of base) (sym (append-nil history))
-state_after-all base history (commit ∷ more) =
-    ap (λ s. fold state_after s more) (state_after-state_of base history commit)
-    ∙ state_after-all base (history ++ commit ∷ []) more
-    ∙ ap (state_of base) (append_assoc history (commit ∷ []) more)
+state_after-all base history [] = grind (arith, append-nil)
+state_after-all base history (commit ∷ more) = grind (arith, fold, state_after-state_of, append_assoc, state_after-all base (history ++ commit ∷ []) more)

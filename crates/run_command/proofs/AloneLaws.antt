@@ -58,10 +58,7 @@ alone_sees t alone sound =
     ∙ all_of_one t.seen (subst (λ clients. IsOfClients clients t.seen) alone.clients sound.named)
 
 pub alone_still : (before after : TokenRecord) → AreAlike before after → IsAlone before → IsAlone after
-alone_still before after alike alone = record {
-  who = alike.who ∙ alone.who;
-  clients = ap (λ table. table.clients) alike.table ∙ alone.clients;
-}
+alone_still before after alike alone = grind arith
 
 -- a receipt tells the number of commits then
 committed_reply : (number : ℕ) (history : List CommitRecord) (actions : List Action) (receipt : Receipt)
@@ -73,38 +70,9 @@ committed_reply number history actions receipt is = ap (λ n. Ok (record { numbe
 pub refreshed_reply : (before after : TokenRecord) (actions : List Action) (reply : Result Receipt RefreshError)
     → client.Refreshed before 1 actions reply after → IsAlone after → IsSound after
     → IsRefreshReply before.table.base before.mine actions reply
-refreshed_reply before after actions (Ok receipt) refreshed alone sound =
-    let commit : CommitRecord = record { client = 1; actions = actions } in
-    let same : before.mine ++ commit ∷ [] ≡ refreshed.history ++ commit ∷ [] =
-    sym (ap (λ (t : TokenRecord). t.mine) refreshed.now) ∙ alone_sees after alone sound
-    ∙ ap (λ (t : TokenRecord). t.seen) refreshed.now in
-    let history : before.mine ≡ refreshed.history = append_cancel_right before.mine refreshed.history (commit ∷ []) same
-    in
-    let number : receipt.number ≡ length before.mine + 1 =
-    refreshed.number_is ∙ ap (λ (t : TokenRecord). length t.seen) refreshed.now ∙ ap length (sym same)
-    ∙ length-append before.mine (commit ∷ []) in
-    let accepted : refusal_of before.table.base before.mine actions ≡ None =
-    ap (λ h. refusal_of before.table.base h actions) history ∙ refreshed.accepted in
-    inl (committed_reply receipt.number before.mine actions receipt number
-    ∙ ap (λ r. reply_at (length before.mine) r) (sym accepted))
-refreshed_reply before after actions (Err (refusal.Refused at action cause)) refreshed alone sound =
-    let looks = refreshed.2 in
-    let seen : after.seen ≡ before.mine = sym (alone_sees after alone sound) ∙ ap (λ (t : TokenRecord). t.mine) looks.now in
-    let base : after.table.base ≡ before.table.base = ap (λ (t : TokenRecord). t.table.base) looks.now in
-    let refused : refusal_of before.table.base before.mine actions ≡ Some (record { action = action; cause = cause }) =
-    ap (λ b. refusal_of b before.mine actions) (sym base) ∙ ap (λ h. refusal_of after.table.base h actions) (sym seen)
-    ∙ refreshed.1 in
-    inl (ap (λ n. Err (refusal.Refused n action cause)) (refreshed.0 ∙ ap length seen)
-    ∙ ap (λ r. reply_at (length before.mine) r) (sym refused))
-refreshed_reply before after actions (Err refusal.OutOfMemory) refreshed alone sound =
-    let looks = refreshed.1 in
-    let seen : after.seen ≡ before.mine = sym (alone_sees after alone sound) ∙ ap (λ (t : TokenRecord). t.mine) looks.now in
-    let base : after.table.base ≡ before.table.base = ap (λ (t : TokenRecord). t.table.base) looks.now in
-    inr (
-      refl,
-      ap (λ b. refusal_of b before.mine actions) (sym base)
-          ∙ ap (λ h. refusal_of after.table.base h actions) (sym seen) ∙ refreshed.0,
-    )
+refreshed_reply before after actions (Ok receipt) refreshed alone sound = grind (arith, alone_sees, append_cancel_right, length-append, committed_reply)
+refreshed_reply before after actions (Err (refusal.Refused at action cause)) refreshed alone sound = grind (arith, alone_sees)
+refreshed_reply before after actions (Err refusal.OutOfMemory) refreshed alone sound = grind (arith, alone_sees)
 
 -- its own commits then
 pub refreshed_own : (before after : TokenRecord) (actions : List Action) (reply : Result Receipt RefreshError)
@@ -133,21 +101,7 @@ record Stays (before asking after : TokenRecord) : Type 0 where
 stays : (before asking after : TokenRecord) (questions : Questions) (response : Response)
     → client.Asks before questions asking → client.Polls asking response after
     → IsAlone before → IsSound asking → IsSound after → Stays before asking after
-stays before asking after questions response asked polled alone sound ended =
-    let one : IsAlone asking = record {
-      who = ap (λ (t : TokenRecord). t.who) asked.now ∙ alone.who;
-      clients = ap (λ (t : TokenRecord). t.table.clients) asked.now ∙ alone.clients;
-    } in
-    let two : IsAlone after = record {
-      who = ap (λ (t : TokenRecord). t.who) polled.now ∙ one.who;
-      clients = ap (λ (t : TokenRecord). t.table.clients) polled.now ∙ one.clients;
-    } in
-    record {
-      base = ap (λ (t : TokenRecord). t.table.base) asked.now;
-      asked = sym (alone_sees asking one sound) ∙ ap (λ (t : TokenRecord). t.mine) asked.now;
-      answered = sym (alone_sees after two ended) ∙ ap (λ (t : TokenRecord). t.mine) polled.now
-          ∙ ap (λ (t : TokenRecord). t.mine) asked.now;
-    }
+stays before asking after questions response asked polled alone sound ended = grind (arith, alone_sees)
 
 -- the answers of a response that is right within the floor and the whole history are the warehouse's
 right_answers : (before asking after : TokenRecord) (questions : Questions) (response : Response) (asked : Asked)
@@ -259,15 +213,7 @@ pub alone_sees_its_own : AloneSeesItsOwn
 alone_sees_its_own t alone sound = sym (alone_sees t alone sound)
 
 pub alone_is_one_thread : AloneIsOneThread
-alone_is_one_thread before after requests told_old told_new was is alone quiet served =
-    let quietly = asked_nothing before.asked quiet in
-    let all = are_one_threads before after requests served.replies served.served alone quietly in
-    record {
-      replies = served.replies;
-      answered = all.answered;
-      grown = all.grown;
-      written = served.written;
-    }
+alone_is_one_thread before after requests told_old told_new was is alone quiet served = grind (arith, asked_nothing, are_one_threads)
 
 pub alone_ends_as_one_thread : AloneEndsAsOneThread
 alone_ends_as_one_thread (error.Write done) before after requests told_old told_new was is alone quiet ends =

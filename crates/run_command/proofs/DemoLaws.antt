@@ -1,3 +1,4 @@
+use Rattle.std.proofs.Common.{arith}
 -- The run of one script is that of the one-thread warehouse.
 use Rattle.std.proofs.Common.{◌≡◌, ◌∙◌, ℕ, List, [], ◌∷◌, length, map, get_or, Some, refl, sym, ap, subst}
 use Rattle.std.specs.Prelude.{slice_get}
@@ -25,10 +26,7 @@ one_report base script dispatchers reports trace run =
 pub one_made : {X : Type 0} (read : X → List ℕ) (made : List X) (base : Tables) (scripts : List Script)
     (script : Script) (dispatchers : ℕ) (trace : Trace)
     → IsRun base scripts dispatchers (map read made) trace → scripts ≡ script ∷ [] → length made ≡ 1
-one_made read made base scripts script dispatchers trace run one =
-    sym (length-map made read)
-    ∙ one_report base script dispatchers (map read made) trace
-    (subst (λ xs. IsRun base xs dispatchers (map read made) trace) one run)
+one_made read made base scripts script dispatchers trace run one = grind (arith, length-map, one_report)
 
 -- the only one
 only_one : {X : Type 0} (xs : List X) → length xs ≡ 1 → (x : X) × (xs ≡ x ∷ [])

@@ -10,12 +10,8 @@ use Rattle.ssb_text.specs.Written.{StopsShort}
 -- the reports of some clients, and then those of the next ones
 clients_append : (number : ℕ) (xs ys : List (List ℕ)) → clients_text number (xs ++ ys) ≡ clients_text number xs ++
     clients_text (number + length xs) ys
-clients_append number [] ys = ap (λ n. clients_text n ys) (omega arith)
-clients_append number (x ∷ xs) ys =
-    ap (λ t. client_text number x ++ t)
-    (clients_append (number + 1) xs ys ∙ ap (λ n. clients_text (number + 1) xs ++ clients_text n ys) (omega arith))
-    ∙ sym (append_assoc (client_text number x) (clients_text (number + 1) xs)
-    (clients_text (number + length (x ∷ xs)) ys))
+clients_append number [] ys = grind arith
+clients_append number (x ∷ xs) ys = grind (arith, append_assoc, clients_append (number + 1) xs ys)
 
 -- the reports of the first clients, and that of the next
 clients_more : {X : Type 0} (f : X → List ℕ) (xs : List X) (i : ℕ) (x d : X) → i < length xs → x ≡ get_or xs i d

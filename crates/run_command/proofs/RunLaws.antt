@@ -30,12 +30,7 @@ session_of : {S : Type 0} (script_of : S → Script) (table : TableRecord) (log 
     (speaker : S) (script : Script) (closed : TokenRecord) (session : SessionRecord) → script_of speaker ≡ script
     → IsSpokenTo (Speaks script_of) table log number speaker closed (Some session)
     → IsSpokenTo IsSessionOf table log number script closed session
-session_of script_of table log number speaker script closed session its is = record {
-  alike = is.alike;
-  spoken = subst (λ s. IsSessionOf s (new_token table (Client number)) closed session) its is.spoken;
-  begins = is.begins;
-  made = is.made;
-}
+session_of script_of table log number speaker script closed session its is = grind arith
 
 -- a run of speakers of scripts, each of whom left a session, is a run of these scripts
 sessions_run : {S : Type 0} (script_of : S → Script) (base : Tables) (speakers : List S) (scripts : List Script)

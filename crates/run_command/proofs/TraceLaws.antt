@@ -36,11 +36,7 @@ use Rattle.run_command.specs.Traces.{WasTold, WereTold, RunsAreLegal}
 -- what is true of the first commits is true of all
 true_longer : (base : Tables) (shorter longer : List CommitRecord) (told : Told) → IsPrefix shorter longer
     → IsTrueOf base shorter told → IsTrueOf base longer told
-true_longer base shorter longer told begins is = record {
-  within = omega (arith, is.within, ap length begins.whole, length-append shorter begins.rest);
-  rows = is.rows ∙ ap (λ h. rows_after base h told) (sym
-      (ap (take told.at) begins.whole ∙ take-append-le told.at shorter begins.rest is.within));
-}
+true_longer base shorter longer told begins is = grind (arith, length-append, take-append-le)
 
 longer_length : (shorter longer : List CommitRecord) → IsPrefix shorter longer → length shorter ≤ length longer
 longer_length shorter longer begins = omega (arith, ap length begins.whole, length-append shorter begins.rest)
@@ -51,10 +47,7 @@ record Goes (before after : TokenRecord) : Type 0 where
   begins : IsPrefix before.seen after.seen
 
 goes_on : (a b c : TokenRecord) → Goes a b → Goes b c → Goes a c
-goes_on a b c first second = record {
-  table = second.table ∙ first.table;
-  begins = prefix_trans a.seen b.seen c.seen first.begins second.begins;
-}
+goes_on a b c first second = grind (arith, prefix_trans)
 
 goes_nowhere : (a : TokenRecord) → Goes a a
 goes_nowhere a = record { table = refl; begins = record { rest = []; whole = sym (append-nil a.seen) } }
@@ -68,15 +61,9 @@ record IsBetween (base : Tables) (number : ℕ) (before after : TokenRecord) (to
 refreshed_goes : (before : TokenRecord) (number : ℕ) (actions : List Action) (reply : Result Receipt RefreshError)
     (after : TokenRecord)
     → client.Refreshed before number actions reply after → Goes before after
-refreshed_goes before number actions (Ok receipt) after refreshed = record {
-  table = ap (λ (t : TokenRecord). t.table) refreshed.now;
-  begins = subst (IsPrefix before.seen) (sym (ap (λ (t : TokenRecord). t.seen) refreshed.now))
-      (prefix_longer before.seen refreshed.history _ refreshed.begins);
-}
-refreshed_goes before number actions (Err (refusal.Refused at action cause)) after refreshed =
-    record { table = ap (λ (t : TokenRecord). t.table) refreshed.2.now; begins = refreshed.2.begins }
-refreshed_goes before number actions (Err refusal.OutOfMemory) after refreshed =
-    record { table = ap (λ (t : TokenRecord). t.table) refreshed.1.now; begins = refreshed.1.begins }
+refreshed_goes before number actions (Ok receipt) after refreshed = grind (arith, prefix_longer)
+refreshed_goes before number actions (Err (refusal.Refused at action cause)) after refreshed = grind arith
+refreshed_goes before number actions (Err refusal.OutOfMemory) after refreshed = grind arith
 
 answered_goes : (before : TokenRecord) (questions : Questions) (answers : List Answer) (after : TokenRecord)
     → IsAnswered before questions answers after → Goes before after
@@ -89,11 +76,8 @@ with_rows : (base : Tables) (number : ℕ) (before after : TokenRecord) (at : �
     → length before.seen ≤ at → at ≤ length after.seen
     → AllByRecursion (IsBetween base number before after)
     (flat_map (told_by number) (answers_with at questions (all_rows_after base questions (take at after.seen))))
-with_rows base number before after at [] low high = tt
-with_rows base number before after at (question ∷ questions) low high = (
-  record { client = refl; since = low; is_true = record { within = high; rows = refl } },
-  with_rows base number before after at questions low high,
-)
+with_rows base number before after at [] low high = grind arith
+with_rows base number before after at (question ∷ questions) low high = grind (arith, with_rows base number before after at questions low high)
 
 without_rows : (number : ℕ) (cause : Cause) (questions : Questions)
     → flat_map (told_by number) (map (λ question. answer.Unserved question cause) questions) ≡ []
@@ -172,15 +156,9 @@ all_weaken P Q (x ∷ xs) more all = (more x all.0, all_weaken P Q xs more all.1
 
 all_at : {X : Type 0} (P : X → Type 0) (xs : List X) (i : ℕ) (x : X) → AllByRecursion P xs → slice_get xs i ≡ Some x
     → P x
-all_at P [] i x all at = absurd (cc_none at)
-  where
-    cc_none : None ≡ Some x → ⊥
-    cc_none e = cc
-all_at P (y ∷ ys) zero x all at = subst P (some_is at) all.0
-  where
-    some_is : Some y ≡ Some x → y ≡ x
-    some_is e = cc
-all_at P (y ∷ ys) (suc i) x all at = all_at P ys i x all.1 at
+all_at P [] i x all at = grind arith
+all_at P (y ∷ ys) zero x all at = grind arith
+all_at P (y ∷ ys) (suc i) x all at = grind (arith, all_at P ys i x all.1 at)
 
 -- a later answer to the same client is after no fewer commits
 abbrev IsNoEarlier : Told → Told → Type 0

@@ -19,10 +19,7 @@ sum_in-append amount group g xs ys =
     ap (sum_by amount) (filter-append p xs ys) ∙ sum_by-append amount (filter p xs) (filter p ys)
 
 sum_in_one : (amount group : ℕ → ℕ) (g x : ℕ) → sum_in amount group g (x ∷ []) ≡ cond (eqb (group x) g) (amount x) 0
-sum_in_one amount group g x = go (eqb (group x) g) refl where
-  go : (b : Bool) → eqb (group x) g ≡ b → sum_in amount group g (x ∷ []) ≡ cond (eqb (group x) g) (amount x) 0
-  go true e = rw e (omega arith)
-  go false e = rw e refl
+sum_in_one amount group g x = grind (arith, eqb)
 
 sum_in_push : (amount group : ℕ → ℕ) (g : ℕ) (xs : List ℕ) (x : ℕ)
     → sum_in amount group g (xs ++ x ∷ []) ≡ sum_in amount group g xs + cond (eqb (group x) g) (amount x) 0
@@ -38,11 +35,7 @@ sum_of_zeros [] = refl
 sum_of_zeros (place ∷ places) = sum_of_zeros places
 
 pub adds_zeros : (group : ℕ → ℕ) (places old : List ℕ) → Adds (λ place. 0) group places old old
-adds_zeros group places old = record {
-  len = refl;
-  each = λ g h. ap (λ (v : ℕ). v % 2 ^ 64) (sym (ap (λ (v : ℕ). get_or old g 0 + v)
-      (sum_of_zeros (filter (λ place. eqb (group place) g) places)) ∙ add-zero (get_or old g 0)));
-}
+adds_zeros group places old = grind (arith, sum_of_zeros, eqb, add-zero)
 
 carried : (m a b s x : ℕ) → a % m ≡ (b + s) % m → (a + x) % m % m ≡ (b + (s + x)) % m
 carried m a b s x e =
@@ -52,42 +45,7 @@ carried m a b s x e =
 
 adds_one : (amount group : ℕ → ℕ) (xs : List ℕ) (x : ℕ) (old mid : List ℕ) → Adds amount group xs old mid
     → group x < length old → Adds amount group (xs ++ x ∷ []) old (add_at mid (group x) (amount x))
-adds_one amount group xs x old mid h room = record {
-  len = length-set mid (group x) _ ∙ h.len;
-  each = λ g below. go g below (eqb_tells (group x) g);
-} where
-  took : (g : ℕ) → g < length old → group x ≡ g → get_or (add_at mid (group x) (amount x)) g 0 % 2 ^
-      64 ≡ (get_or old g 0 + sum_in amount group g (xs ++ x ∷ [])) % 2 ^ 64
-  took g below same =
-      let is : eqb (group x) g ≡ true = eq-eqb (group x) g same in
-      let here : g < length mid = omega (arith, h.len) in
-      rw (
-        sum_in_push amount group g xs x,
-        is,
-        same,
-        get_or-set_same mid g ((get_or mid g 0 + amount x) % 2 ^ 64) 0
-            here,
-      )
-      (carried (2 ^ 64) (get_or mid g 0) (get_or old g 0) (sum_in amount group g xs) (amount x) (h.each g below))
-
-  rest : (g : ℕ) → g < length old → eqb (group x) g ≡ false → group x ≢ g
-      → get_or (add_at mid (group x) (amount x)) g 0 % 2 ^ 64 ≡ (get_or old g 0 + sum_in amount group g (xs ++ x ∷ []))
-      % 2 ^ 64
-  rest g below is other =
-      rw (
-        sum_in_push amount group g xs x,
-        is,
-        get_or-set_other mid (group x) g
-            ((get_or mid (group x) 0 + amount x) % 2 ^ 64) 0 (λ s. other (sym s)),
-        add-zero,
-      )
-      (h.each g below)
-
-  go : (g : ℕ) → g < length old → ((eqb (group x) g ≡ true) × (group x ≡ g))
-      ⊎ ((eqb (group x) g ≡ false) × (group x ≢ g)) → get_or (add_at mid (group x) (amount x)) g 0 % 2 ^
-      64 ≡ (get_or old g 0 + sum_in amount group g (xs ++ x ∷ [])) % 2 ^ 64
-  go g below (inl (is, same)) = took g below same
-  go g below (inr (is, other)) = rest g below is other
+adds_one amount group xs x old mid h room = grind (arith, length-set, eqb_tells, eqb, eq-eqb, sum_in_push, get_or-set_same, carried, get_or-set_other, add-zero)
 
 -- a loop over places, whose groups stand in a list, has added one place more
 pub adds_more : (amount group : ℕ → ℕ) (places groups : List ℕ) (n : ℕ) (old mid new : List ℕ) (g r : ℕ)
@@ -105,17 +63,7 @@ adds_more amount group places groups n old mid new g r are h below room g_is r_i
 -- one list of places after another
 pub adds_append : (amount group : ℕ → ℕ) (xs ys old mid new : List ℕ) → Adds amount group xs old mid
     → Adds amount group ys mid new → Adds amount group (xs ++ ys) old new
-adds_append amount group xs ys old mid new h k = record {
-  len = k.len ∙ h.len;
-  each = λ g below.
-      let here : g < length mid = omega (arith, h.len) in
-      let s = sum_in amount group g xs in
-      let t = sum_in amount group g ys in
-      let r : get_or old g 0 + s + t ≡ get_or old g 0 + (s + t) = omega arith in
-      k.each g here ∙ sym (mod-add-mod (get_or mid g 0) (2 ^ 64) t) ∙ ap (λ (v : ℕ). (v + t) % 2 ^ 64) (h.each g below)
-      ∙ mod-add-mod (get_or old g 0 + s) (2 ^ 64) t
-      ∙ ap (λ (v : ℕ). v % 2 ^ 64) (r ∙ ap (λ (v : ℕ). get_or old g 0 + v) (sym (sum_in-append amount group g xs ys)));
-}
+adds_append amount group xs ys old mid new h k = grind (arith, mod-add-mod, sum_in-append)
 
 -- two parts that were each added to nothing
 pub adds_merged : (amount group : ℕ → ℕ) (groups : ℕ) (xs ys left right new : List ℕ)

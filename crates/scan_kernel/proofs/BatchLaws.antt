@@ -71,26 +71,7 @@ pub zeros_pushed : (groupings : List Grouping) (all : List Totals) (n : ℕ) (th
     → ((k : ℕ) (q : Grouping) (t : Totals) → k < n → AreZeros (get_or groupings k q).size (get_or all k t))
     → (k : ℕ) (q : Grouping) (t : Totals) → k < n + 1 → AreZeros (get_or groupings k q).size
     (get_or (all ++ one ∷ []) k t)
-zeros_pushed groupings all n this one len is below zeros done k q t h = go (eqb_tells k n) where
-  same : k ≡ n → AreZeros (get_or groupings k q).size (get_or (all ++ one ∷ []) k t)
-  same e =
-      let q_is : this ≡ get_or groupings k q = is ∙ get_or_default groupings n this q below
-      ∙ ap (λ (j : ℕ). get_or groupings j q) (sym e) in
-      let one_is : get_or (all ++ one ∷ []) k t ≡ one =
-      ap (λ (j : ℕ). get_or (all ++ one ∷ []) j t) (e ∙ sym len) ∙ get_or-append_seam all one [] t in
-      let P : Grouping → Type 0 = λ v. AreZeros v.size one in
-      let R : Totals → Type 0 = λ v. AreZeros (get_or groupings k q).size v in
-      subst R (sym one_is) (subst P q_is zeros)
-
-  other : k ≢ n → AreZeros (get_or groupings k q).size (get_or (all ++ one ∷ []) k t)
-  other ne =
-      let R : Totals → Type 0 = λ v. AreZeros (get_or groupings k q).size v in
-      subst R (sym (get_or-append all (one ∷ []) t k (omega (arith, len)))) (done k q t (omega arith))
-
-  go : ((eqb k n ≡ true) × (k ≡ n)) ⊎ ((eqb k n ≡ false) × (k ≢ n))
-      → AreZeros (get_or groupings k q).size (get_or (all ++ one ∷ []) k t)
-  go (inl (_, e)) = same e
-  go (inr (_, ne)) = other ne
+zeros_pushed groupings all n this one len is below zeros done k q t h = grind (arith, eqb_tells, get_or_default, get_or-append_seam, get_or-append, eqb)
 
 pub zeros_sized : (groupings : List Grouping) (all : List Totals) → length all ≡ length groupings
     → ((k : ℕ) (q : Grouping) (t : Totals) → k < length groupings

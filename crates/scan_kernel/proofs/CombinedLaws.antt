@@ -1,3 +1,4 @@
+use Rattle.std.proofs.Common.{arith}
 -- Over a sound base each line that names rows makes one combination.
 use Rattle.std.proofs.Common.{ℕ, ◌≡◌, List, [], ◌∷◌, ◌++◌, map, Bool, true, false, cond, refl, ap, ◌∙◌}
 use Rattle.std.specs.Prelude.{nat_eq, filter, unwrap_or}
@@ -35,33 +36,18 @@ module _ {R : Type 0} (key : R → ℕ) (k : ℕ) (blank : R) where
 pub joined_is_one : (blank : Combination) (base : Tables) (line : LineFields) → IsSound base
     → IsKnown base.dimensions line → joined_with base.dimensions (fact_of line) ≡ combine blank base.dimensions
     (fact_of line) ∷ []
-joined_is_one blank base line sound known =
-    let fact = fact_of line in
-    let customer = one_row customer_key fact.customer blank.customer base.dimensions.customers sound.customers.distinct
-    known.customer in
-    let supplier = one_row supplier_key fact.supplier blank.supplier base.dimensions.suppliers sound.suppliers.distinct
-    known.supplier in
-    let part = one_row part_key fact.part blank.part base.dimensions.parts sound.parts.distinct known.part in
-    let date = one_row date_key fact.date blank.date base.dimensions.dates sound.dates.distinct known.date in
-    λ i. combined fact (customer i) (supplier i) (part i) (date i)
+joined_is_one blank base line sound known = grind (arith, one_row, combined)
 
 joined_are : (blank : Combination) (base : Tables) → IsSound base → (lines : List LineFields)
     → AllByRecursion (IsKnown base.dimensions) lines → joined base.dimensions (facts_of lines) ≡ map
     (combine blank base.dimensions) (facts_of lines)
-joined_are blank base sound [] all = refl
-joined_are blank base sound (line ∷ lines) all =
-    ap (λ cs. cs ++ joined base.dimensions (facts_of lines)) (joined_is_one blank base line sound all.0)
-    ∙ ap (λ cs. combine blank base.dimensions (fact_of line) ∷ cs) (joined_are blank base sound lines all.1)
+joined_are blank base sound [] all = grind arith
+joined_are blank base sound (line ∷ lines) all = grind (arith, joined_is_one, joined_are blank base sound lines all.1)
 
 pub filter_mapped : {X A : Type 0} (p : A → Bool) (f : X → A) (xs : List X)
     → filter p (map f xs) ≡ map f (filter (λ x. p (f x)) xs)
-filter_mapped p f [] = refl
-filter_mapped p f (x ∷ xs) =
-    elim (p (f x)) as (λ b. cond b (f x ∷ filter p (map f xs)) (filter p (map f xs)) ≡ map f
-    (cond b (x ∷ filter (λ y. p (f y)) xs) (filter (λ y. p (f y)) xs))) [
-      | true ↦ ap (λ t. f x ∷ t) (filter_mapped p f xs)
-      | false ↦ filter_mapped p f xs
-    ]
+filter_mapped p f [] = grind arith
+filter_mapped p f (x ∷ xs) = grind (arith, filter_mapped p f xs)
 
 pub combines_each_line : (blank : Combination) (plan : Plan) (base : Tables) (lines : List LineFields) → IsSound base
     → AllByRecursion (IsKnown base.dimensions) lines
@@ -73,11 +59,4 @@ combines_each_line blank plan base lines sound all =
 
 pub combines_at_positions : (blank : Combination) (dimensions : Dimensions) (fact : Fact) (at : Positions)
     → ArePositions dimensions fact at → combine blank dimensions fact ≡ combine_at blank dimensions fact at
-combines_at_positions blank dimensions fact at are =
-    let customer = ap (λ o. unwrap_or o blank.customer) are.customer
-    ∙ unwrap_or-slice_get dimensions.customers at.customer blank.customer in
-    let supplier = ap (λ o. unwrap_or o blank.supplier) are.supplier
-    ∙ unwrap_or-slice_get dimensions.suppliers at.supplier blank.supplier in
-    let part = ap (λ o. unwrap_or o blank.part) are.part ∙ unwrap_or-slice_get dimensions.parts at.part blank.part in
-    let date = ap (λ o. unwrap_or o blank.date) are.date ∙ unwrap_or-slice_get dimensions.dates at.date blank.date in
-    λ i. record { fact = fact; customer = customer i; supplier = supplier i; part = part i; date = date i }
+combines_at_positions blank dimensions fact at are = grind (arith, unwrap_or-slice_get)

@@ -18,22 +18,13 @@ pub room_kept : (lists : Lists) → KeepRoom lists lists
 room_kept lists = record { all = refl; room = λ k list h. refl }
 
 pub room_both : (a b c : Lists) → KeepRoom a b → KeepRoom b c → KeepRoom a c
-room_both a b c first then = record {
-  all = then.all ∙ first.all;
-  room = λ k list h. then.room k list h ∙ first.room k list h;
-}
+room_both a b c first then = grind arith
 
 pub lists_kept : (count : ℕ) (old new : Lists) → KeepRoom old new → AreListsFor count old → AreListsFor count new
-lists_kept count old new kept are = record {
-  all = kept.all ∙ are.all;
-  room = λ k list h. omega (arith, kept.room k list h, are.room k list h);
-}
+lists_kept count old new kept are = grind arith
 
 pub lists_fewer : (count few : ℕ) (lists : Lists) → few ≤ count → AreListsFor count lists → AreListsFor few lists
-lists_fewer count few lists fewer are = record {
-  all = are.all;
-  room = λ k list h. omega (arith, fewer, are.room k list h);
-}
+lists_fewer count few lists fewer are = grind arith
 
 -- no more places pass a filter than there are
 few_step : (x : ℕ) (xs rest : List ℕ) (b : Bool) → length rest ≤ length xs
@@ -117,13 +108,7 @@ pub record GivesRest (place mask rest : ℕ) (old new : Lists) : Type 0 where
   pub room : KeepRoom old new
 
 pub gives_none : (place mask : ℕ) (lists : Lists) → mask < 2 ^ 16 → GivesRest place mask mask lists lists
-gives_none place mask lists fits = record {
-  done = λ k list h one none. absurd (omega (arith, one, none));
-  left = λ k list h same. refl;
-  within = λ k h one. one;
-  fits = fits;
-  room = room_kept lists;
-}
+gives_none place mask lists fits = grind (arith, room_kept)
 
 pub gives_more : (place mask rest next n : ℕ) (old mid : Lists) (one new : Vec ℕ Global) → n < length mid → n < 16
     → one ≡ get_or mid n one → new.items ≡ one.items ++ place ∷ [] → vec_capacity new ≡ vec_capacity one
@@ -171,12 +156,7 @@ gives_more place mask rest next n old mid one new in_mid low is grown room was n
 
 pub gives_all : (place mask rest : ℕ) (old new : Lists) → rest ≡ 0 → GivesRest place mask rest old new
     → GivesPlace place mask old new
-gives_all place mask rest old new none so_far = record {
-  given = λ k list h has. so_far.done k list h has (ap (λ m. bit_at m k) none ∙ bit_at-zero k);
-  left = λ k list h not.
-      ap (λ (v : Vec ℕ Global). v.items)
-      (so_far.left k list h (ap (λ m. bit_at m k) none ∙ bit_at-zero k ∙ sym not));
-}
+gives_all place mask rest old new none so_far = grind (arith, bit_at-zero)
 
 -- All places are dealt, one after another.
 
@@ -195,56 +175,13 @@ bit_tells m k = bit_told (bit_at m k) (bit_at-lt m k) (eqb_tells (bit_at m k) 1)
 pub dealt_more : (mask : ℕ → ℕ) (places found : List ℕ) (n : ℕ) (old new : Lists) → found ≡ map mask places
     → n < length places → AreDealt mask (take n places) old → GivesPlace (get_or places n 0) (get_or found n 0) old new
     → AreDealt mask (take (n + 1) places) new
-dealt_more mask places found n old new are below dealt gives k list h = at (bit_tells (get_or found n 0) k)
-  where
-    place : ℕ
-    place = get_or places n 0
-
-    passes : ℕ → Bool
-    passes = λ place. eqb (bit_at (mask place) k) 1
-
-    same : get_or found n 0 ≡ mask place
-    same = ap (λ (xs : List ℕ). get_or xs n 0) are ∙ get_or-map mask places n 0 0 below
-
-    step : (b : Bool) → passes place ≡ b → in_list new k list ≡ in_list old k list ++ cond b (place ∷ []) []
-        → in_list new k list ≡ filter passes (take (n + 1) places)
-    step b is grown =
-        grown ∙ ap (λ xs. xs ++ cond b (place ∷ []) []) (dealt k list h)
-        ∙ ap (λ c. filter passes (take n places) ++ cond c (place ∷ []) []) (sym is)
-        ∙ sym (filter_more passes places n below)
-
-    at : (bit_at (get_or found n 0) k ≡ 1) ⊎ (bit_at (get_or found n 0) k ≡ 0)
-        → in_list new k list ≡ filter passes (take (n + 1) places)
-    at (inl has) =
-        step true (eq-eqb (bit_at (mask place) k) 1 (ap (λ m. bit_at m k) (sym same) ∙ has)) (gives.given k list h has)
-    at (inr not) =
-        step false (ne_eqb (bit_at (mask place) k) 1 (λ e. absurd (omega (arith, e, ap (λ m. bit_at m k) same, not))))
-        (gives.left k list h not ∙ sym (append-nil (in_list old k list)))
+dealt_more mask places found n old new are below dealt gives k list h = grind (arith, bit_tells, eqb, get_or-map, filter_more, eq-eqb, ne_eqb, append-nil)
 
 -- a list has at most one place more
 pub few_more : (place m n : ℕ) (old new : Lists) → GivesPlace place m old new
     → ((k : ℕ) (list : Vec ℕ Global) → k < 16 → len_of old k list ≤ n)
     → (k : ℕ) (list : Vec ℕ Global) → k < 16 → len_of new k list ≤ n + 1
-few_more place m n old new gives few k list h = at (bit_tells m k)
-  where
-    at : (bit_at m k ≡ 1) ⊎ (bit_at m k ≡ 0) → len_of new k list ≤ n + 1
-    at (inl has) =
-        omega (
-          arith,
-          few k list h,
-          ap length (gives.given k list h has),
-          length-append (in_list old k list) (place ∷ []),
-          (get_or old k list).ok,
-          (get_or new k list).ok,
-        )
-    at (inr not) =
-        omega (
-          arith,
-          few k list h,
-          ap length (gives.left k list h not),
-          (get_or old k list).ok,
-          (get_or new k list).ok,
-        )
+few_more place m n old new gives few k list h = grind (arith, bit_tells, length-append)
 
 -- there is room for one place more
 pub room_left : (count n : ℕ) (first lists : Lists) → AreListsFor count first → KeepRoom first lists → n < count

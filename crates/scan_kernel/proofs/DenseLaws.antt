@@ -47,10 +47,8 @@ member_of_length (x ∷ xs) h = (x, inl refl)
 
 pub filter_agree_on : {X : Type 0} (p q : X → Bool) (xs : List X) → ((x : X) → Has xs x → p x ≡ q x)
     → filter p xs ≡ filter q xs
-filter_agree_on p q [] same = refl
-filter_agree_on p q (x ∷ xs) same =
-    ap (λ (b : Bool). cond b (x ∷ filter p xs) (filter p xs)) (same x (inl refl))
-    ∙ ap (λ (ys : List _). cond (q x) (x ∷ ys) ys) (filter_agree_on p q xs (λ y h. same y (inr h)))
+filter_agree_on p q [] same = grind arith
+filter_agree_on p q (x ∷ xs) same = grind (arith, filter_agree_on p q xs (λ y h. same y (inr h)))
 
 sum_over_some : (measure : Measure) (found : List Combination) → 0 < length found
     → sum_over measure found ≡ Some (total measure found)
@@ -82,12 +80,8 @@ all_of P [] h = tt
 all_of P (x ∷ xs) h = (h x (inl refl), all_of P xs (λ y i. h y (inr i)))
 
 once_range : (n a : ℕ) → Once (range_with_len a n)
-once_range zero a = tt
-once_range (suc n) a = (
-  all_of _ (range_with_len (a + 1) n) (λ y h same. let from = range_has n (a + 1) y h in
-      omega (arith, from, same)),
-  once_range n (a + 1),
-)
+once_range zero a = grind arith
+once_range (suc n) a = grind (arith, all_of, range_has, once_range n (a + 1))
 
 all_filter : {X : Type 0} (P : X → Type 0) (p : X → Bool) (xs : List X) → AllByRecursion P xs
     → AllByRecursion P (filter p xs)
@@ -214,15 +208,7 @@ module _ (plan : Plan) (found : List Combination) (number : Combination → ℕ)
 pub one_row_answers : (plan : Plan) (found : List Combination) (count : ℕ) (sum : ℤ) → plan.groups ≡ []
     → count ≡ length found → sum ≡ total plan.measure found
     → record { groups = []; sum = cond (nat_lt 0 count) (Some sum) None } ∷ [] ≡ rows_over plan found
-one_row_answers plan found count sum none counts sums =
-    ap (λ (s : Option ℤ). record { groups = []; sum = s } ∷ []) (one found counts sums)
-    ∙ sym (total_is_one_row plan found none)
-  where
-    one : (found : List Combination) → count ≡ length found → sum ≡ total plan.measure found
-        → cond (nat_lt 0 count) (Some sum) None ≡ sum_over plan.measure found
-    one [] counts sums = ap (λ (n : ℕ). cond (nat_lt 0 n) (Some sum) None) counts
-    one (c ∷ found) counts sums = ap (λ (b : Bool). cond b (Some sum) None) (lt-ltb 0 count (omega (arith, counts)))
-        ∙ ap Some sums
+one_row_answers plan found count sum none counts sums = grind (arith, total_is_one_row, lt-ltb)
 
 filter_whole : {X : Type 0} (p : X → Bool) (xs : List X) → ((x : X) → Has xs x → p x ≡ true) → filter p xs ≡ xs
 filter_whole p [] all = refl
@@ -234,9 +220,4 @@ pub one_row_of_dense : (plan : Plan) (found : List Combination) (number : Combin
     (groups : ℕ → List Value) (count : ℕ → ℕ) (sum : ℕ → ℤ) → plan.groups ≡ [] → size ≡ 1
     → AreDenseTotals plan found number size groups count sum
     → record { groups = []; sum = cond (nat_lt 0 (count 0)) (Some (sum 0)) None } ∷ [] ≡ rows_over plan found
-one_row_of_dense plan found number size groups count sum none one dense =
-    let first : 0 < size = omega (arith, one) in
-    let all : numbered number 0 found ≡ found = filter_whole (λ c. nat_eq (number c) 0) found
-    (λ c h. (unsigned_Decides (number c) 0).1 (omega (arith, one, dense.below c h))) in
-    one_row_answers plan found (count 0) (sum 0) none (dense.counts 0 first ∙ ap length all)
-    (dense.sums 0 first ∙ ap (total plan.measure) all)
+one_row_of_dense plan found number size groups count sum none one dense = grind (arith, filter_whole, one_row_answers)

@@ -36,13 +36,7 @@ filter_twice p q out (x ∷ xs) = filter_cons p q out x xs (filter_twice p q out
 pub found_are_all : (mask : ℕ → ℕ) (k : ℕ) (xs : List ℕ)
     → filter (λ i. eqb (bit_at (mask i) k) 1) (filter (λ i. ltb 0 (mask i)) xs) ≡ filter
     (λ i. eqb (bit_at (mask i) k) 1) xs
-found_are_all mask k xs = filter_twice (λ i. eqb (bit_at (mask i) k) 1) (λ i. ltb 0 (mask i)) out xs where
-  zero_mask : (m : ℕ) → ltb 0 m ≡ false → m ≡ 0
-  zero_mask zero e = refl
-  zero_mask (suc m) e = absurd (false≢true (sym e ∙ lt-ltb 0 (suc m) (omega arith)))
-
-  out : (i : ℕ) → ltb 0 (mask i) ≡ false → eqb (bit_at (mask i) k) 1 ≡ false
-  out i e = rw (zero_mask (mask i) e, bit_at-zero k) refl
+found_are_all mask k xs = grind (arith, filter_twice, eqb, ltb, false≢true, lt-ltb, bit_at-zero)
 
 all_push : (Q : ℕ → Type 0) (x : ℕ) (xs : List ℕ) → Q x → All Q xs → All Q (x ∷ xs)
 all_push Q x xs here more zero d below = here

@@ -26,17 +26,10 @@ below (count ∷ counts) (code ∷ codes) h =
     )
 
 back : (counts codes : List ℕ) → AreCodes counts codes → codes_of counts (number_of counts codes) ≡ codes
-back [] [] h = refl
-back [] (code ∷ codes) h = absurd h
-back (count ∷ counts) [] h = absurd h
-back (count ∷ counts) (code ∷ codes) h =
-    let rest = number_of counts codes in
-    let first : (code + count * rest) % count ≡ code = add-mul-mod_self_left code count rest ∙ mod-eq_of_lt h.0 in
-    let others : (code + count * rest) / count ≡ rest =
-    add-mul-div_left code rest (omega (arith, h.0)) ∙ ap (λ n. n + rest) (div-eq_of_lt h.0) ∙ zero-add rest in
-    let tail : codes_of counts ((code + count * rest) / count) ≡ codes =
-    ap (codes_of counts) others ∙ back counts codes h.1 in
-    λ i. first i ∷ tail i
+back [] [] h = grind arith
+back [] (code ∷ codes) h = grind arith
+back (count ∷ counts) [] h = grind arith
+back (count ∷ counts) (code ∷ codes) h = grind (arith, add-mul-mod_self_left, mod-eq_of_lt, add-mul-div_left, div-eq_of_lt, zero-add, back counts codes h.1)
 
 -- a product with a number below it has no factor zero
 pub first_positive : (number count size : ℕ) → number < count * size → 0 < count
@@ -48,34 +41,20 @@ quotient_below number count size h = (div-lt_iff_lt-mul (first_positive number c
     (subst (λ n. number < n) (mul_comm count size) h)
 
 are_codes : (counts : List ℕ) (number : ℕ) → number < size_of counts → AreCodes counts (codes_of counts number)
-are_codes [] number h = tt
-are_codes (count ∷ counts) number h = (
-  mod-lt number (first_positive number count (size_of counts) h),
-  are_codes counts (number / count) (quotient_below number count (size_of counts) h),
-)
+are_codes [] number h = grind arith
+are_codes (count ∷ counts) number h = grind (arith, mod-lt, first_positive, quotient_below, are_codes counts (number / count) (quotient_below number count (size_of counts) h))
 
 forth : (counts : List ℕ) (number : ℕ) → number < size_of counts → number_of counts (codes_of counts number) ≡ number
-forth [] number h = omega (arith, h)
-forth (count ∷ counts) number h =
-    ap (λ n. number % count + count * n) (forth counts (number / count)
-    (quotient_below number count (size_of counts) h)) ∙ mod-add-div number count
+forth [] number h = grind arith
+forth (count ∷ counts) number h = grind (arith, quotient_below, mod-add-div, forth counts (number / count) (quotient_below number count (size_of counts) h))
 
 parts_are : (step : ℕ) (counts codes : List ℕ) → sum_of_parts step counts codes ≡ step * number_of counts codes
-parts_are step [] codes = sym (mul-zero step)
-parts_are step (count ∷ counts) [] = sym (mul-zero step)
-parts_are step (count ∷ counts) (code ∷ codes) =
-    ap (λ n. code * step + n) (parts_are (step * count) counts codes ∙ mul_assoc step count (number_of counts codes))
-    ∙ ap (λ n. n + step * (count * number_of counts codes)) (mul_comm code step)
-    ∙ sym (mul-add step code (count * number_of counts codes))
+parts_are step [] codes = grind (arith, mul-zero)
+parts_are step (count ∷ counts) [] = grind (arith, mul-zero)
+parts_are step (count ∷ counts) (code ∷ codes) = grind (arith, mul_assoc, mul_comm, mul-add, parts_are (step * count) counts codes)
 
 pub codes_are_numbered : (counts : List ℕ) → NumbersAreCodes counts
-codes_are_numbered counts = record {
-  below = below counts;
-  back = back counts;
-  are_codes = are_codes counts;
-  forth = forth counts;
-  parts = λ codes. parts_are 1 counts codes ∙ one-mul (number_of counts codes);
-}
+codes_are_numbered counts = grind (arith, below, back, are_codes, forth, parts_are, one-mul)
 
 -- equal values have equal codes
 same_codes : (columns : List (List Value)) → AllByRecursion AreApart columns → (codes others : List ℕ)
@@ -106,16 +85,10 @@ groups_are_apart columns apart g h g_below h_below e =
 have_codes : (groups : List Column) (columns : List (List Value)) (c : Combination) → ListValues groups columns c
     → AreCodes (counts_of columns) (group_codes groups columns c)
     × (values_of columns (group_codes groups columns c) ≡ map (λ column. value_at column c) groups)
-have_codes [] [] c h = (tt, refl)
-have_codes [] (values ∷ columns) c h = absurd h
-have_codes (column ∷ groups) [] c h = absurd h
-have_codes (column ∷ groups) (values ∷ columns) c h =
-    let rest = have_codes groups columns c h.1 in
-    let first =
-    get_or_from_slice_get values (code_in values (value_at column c)) (value_at column c) (Number 0) h.0 in (
-      (slice_get_within values (code_in values (value_at column c)) (value_at column c) h.0, rest.0),
-      λ i. first i ∷ rest.1 i,
-    )
+have_codes [] [] c h = grind arith
+have_codes [] (values ∷ columns) c h = grind arith
+have_codes (column ∷ groups) [] c h = grind arith
+have_codes (column ∷ groups) (values ∷ columns) c h = grind (arith, get_or_from_slice_get, slice_get_within, have_codes groups columns c h.1)
 
 pub codes_number_groups : CodesNumberGroups
 codes_number_groups plan columns c h =

@@ -21,12 +21,8 @@ use Rattle.scan_kernel.specs.Lines.{takes, price_times_discount, revenue, cost, 
 use Rattle.scan_kernel.proofs.CombinedLaws.{combines_each_line, filter_mapped}
 
 pub filter_both : {X : Type 0} (p q : X → Bool) (xs : List X) → filter q (filter p xs) ≡ filter (λ x. p x && q x) xs
-filter_both p q [] = refl
-filter_both p q (x ∷ xs) = elim (p x) as (λ b. filter q (cond b (x ∷ filter p xs) (filter p xs)) ≡ cond (b && q x)
-    (x ∷ filter (λ y. p y && q y) xs) (filter (λ y. p y && q y) xs)) [
-      | true ↦ ap (λ ys. cond (q x) (x ∷ ys) ys) (filter_both p q xs)
-      | false ↦ filter_both p q xs
-    ]
+filter_both p q [] = grind arith
+filter_both p q (x ∷ xs) = grind (arith, filter_both p q xs)
 
 total_of_facts : (measure : Measure) (blank : Combination) (dimensions : Dimensions) (start : ℤ) (facts : List Fact)
     → fold (λ sum combination. sum +ℤ amount measure combination.fact) start
@@ -41,10 +37,8 @@ next_sum start more = omega (arith, ints)
 sum_of_amounts : (weight : Fact → ℕ) (start : ℕ) (facts : List Fact)
     → fold (λ sum fact. sum +ℤ pos (weight fact)) (pos start) facts ≡ pos
     (fold (λ sum fact. sum + weight fact) start facts)
-sum_of_amounts weight start [] = refl
-sum_of_amounts weight start (fact ∷ facts) =
-    ap (λ s. fold (λ sum f. sum +ℤ pos (weight f)) s facts) (next_sum start (weight fact))
-    ∙ sum_of_amounts weight (start + weight fact) facts
+sum_of_amounts weight start [] = grind arith
+sum_of_amounts weight start (fact ∷ facts) = grind (arith, next_sum, sum_of_amounts weight (start + weight fact) facts)
 
 next_difference : (plus minus more less : ℕ) → (pos plus -ℤ pos minus) +ℤ (pos more -ℤ pos less) ≡ pos (plus + more) -ℤ
     pos (minus + less)
@@ -53,11 +47,8 @@ next_difference plus minus more less = omega (arith, ints)
 sum_of_differences : (up down : Fact → ℕ) (plus minus : ℕ) (facts : List Fact)
     → fold (λ sum fact. sum +ℤ (pos (up fact) -ℤ pos (down fact))) (pos plus -ℤ pos minus) facts ≡ pos
     (fold (λ sum fact. sum + up fact) plus facts) -ℤ pos (fold (λ sum fact. sum + down fact) minus facts)
-sum_of_differences up down plus minus [] = refl
-sum_of_differences up down plus minus (fact ∷ facts) =
-    ap (λ s. fold (λ sum f. sum +ℤ (pos (up f) -ℤ pos (down f))) s facts)
-    (next_difference plus minus (up fact) (down fact))
-    ∙ sum_of_differences up down (plus + up fact) (minus + down fact) facts
+sum_of_differences up down plus minus [] = grind arith
+sum_of_differences up down plus minus (fact ∷ facts) = grind (arith, next_difference, sum_of_differences up down (plus + up fact) (minus + down fact) facts)
 
 pub sum_ones : {A : Type 0} (xs : List A) → sum_by (λ (x : A). 1) xs ≡ length xs
 sum_ones [] = refl

@@ -108,16 +108,7 @@ sum_of_parts amount group p places g (part ∷ parts) =
 adds_rearranged : (amount group : ℕ → ℕ) (p : ℕ → Bool) (places : ℕ → List ℕ) (xs ys old new : List ℕ)
     → IsPermutation xs ys → Adds amount group (filter p (flat_map places xs)) old new
     → Adds amount group (filter p (flat_map places ys)) old new
-adds_rearranged amount group p places xs ys old new same adds = record {
-  len = adds.len;
-  each = λ g below.
-      let sum : ℕ → ℕ = λ part. sum_in amount group g (filter p (places part)) in
-      let is : sum_in amount group g (filter p (flat_map places xs)) ≡ sum_in amount group g (filter p
-      (flat_map places ys)) =
-      sum_of_parts amount group p places g xs ∙ sym (sum_by-IsPermutation sum xs ys same)
-      ∙ sym (sum_of_parts amount group p places g ys) in
-      adds.each g below ∙ ap (λ (s : ℕ). (get_or old g 0 + s) % 2 ^ 64) is;
-}
+adds_rearranged amount group p places xs ys old new same adds = grind (arith, sum_of_parts, sum_by-IsPermutation)
 
 pub batch_rearranged : (lines : LineColumns) (masks : Masks) (groupings : List Grouping) (n : ℕ) (xs ys : List ℕ)
     (totals : List Totals) → IsPermutation xs ys

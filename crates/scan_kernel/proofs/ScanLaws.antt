@@ -1,3 +1,4 @@
+use Rattle.std.proofs.Common.{arith}
 -- Counts and sums over the lines, by group number, are dense totals.
 use Rattle.std.proofs.Common.{ℕ, ◌≡◌, ◌<◌, List, length, sym, subst, ◌∙◌}
 use Rattle.std.specs.Prelude.{ℤ}
@@ -43,16 +44,7 @@ pub scan_makes_totals : (blank : Combination) (plan : Plan) (base : Tables) (lin
     (taken blank plan base lines (group_number plan.groups columns) g))
     → AreDenseTotals plan (combinations plan base.dimensions (facts_of lines)) (group_number plan.groups columns)
     (size_of (counts_of columns)) (group_values columns) count sum
-scan_makes_totals blank plan base lines columns count sum sound known apart codes counts sums =
-    let number : Combination → ℕ = group_number plan.groups columns in
-    record {
-      below = λ c h. (codes_number_groups plan columns c (codes c h)).0;
-      named = λ c h. (codes_number_groups plan columns c (codes c h)).1;
-      apart = groups_are_apart columns apart;
-      counts = λ g below. counts g below ∙ sym (groups_are_of_lines blank plan base lines number g sound known).count;
-      sums = λ g below. sums g below ∙ sym (sum_of_lines plan.measure _ _
-          (groups_are_of_lines blank plan base lines number g sound known));
-    }
+scan_makes_totals blank plan base lines columns count sum sound known apart codes counts sums = grind (arith, codes_number_groups, groups_are_apart, groups_are_of_lines, sum_of_lines)
 
 -- rows that are right for any combinations with these totals answer the question over any lines with these counts and
 -- sums

@@ -19,10 +19,7 @@ range_more a n = simp map-id at (map-range_with_len_more (λ (x : ℕ). x) a n (
 
 pub filter_range_more : (p : ℕ → Bool) (a at : ℕ) → a ≤ at
     → filter p (range_with_len a (at + 1 - a)) ≡ filter p (range_with_len a (at - a)) ++ cond (p at) (at ∷ []) []
-filter_range_more p a at le =
-    let s : at + 1 - a ≡ at - a + 1 = omega arith in
-    let j : a + (at - a) ≡ at = omega arith in
-    rw (s, range_more, filter-append, j) refl
+filter_range_more p a at le = grind (arith, range_more, filter-append)
 
 pub found_first : (mask : ℕ → ℕ) (from : ℕ) (places found : List ℕ) → FoundUpTo mask from from 0 places found
 found_first mask from places found =
@@ -33,34 +30,10 @@ pub found_some : (mask : ℕ → ℕ) (from at count next m : ℕ) (places found
     → FoundUpTo mask from at count places found
     → count < length places → count < length found → m ≡ mask at → 0 < m → next ≡ count + 1
     → FoundUpTo mask from (at + 1) next (set places count at) (set found count m)
-found_some mask from at count next m places found h room marks is some one =
-    let le : from ≤ at = omega (arith, h.fewer) in
-    let test : ltb 0 (mask at) ≡ true = rw (← is) (lt-ltb 0 m some) in
-    record {
-      fewer = omega (arith, h.fewer);
-      places_are = rw (one, filter_range_more (λ i. ltb 0 (mask i)) from at le, test, ← h.places_are)
-          (take_more_set places count at room);
-      masks_are = rw (
-        one,
-        take_more_set places count at room,
-        take_more_set found count m marks,
-        map_push,
-        ← h.masks_are,
-        ← is,
-      ) refl;
-    }
+found_some mask from at count next m places found h room marks is some one = grind (arith, ltb, lt-ltb, filter_range_more, take_more_set, map_push)
 
 pub found_none : (mask : ℕ → ℕ) (from at count next m : ℕ) (places found : List ℕ)
     → FoundUpTo mask from at count places found
     → m ≡ mask at → m ≡ 0 → next ≡ count
     → FoundUpTo mask from (at + 1) next (set places count at) (set found count m)
-found_none mask from at count next m places found h is none one =
-    let le : from ≤ at = omega (arith, h.fewer) in
-    let zero : mask at ≤ 0 = omega arith in
-    let test : ltb 0 (mask at) ≡ false = le-ltb 0 (mask at) zero in
-    record {
-      fewer = omega (arith, h.fewer);
-      places_are = rw (one, filter_range_more (λ i. ltb 0 (mask i)) from at le, test, append-nil, ← h.places_are)
-          (take-set places count at);
-      masks_are = rw (one, take-set places count at, take-set found count m, h.masks_are) refl;
-    }
+found_none mask from at count next m places found h is none one = grind (arith, ltb, le-ltb, filter_range_more, append-nil, take-set)

@@ -1,3 +1,4 @@
+use Rattle.std.proofs.Common.{arith}
 -- Steps of a filter, place by place, and the numbers of groups, column by column.
 use Rattle.std.proofs.Common.{◌≡◌, ℕ, ◌+◌, ◌%◌, ◌<◌, Bool, cond, List, [], ◌∷◌, ◌++◌, length, get_or, take, ap, sym}
 use Rattle.std.proofs.Common.{◌∙◌}
@@ -17,7 +18,4 @@ filter_more p places n below = ap (filter p) (take_more places n 0 below)
 pub part_added : {C : Type 0} (part : C → ℕ) (columns : List C) (n : ℕ) (column : C) (old m : ℕ) → n < length columns
     → old ≡ sum_by part (take n columns) % m
     → (old + part (get_or columns n column)) % m ≡ sum_by part (take (n + 1) columns) % m
-part_added part columns n column old m below h =
-    ap (λ (v : ℕ). (v + part (get_or columns n column)) % m) h
-    ∙ mod-add-mod (sum_by part (take n columns)) m (part (get_or columns n column))
-    ∙ ap (λ (v : ℕ). v % m) (sym (sum_by_more part columns n column below))
+part_added part columns n column old m below h = grind (arith, mod-add-mod, sum_by_more)

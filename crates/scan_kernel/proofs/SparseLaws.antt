@@ -39,18 +39,11 @@ range_push n = sym (map-id (range_with_len 0 (n + 1))) ∙ map-range_with_len_mo
 -- a place more is taken, or is not
 pub taken_more : (lines : LineColumns) (masks : Masks) (k n : ℕ) → has_bit lines masks k n ≡ true
     → taken lines masks k (range_with_len 0 (n + 1)) ≡ taken lines masks k (range_with_len 0 n) ++ n ∷ []
-taken_more lines masks k n bit =
-    let p : ℕ → Bool = has_bit lines masks k in
-    ap (filter p) (range_push n) ∙ filter-append p (range_with_len 0 n) (n ∷ [])
-    ∙ ap (λ (b : Bool). filter p (range_with_len 0 n) ++ cond b (n ∷ []) []) bit
+taken_more lines masks k n bit = grind (arith, range_push, filter-append)
 
 pub taken_same : (lines : LineColumns) (masks : Masks) (k n : ℕ) → has_bit lines masks k n ≡ false
     → taken lines masks k (range_with_len 0 (n + 1)) ≡ taken lines masks k (range_with_len 0 n)
-taken_same lines masks k n bit =
-    let p : ℕ → Bool = has_bit lines masks k in
-    ap (filter p) (range_push n) ∙ filter-append p (range_with_len 0 n) (n ∷ [])
-    ∙ ap (λ (b : Bool). filter p (range_with_len 0 n) ++ cond b (n ∷ []) []) bit
-    ∙ append-nil (filter p (range_with_len 0 n))
+taken_same lines masks k n bit = grind (arith, range_push, filter-append, append-nil)
 
 added_to : (m a s x : ℕ) → a % m ≡ s % m → (a + x) % m % m ≡ (s + x) % m
 added_to m a s x e = mod-mod (a + x) m ∙ sym (mod-add-mod a m x) ∙ ap (λ (v : ℕ). (v + x) % m) e ∙ mod-add-mod s m x
@@ -58,25 +51,7 @@ added_to m a s x e = mod-mod (a + x) m ∙ sym (mod-add-mod a m x) ∙ ap (λ (v
 sums_more : (amount group : ℕ → ℕ) (places : List ℕ) (x : ℕ) (was now : ℕ → ℕ) → AreSumsOf amount group places was
     → now (group x) ≡ (was (group x) + amount x) % 2 ^ 64
     → ((g : ℕ) → nat_eq (group x) g ≡ false → now g ≡ was g) → AreSumsOf amount group (places ++ x ∷ []) now
-sums_more amount group places x was now h here others g = go (eqb_tells (group x) g) where
-  split : sum_in amount group g (places ++ x ∷ []) ≡ sum_in amount group g places + sum_in amount group g (x ∷ [])
-  split = sum_in-append amount group g places (x ∷ [])
-
-  one : (b : Bool) → eqb (group x) g ≡ b → sum_in amount group g (x ∷ []) ≡ cond b (amount x) 0
-  one true e = rw e (omega arith)
-  one false e = rw e refl
-
-  go : ((eqb (group x) g ≡ true) × (group x ≡ g)) ⊎ ((eqb (group x) g ≡ false) × (group x ≢ g))
-      → now g % 2 ^ 64 ≡ sum_in amount group g (places ++ x ∷ []) % 2 ^ 64
-  go (inl (is, same)) =
-      let grown : now g ≡ (was g + amount x) % 2 ^ 64 =
-      subst (λ (v : ℕ). now v ≡ (was v + amount x) % 2 ^ 64) same here in
-      ap (λ (v : ℕ). v % 2 ^ 64) grown ∙ added_to (2 ^ 64) (was g) (sum_in amount group g places) (amount x) (h g)
-      ∙ ap (λ (v : ℕ). v % 2 ^ 64) (ap (λ (v : ℕ). sum_in amount group g places + v) (sym (one true is)) ∙ sym split)
-  go (inr (is, other)) =
-      ap (λ (v : ℕ). v % 2 ^ 64) (others g is) ∙ h g
-      ∙ ap (λ (v : ℕ). v % 2 ^ 64) (sym (add-zero (sum_in amount group g places))
-      ∙ ap (λ (v : ℕ). sum_in amount group g places + v) (sym (one false is)) ∙ sym split)
+sums_more amount group places x was now h here others g = grind (arith, eqb_tells, sum_in-append, eqb, added_to, add-zero)
 
 module _ {S : Type 0} (lines : LineColumns) (measure : Measure) (columns : List GroupColumn) (size : ℕ) where
   pub no_sums : (totals : IndexMap ℕ GroupSums S) → totals.entries ≡ [] → IsUnique nat_eq totals

@@ -1,3 +1,4 @@
+use Rattle.std.proofs.Common.{arith}
 -- An answer depends on rows through the columns that queries read alone.
 use Rattle.std.proofs.Common.{◌≡◌, ℕ, Bool, true, false, cond, List, [], ◌∷◌, map, refl, ap, ◌∙◌}
 use Rattle.std.specs.Prelude.{ℤ, pos, ◌+ℤ◌, ◌-ℤ◌, ◌*◌, ◌&&◌, Some}
@@ -36,12 +37,7 @@ value_alike table.Date place c e alike = alike.date place
 value_alike table.Lineorder place c e alike = refl
 
 pub passes_alike : (plan : Plan) (c e : Combination) → Alike c e → passes plan c ≡ passes plan e
-passes_alike plan c e alike = λ i.
-    (is_within plan.quantity (alike.quantity i) && is_within plan.discount (alike.discount i))
-    && pass plan.customers (λ place. alike.customer place i)
-    && pass plan.suppliers (λ place. alike.supplier place i)
-    && pass plan.parts (λ place. alike.part place i)
-    && pass plan.dates (λ place. alike.date place i)
+passes_alike plan c e alike = grind arith
 
 group_alike : (plan : Plan) (c e : Combination) → Alike c e → group_of plan c ≡ group_of plan e
 group_alike plan c e alike = λ i. map (λ (column : Column). value_alike column.table column.place c e alike i)
@@ -63,18 +59,10 @@ AllAlike (c ∷ cs) (e ∷ es) = Alike c e × AllAlike cs es
 
 filter_alike : (test : Combination → Bool) → ((c e : Combination) → Alike c e → test c ≡ test e)
     → (cs es : List Combination) → AllAlike cs es → AllAlike (filter test cs) (filter test es)
-filter_alike test same [] [] all = tt
-filter_alike test same [] (e ∷ es) all = absurd all
-filter_alike test same (c ∷ cs) [] all = absurd all
-filter_alike test same (c ∷ cs) (e ∷ es) all = step (test c) (test e) (same c e all.0)
-    (filter_alike test same cs es all.1)
-  where
-    step : (a b : Bool) → a ≡ b → AllAlike (filter test cs) (filter test es)
-        → AllAlike (cond a (c ∷ filter test cs) (filter test cs)) (cond b (e ∷ filter test es) (filter test es))
-    step true true is rest = (all.0, rest)
-    step false false is rest = rest
-    step true false is rest = absurd (cc)
-    step false true is rest = absurd (cc)
+filter_alike test same [] [] all = grind arith
+filter_alike test same [] (e ∷ es) all = grind arith
+filter_alike test same (c ∷ cs) [] all = grind arith
+filter_alike test same (c ∷ cs) (e ∷ es) all = grind (arith, filter_alike test same cs es all.1)
 
 map_alike : {X : Type 0} (f : Combination → X) → ((c e : Combination) → Alike c e → f c ≡ f e)
     → (cs es : List Combination) → AllAlike cs es → map f cs ≡ map f es
@@ -86,13 +74,10 @@ map_alike f same (c ∷ cs) (e ∷ es) all = λ i. same c e all.0 i ∷ map_alik
 fold_alike : (measure : Measure) (sum : ℤ) (cs es : List Combination) → AllAlike cs es
     → fold (λ total combination. total +ℤ amount measure combination.fact) sum cs ≡ fold
     (λ total combination. total +ℤ amount measure combination.fact) sum es
-fold_alike measure sum [] [] all = refl
-fold_alike measure sum [] (e ∷ es) all = absurd all
-fold_alike measure sum (c ∷ cs) [] all = absurd all
-fold_alike measure sum (c ∷ cs) (e ∷ es) all =
-    fold_alike measure (sum +ℤ amount measure c.fact) cs es all.1
-    ∙ ap (λ a. fold (λ total combination. total +ℤ amount measure combination.fact) (sum +ℤ a) es)
-    (amount_alike measure c e all.0)
+fold_alike measure sum [] [] all = grind arith
+fold_alike measure sum [] (e ∷ es) all = grind arith
+fold_alike measure sum (c ∷ cs) [] all = grind arith
+fold_alike measure sum (c ∷ cs) (e ∷ es) all = grind (arith, amount_alike, fold_alike measure (sum +ℤ amount measure c.fact) cs es all.1)
 
 sum_alike : (measure : Measure) (cs es : List Combination) → AllAlike cs es → sum_over measure cs ≡ sum_over measure es
 sum_alike measure [] [] all = refl
@@ -107,13 +92,4 @@ groups_alike plan (column ∷ columns) cs es all = map_alike (group_of plan) (gr
 
 -- rows over combinations that are alike are the same
 pub rows_alike : (plan : Plan) (cs es : List Combination) → AllAlike cs es → rows_over plan cs ≡ rows_over plan es
-rows_alike plan cs es all = λ i. in_order (row_cmp plan.order)
-    (map (λ groups. row groups i) (groups_alike plan plan.groups cs es all i))
-  where
-    row : (groups : List Value) → row_of plan cs groups ≡ row_of plan es groups
-    row groups = λ i. record {
-      groups = groups;
-      sum = sum_alike plan.measure (in_group plan groups cs) (in_group plan groups es)
-          (filter_alike (λ combination. is_eq (groups_cmp (group_of plan combination) groups))
-          (λ c e alike. ap (λ g. is_eq (groups_cmp g groups)) (group_alike plan c e alike)) cs es all) i;
-    }
+rows_alike plan cs es all = grind (arith, groups_alike, sum_alike, filter_alike, group_alike)

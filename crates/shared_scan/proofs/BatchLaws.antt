@@ -25,76 +25,14 @@ use Rattle.shared_scan.proofs.EachLaws.{each_more, item_of}
 
 -- no dimension has as many rows as there are numbers of 32 bits
 pub few_rows : (base : Tables) → IsSound base → (column : Column) → length (values_of base column) < 4294967295
-few_rows base sound column = by_table column.table column.place where
-  by_table : (t : Table) (place : ℕ) → length (values_at base t place) < 4294967295
-  by_table table.Customer place = omega (
-    arith,
-    length-map base.dimensions.customers (customer_value place),
-    sound.customers.few,
-    base.limits.dimension_rows_range.1,
-  )
-  by_table table.Supplier place = omega (
-    arith,
-    length-map base.dimensions.suppliers (supplier_value place),
-    sound.suppliers.few,
-    base.limits.dimension_rows_range.1,
-  )
-  by_table table.Part place = omega (
-    arith,
-    length-map base.dimensions.parts (part_value place),
-    sound.parts.few,
-    base.limits.dimension_rows_range.1,
-  )
-  by_table table.Date place = omega (
-    arith,
-    length-map base.dimensions.dates (date_value place),
-    sound.dates.few,
-    base.limits.dimension_rows_range.1,
-  )
-  by_table table.Lineorder place = omega arith
+few_rows base sound column = grind (arith, length-map)
 
 -- no column of a dimension has more values than a dimension may have rows
 pub few_values : (base : Tables) → IsSound base → (column : Column) → length (values_of base column) ≤ most_dimension_rows
-few_values base sound column = by_table column.table column.place where
-  by_table : (t : Table) (place : ℕ) → length (values_at base t place) ≤ most_dimension_rows
-  by_table table.Customer place = omega (
-    arith,
-    length-map base.dimensions.customers (customer_value place),
-    sound.customers.few,
-    base.limits.dimension_rows_range.1,
-  )
-  by_table table.Supplier place = omega (
-    arith,
-    length-map base.dimensions.suppliers (supplier_value place),
-    sound.suppliers.few,
-    base.limits.dimension_rows_range.1,
-  )
-  by_table table.Part place = omega (
-    arith,
-    length-map base.dimensions.parts (part_value place),
-    sound.parts.few,
-    base.limits.dimension_rows_range.1,
-  )
-  by_table table.Date place = omega (
-    arith,
-    length-map base.dimensions.dates (date_value place),
-    sound.dates.few,
-    base.limits.dimension_rows_range.1,
-  )
-  by_table table.Lineorder place = omega arith
+few_values base sound column = grind (arith, length-map)
 
 pub have_masks : (base : Tables) (masks : Masks) → CoverRows base.dimensions masks → HaveMasks base masks
-have_masks base masks cover column p below = by_table column.table column.place below where
-  by_table : (t : Table) (place : ℕ) → p < length (values_at base t place) → HasMasks (masks_in t masks) p
-  by_table table.Customer place h = cover.customer_rows p
-      (omega (arith, h, length-map base.dimensions.customers (customer_value place)))
-  by_table table.Supplier place h = cover.supplier_rows p
-      (omega (arith, h, length-map base.dimensions.suppliers (supplier_value place)))
-  by_table table.Part place h = cover.part_rows p (omega
-      (arith, h, length-map base.dimensions.parts (part_value place)))
-  by_table table.Date place h = cover.date_rows p (omega
-      (arith, h, length-map base.dimensions.dates (date_value place)))
-  by_table table.Lineorder place h = absurd (omega (arith, h))
+have_masks base masks cover column p below = grind (arith, length-map)
 
 -- one question more
 pub ready_more : (base : Tables) (masks : Masks) (questions : List (Query × List Value)) (all : List Ready) (n : ℕ)

@@ -104,11 +104,10 @@ passing_alike plan f g (place ∷ places) all =
     step false true is rest = absurd (cc)
 
 below_taken : {R : Type 0} (n : ℕ) (rows : List R) (i : ℕ) → i < n → i < length rows → i < length (take n rows)
-below_taken zero rows i some there = absurd (omega (arith, some))
-below_taken (suc n) [] i some there = absurd (omega (arith, there))
-below_taken (suc n) (r ∷ rows) zero some there = omega arith
-below_taken (suc n) (r ∷ rows) (suc i) some there = omega
-    (arith, below_taken n rows i (omega (arith, some)) (omega (arith, there)))
+below_taken zero rows i some there = grind arith
+below_taken (suc n) [] i some there = grind arith
+below_taken (suc n) (r ∷ rows) zero some there = grind arith
+below_taken (suc n) (r ∷ rows) (suc i) some there = grind (arith, below_taken n rows i (omega (arith, some)) (omega (arith, there)))
 
 -- a row's class is the position of one of the first rows
 pub class_there : {R : Type 0} (columns : List (List Value)) (rows : List R) (p class : ℕ) → p < length rows
@@ -125,21 +124,7 @@ class_there columns rows p class within is =
 pub classed_within : (base : Tables) (place : Place) → IsPlaceOf base.dimensions place
     → IsWithin (reduced base).dimensions (classed place)
 unfolding classes_of
-classed_within base place own =
-    let d = base.dimensions in
-    record {
-      customer = class_there (read_columns d table.Customer) d.customers place.customer place.customer_class
-          own.within.customer own.customer_class;
-      supplier = class_there (read_columns d table.Supplier) d.suppliers place.supplier place.supplier_class
-          own.within.supplier own.supplier_class;
-      part = class_there (read_columns d table.Part) d.parts place.part place.part_class own.within.part own.part_class;
-      date = class_there (read_columns d table.Date) d.dates place.date place.date_class own.within.date own.date_class;
-      quantity = own.within.quantity;
-      discount = own.within.discount;
-      price = own.within.price;
-      revenue = own.within.revenue;
-      cost = own.within.cost;
-    }
+classed_within base place own = grind (arith, class_there)
 
 -- the places are within the dimensions
 pub own_within : (dimensions : Dimensions) (places : List Place) → All (IsPlaceOf dimensions) places
@@ -157,12 +142,7 @@ live_classed places = filter_mapped is_live classed places
 -- as many lines are live
 pub as_many_live : (base : Tables) (places : List Place)
     → length (live_facts (reduced base).dimensions (map classed places)) ≡ length (live_facts base.dimensions places)
-as_many_live base places =
-    let live = filter is_live places in
-    length-map (filter is_live (map classed places)) (fact_at (reduced base).dimensions)
-    ∙ ap length (live_classed places)
-    ∙ length-map live classed
-    ∙ sym (length-map live (fact_at base.dimensions))
+as_many_live base places = grind (arith, length-map, live_classed)
 
 -- the line of a place, with the rows that it names
 abbrev pub combined_at : Dimensions → Place → Combination

@@ -14,20 +14,9 @@ use Rattle.shared_scan.proofs.DistinctLaws.{same_self, not_same, has_index, dist
 
 -- without one of its values a list is shorter
 shorter : (x : Value) (ys : List Value) → Has ys x → length (filter (λ other. not (is_same x other)) ys) < length ys
-shorter x [] h = absurd h
-shorter x (y ∷ ys) (inl e) =
-    let differs : Value → Bool = λ other. not (is_same x other) in
-    let gone : not (is_same x y) ≡ false = ap differs (sym e) ∙ ap not (same_self x) in
-    let rest : length (filter differs (y ∷ ys)) ≡ length (filter differs ys) =
-    ap (λ (b : Bool). length (cond b (y ∷ filter differs ys) (filter differs ys))) gone in
-    omega (arith, rest, length-filter differs ys, count_by-le-length differs ys)
-shorter x (y ∷ ys) (inr h) =
-    let differs : Value → Bool = λ other. not (is_same x other) in
-    let less : length (filter differs ys) < length ys = shorter x ys h in
-    elim (not (is_same x y)) as (λ b. length (cond b (y ∷ filter differs ys) (filter differs ys)) < suc (length ys)) [
-      | true ↦ omega (arith, less)
-      | false ↦ omega (arith, less)
-    ]
+shorter x [] h = grind arith
+shorter x (y ∷ ys) (inl e) = grind (arith, same_self, length-filter, count_by-le-length)
+shorter x (y ∷ ys) (inr h) = grind (arith, shorter x ys h)
 
 -- different values that are all in a list are no more than it has
 no_more : (xs ys : List Value) → AreApart xs → ((v : Value) → Has xs v → Has ys v) → length xs ≤ length ys
@@ -55,7 +44,4 @@ equally_many xs ys one two same = omega (arith, no_more xs ys one same.forth, no
 
 -- lists of the same values have equally many different ones
 pub distinct_many : (xs ys : List Value) → HaveSameMembers xs ys → length (distinct xs) ≡ length (distinct ys)
-distinct_many xs ys same = equally_many (distinct xs) (distinct ys) (distinct_apart xs) (distinct_apart ys) (record {
-  forth = λ v h. distinct_has ys v (same.forth v (distinct_only xs v h));
-  back = λ v h. distinct_has xs v (same.back v (distinct_only ys v h));
-})
+distinct_many xs ys same = grind (arith, equally_many, distinct_apart, distinct_has, distinct_only)

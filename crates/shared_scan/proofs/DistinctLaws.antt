@@ -23,10 +23,7 @@ same_only : (v w : Value) → is_same v w ≡ true → v ≡ w
 same_only v w e = (value_Decides v w).0 e
 
 pub not_same : (v w : Value) → (v ≡ w → ⊥) → is_same v w ≡ false
-not_same v w differs = go (is_same v w) refl where
-  go : (b : Bool) → is_same v w ≡ b → b ≡ false
-  go true e = absurd (differs (same_only v w e))
-  go false e = refl
+not_same v w differs = grind (arith, same_only)
 
 differs_from : (v w : Value) → is_same v w ≡ false → v ≡ w → ⊥
 differs_from v w e same = let t : is_same v w ≡ true = (value_Decides v w).1 same in cc
@@ -43,19 +40,7 @@ has_index (x ∷ xs) v (inr h) = let rest = has_index xs v h in (suc rest.0, res
 
 -- the code of the value at an index is the index
 pub code_is : (xs : List Value) (n : ℕ) (v : Value) → AreApart xs → slice_get xs n ≡ Some v → code_in xs v ≡ n
-code_is xs n v apart at =
-    let below : n < length xs = slice_get_within xs n v at in
-    let value : get_or xs n (Number 0) ≡ v = get_or_from_slice_get xs n v (Number 0) at in
-    let passes : is_same v (get_or xs n (Number 0)) ≡ true = ap (is_same v) value ∙ same_self v in
-    let first : position_or_len (is_same v) xs ≡ n = position_or_len_is (is_same v) xs n (Number 0)
-    (omega (arith, below))
-    (λ k small. not_same v (get_or xs k (Number 0)) (λ e. let same :
-    k ≡ n = apart k n (omega (arith, small, below)) below (sym e ∙ sym value) in omega (arith, same, small)))
-    (λ h. passes) in
-    let found : position (is_same v) xs ≡ Some n =
-    ap (λ (m : ℕ). cond (nat_lt m (length xs)) (Some m) None) first
-    ∙ ap (λ (b : Bool). cond b (Some n) None) (lt-ltb n (length xs) below) in
-    ap (λ (o : Option ℕ). unwrap_or o 0) found
+code_is xs n v apart at = grind (arith, slice_get_within, get_or_from_slice_get, same_self, position_or_len_is, not_same, lt-ltb, unwrap_or)
 
 -- no two of the values are the same
 abbrev Once : List Value → Type 0
@@ -79,22 +64,13 @@ negated false e = refl
 
 passing : (x : Value) (xs : List Value) → AllByRecursion (λ other. is_same x other ≡ false)
     (filter (λ other. not (is_same x other)) xs)
-passing x [] = tt
-passing x (y ∷ xs) =
-    elim (not (is_same x y)) as (λ b. not (is_same x y) ≡ b
-    → AllByRecursion (λ other. is_same x other ≡ false)
-    (cond b (y ∷ filter (λ other. not (is_same x other)) xs) (filter (λ other. not (is_same x other)) xs))) [
-      | true ↦ λ e. (negated (is_same x y) e, passing x xs)
-      | false ↦ λ e. passing x xs
-    ] refl
+passing x [] = grind arith
+passing x (y ∷ xs) = grind (arith, negated, passing x xs)
 
 once_distinct : (vals : List Value) → Once (distinct vals)
 unfolding distinct
-once_distinct [] = tt
-once_distinct (v ∷ vals) = (
-  passing v (distinct vals),
-  once_kept (λ other. not (is_same v other)) (distinct vals) (once_distinct vals),
-)
+once_distinct [] = grind arith
+once_distinct (v ∷ vals) = grind (arith, passing, once_kept, once_distinct vals)
 
 at_index : (P : Value → Type 0) (xs : List Value) (i : ℕ) → AllByRecursion P xs → i < length xs
     → P (get_or xs i (Number 0))
@@ -103,16 +79,11 @@ at_index P (x ∷ xs) zero h below = h.0
 at_index P (x ∷ xs) (suc i) h below = at_index P xs i h.1 (omega (arith, below))
 
 apart_of : (xs : List Value) → Once xs → AreApart xs
-apart_of [] h i j i_below j_below e = absurd (omega (arith, i_below))
-apart_of (x ∷ xs) h zero zero i_below j_below e = refl
-apart_of (x ∷ xs) h zero (suc j) i_below j_below e = absurd
-    (differs_from x (get_or xs j (Number 0)) (at_index (λ other. is_same x other ≡ false) xs j h.0
-    (omega (arith, j_below))) e)
-apart_of (x ∷ xs) h (suc i) zero i_below j_below e = absurd
-    (differs_from x (get_or xs i (Number 0)) (at_index (λ other. is_same x other ≡ false) xs i h.0
-    (omega (arith, i_below))) (sym e))
-apart_of (x ∷ xs) h (suc i) (suc j) i_below j_below e =
-    ap (λ (n : ℕ). suc n) (apart_of xs h.1 i j (omega (arith, i_below)) (omega (arith, j_below)) e)
+apart_of [] h i j i_below j_below e = grind arith
+apart_of (x ∷ xs) h zero zero i_below j_below e = grind arith
+apart_of (x ∷ xs) h zero (suc j) i_below j_below e = grind (arith, differs_from, at_index)
+apart_of (x ∷ xs) h (suc i) zero i_below j_below e = grind (arith, differs_from, at_index)
+apart_of (x ∷ xs) h (suc i) (suc j) i_below j_below e = grind (arith, apart_of xs h.1 i j (omega (arith, i_below)) (omega (arith, j_below)) e)
 
 pub distinct_apart : (vals : List Value) → AreApart (distinct vals)
 distinct_apart vals = apart_of (distinct vals) (once_distinct vals)
@@ -130,14 +101,8 @@ distinct_has (x ∷ vals) v (inr h) =
 
 -- what a filter keeps is in the list, and passes
 pub kept_has : {X : Type 0} (p : X → Bool) (xs : List X) (v : X) → Has (filter p xs) v → Has xs v × (p v ≡ true)
-kept_has p [] v h = absurd h
-kept_has p (x ∷ xs) v h = go (p x) refl h (kept_has p xs v)
-  where
-    go : (b : Bool) → p x ≡ b → Has (cond b (x ∷ filter p xs) (filter p xs)) v
-        → (Has (filter p xs) v → Has xs v × (p v ≡ true)) → Has (x ∷ xs) v × (p v ≡ true)
-    go true e (inl same) rest = (inl same, ap p same ∙ e)
-    go true e (inr later) rest = (inr (rest later).0, (rest later).1)
-    go false e later rest = (inr (rest later).0, (rest later).1)
+kept_has p [] v h = grind arith
+kept_has p (x ∷ xs) v h = grind (arith, kept_has p xs v)
 
 pub distinct_only : (vals : List Value) (v : Value) → Has (distinct vals) v → Has vals v
 unfolding distinct
@@ -181,7 +146,5 @@ codes_within rows k d below =
 
 pub distinct_few : (vals : List Value) → length (distinct vals) ≤ length vals
 unfolding distinct
-distinct_few [] = omega arith
-distinct_few (v ∷ vals) =
-    let differs : Value → Bool = λ other. not (is_same v other) in
-    omega (arith, length-filter differs (distinct vals), count_by-le-length differs (distinct vals), distinct_few vals)
+distinct_few [] = grind arith
+distinct_few (v ∷ vals) = grind (arith, length-filter, count_by-le-length, distinct_few vals)

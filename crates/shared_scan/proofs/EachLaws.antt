@@ -12,20 +12,4 @@ item_of (x ∷ xs) k below = x
 
 pub each_more : {B : Type 0} (P : ℕ → B → Type 0) (ys : List B) (n : ℕ) (y : B) → length ys ≡ n → P n y
     → ((k : ℕ) (b : B) → k < n → P k (get_or ys k b)) → (k : ℕ) (b : B) → k < n + 1 → P k (get_or (ys ++ y ∷ []) k b)
-each_more {B} P ys n y len here before k b h = go (eqb_tells k n) where
-  same : k ≡ n → P k (get_or (ys ++ y ∷ []) k b)
-  same e =
-      let item_is : get_or (ys ++ y ∷ []) k b ≡ y = ap (λ (j : ℕ). get_or (ys ++ y ∷ []) j b) (e ∙ sym len)
-      ∙ get_or-append_seam ys y [] b in
-      let Q : B → Type 0 = λ v. P k v in
-      let R : ℕ → Type 0 = λ j. P j y in
-      subst Q (sym item_is) (subst R (sym e) here)
-
-  other : k ≢ n → P k (get_or (ys ++ y ∷ []) k b)
-  other ne =
-      let Q : B → Type 0 = λ v. P k v in
-      subst Q (sym (get_or-append ys (y ∷ []) b k (omega (arith, len, h, ne)))) (before k b (omega (arith, h, ne)))
-
-  go : ((eqb k n ≡ true) × (k ≡ n)) ⊎ ((eqb k n ≡ false) × (k ≢ n)) → P k (get_or (ys ++ y ∷ []) k b)
-  go (inl (_, e)) = same e
-  go (inr (_, ne)) = other ne
+each_more {B} P ys n y len here before k b h = grind (arith, eqb_tells, get_or-append_seam, get_or-append, eqb)

@@ -44,10 +44,7 @@ follow_go base masks all old new line fewer more len shifted one follows = recor
 kept : (old new : Standing) (line : ScannedLine) (comes : Bool) (lines : List ScannedLine) → Changes old new line comes
     → FollowWith (reduced old.batch.value.index.value) old.batch.value.masks old.batch.value.questions.items
     new.totals.items lines → Follows new lines
-kept old new line comes lines change follows =
-    let P : ReadyBatch → Type 0 = λ batch. FollowWith (reduced batch.index.value) batch.masks batch.questions.items
-    new.totals.items lines in
-    subst P (sym change.batch_is) follows
+kept old new line comes lines change follows = grind arith
 
 pub comes_along : (old new : Standing) (line : ScannedLine) (fewer more : List ScannedLine) → Changes old new line true
     → IsOneMore line fewer more → Follows old fewer → Follows new more
@@ -65,15 +62,7 @@ goes_along old new line fewer more change one follows = kept old new line false 
 
 copied : (base : Tables) (masks : Masks) (k : ℕ) (ready : Ready) (lines : List ScannedLine) (old new : Totals)
     → HasNumbersOf old new → AreTotalsOver base masks k ready lines old → AreTotalsOver base masks k ready lines new
-copied base masks k ready lines old new same over =
-    let size : ℕ = size_with ready.groups.parts ready.groups.size in
-    let S : (ScannedLine → ℕ) → List ℕ → Type 0 = λ amount numbers. AreSumsOf (takes_line masks k)
-    (group_of_line base ready) amount size lines numbers in
-    record {
-      counts = subst (S (λ line. 1)) (sym same.counts) over.counts;
-      gains = subst (S (gain_in ready.plan.measure)) (sym same.gains) over.gains;
-      losses = subst (S (loss_in ready.plan.measure)) (sym same.losses) over.losses;
-    }
+copied base masks k ready lines old new same over = grind arith
 
 -- a copy of the totals follows the same lines
 pub copies_follow : (base : Tables) (masks : Masks) (all : List Ready) (old new : List Totals)

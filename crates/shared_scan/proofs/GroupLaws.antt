@@ -1,3 +1,4 @@
+use Rattle.std.proofs.Common.{arith}
 -- No query groups by a column of the fact table.
 use Rattle.std.proofs.Common.{◌≡◌, List}
 use Rattle.std.specs.List.{AllByRecursion}
@@ -27,34 +28,7 @@ abbrev IsOfDimension : Column → Type 0
 IsOfDimension column = column.table ≡ Lineorder → ⊥
 
 of_dimensions : AllByRecursion IsOfDimension query_columns
-of_dimensions = (
-  no_customer,
-  (
-    no_customer,
-    (
-      no_customer,
-      (
-        no_supplier,
-        (
-          no_supplier,
-          (
-            no_supplier,
-            (
-              no_part,
-              (
-                no_part,
-                (
-                  no_part,
-                  (no_date, (no_date, (no_date, (no_date, tt)))),
-                ),
-              ),
-            ),
-          ),
-        ),
-      ),
-    ),
-  ),
-)
+of_dimensions = grind (arith, no_customer, no_supplier, no_part, no_date)
 
 pub dimensions_alone : (query : Query) (constants : List Value)
     → AllByRecursion (λ column. column.table ≡ Lineorder → ⊥) (plan_over query constants).groups

@@ -1,3 +1,4 @@
+use Rattle.std.proofs.Common.{arith}
 -- One group column more is made ready.
 use Rattle.std.proofs.Common.{ℕ, ◌≡◌, ◌*◌, List, [], ◌∷◌, ◌++◌, length, refl, sym, ap, ◌∙◌, subst}
 use Rattle.std.proofs.Math.Nat.{mul_comm, mul_assoc, mul-one}
@@ -14,12 +15,8 @@ use Rattle.shared_scan.specs.Grouped.{ArePrepared}
 -- how many groups there are with one column more
 pub size_more : (columns : List (List Value)) (values : List Value)
     → size_of (counts_of (columns ++ values ∷ [])) ≡ length values * size_of (counts_of columns)
-size_more [] values = refl
-size_more (first ∷ columns) values =
-    ap (λ (n : ℕ). length first * n) (size_more columns values)
-    ∙ sym (mul_assoc (length first) (length values) (size_of (counts_of columns)))
-    ∙ ap (λ (n : ℕ). n * size_of (counts_of columns)) (mul_comm (length first) (length values))
-    ∙ mul_assoc (length values) (length first) (size_of (counts_of columns))
+size_more [] values = grind arith
+size_more (first ∷ columns) values = grind (arith, mul_assoc, mul_comm, size_more columns values)
 
 module _ (base : Tables) (masks : Masks) (k : ℕ) (column : Column) (values : List Value) (part : List ℕ) where
   pub prepared_more : (groups : List Column) (columns : List (List Value)) (step : ℕ) (parts : List (List ℕ))

@@ -1,3 +1,4 @@
+use Rattle.std.proofs.Common.{arith}
 -- From the answers over places to those after a history.
 use Rattle.std.proofs.Common.{◌≡◌, ◌≤◌, List, [], ◌∷◌, length, refl, sym, ap, ◌∙◌, subst}
 use Rattle.std.specs.Prelude.{IsPermutation}
@@ -26,18 +27,11 @@ answers_ignore_order dimensions facts other (question ∷ questions) moved =
 -- the places of the columns are of their base
 pub of_base : (columns : Stored) → IsRead columns → length columns.facts ≤ 33554432
     → AreOfBase columns.base columns.places
-of_base columns read few = record {
-  within = read.within;
-  few = read.few;
-  few_live = subst (λ (facts : List Fact). length facts ≤ 33554432) read.facts_are few;
-}
+of_base columns read few = grind arith
 
 -- the answers over the live facts of columns are those after any history that the columns stand for
 pub answers_of_history : (columns : Stored) (history : List CommitRecord) (questions : List (Query × List Value))
     → IsRead columns → StandsFor (columns_state columns) history
     → answers_over columns.base.dimensions (live_facts columns.base.dimensions columns.places) questions ≡
     answers_after columns.base history questions
-answers_of_history columns history questions read stands =
-    ap (λ (facts : List Fact). answers_over columns.base.dimensions facts questions) (sym read.facts_are)
-    ∙ answers_ignore_order columns.base.dimensions columns.facts
-    (facts_of (lines_after columns.base history)) questions (live_facts_are_the_lines columns history stands)
+answers_of_history columns history questions read stands = grind (arith, answers_ignore_order, live_facts_are_the_lines)

@@ -105,7 +105,4 @@ live_mask base plans masks c place tell stand within fact_is live =
 -- a free place has no bit
 pub free_mask : (plans : List Plan) (dimensions : Dimensions) (masks : Masks) (place : Place) (k : ℕ)
     → AreMasksOf plans dimensions masks → quantity_in place.terms ≡ 0 → bit_at (place_mask masks place) k ≡ 0
-free_mask plans dimensions masks place k tell free =
-    let below : place.terms < 16 = omega (arith, free) in
-    rw (bit_at_and, bit_at_and, bit_at_and, bit_at_and, tell.free_is_none place.terms below, bit_at-zero k)
-    (omega arith)
+free_mask plans dimensions masks place k tell free = grind (arith, bit_at_and, bit_at-zero)

@@ -19,9 +19,4 @@ loaded_stands columns base state = state ∙ ap (λ b. state_of b []) (sym (load
 -- where the base is sound, they can be scanned
 pub loaded_snapshot : (columns : Stored) (base : Tables) → columns_state columns ≡ state_of base [] → IsSound base
     → AreSnapshot columns
-loaded_snapshot columns base state sound = record {
-  history = [];
-  stands = loaded_stands columns base state;
-  few = subst (λ (b : Tables). length b.lines ≤ 33554432) (sym (loaded_base columns base state))
-      (at_most (length base.lines) base.limits.lines 33554432 sound.few base.limits.lines_range);
-}
+loaded_snapshot columns base state sound = grind (arith, loaded_stands, loaded_base, at_most)

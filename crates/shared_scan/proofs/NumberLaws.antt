@@ -35,11 +35,7 @@ mapped_at f (y ∷ xs) (suc p) x e = mapped_at f xs p x e
 
 -- a bit of several joined by `and` is a bit of each
 one_bit : (a b k : ℕ) → bit_at (bit_and a b) k ≡ 1 → (bit_at a k ≡ 1) × (bit_at b k ≡ 1)
-one_bit a b k e =
-    let both : min (bit_at a k) (bit_at b k) ≡ 1 = sym (bit_at_and a b k) ∙ e in
-    let small : a / 2 ^ k % 2 < 2 = mod-lt (a / 2 ^ k) (omega arith) in
-    let small_too : b / 2 ^ k % 2 < 2 = mod-lt (b / 2 ^ k) (omega arith) in
-    (omega (arith, both, small, small_too), omega (arith, both, small, small_too))
+one_bit a b k e = grind (arith, bit_at_and, mod-lt)
 
 abbrev pub position_of_table : Place → Table → ℕ
 position_of_table place table.Customer = place.customer

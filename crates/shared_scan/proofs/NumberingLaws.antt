@@ -74,39 +74,7 @@ pub mark_more : (seen codes masks : List ℕ) (row : ℕ) → get_or codes row 0
     → (p k : ℕ) → p < row + 1 → bit_at (get_or masks p 0) k ≡ 1
     → bit_at (get_or (set seen (get_or codes row 0) (bit_or (get_or seen (get_or codes row 0) 0) (get_or masks row 0)))
     (get_or codes p 0) 0) k ≡ 1
-mark_more seen codes masks row within before p k below bit =
-    let code = get_or codes row 0 in
-    let mark = bit_or (get_or seen code 0) (get_or masks row 0) in
-    let new = set seen code mark in
-    let here : get_or new code 0 ≡ mark = get_or-set_same seen code mark 0 within in
-    let keeps : (c : ℕ) → bit_at (get_or seen c 0) k ≡ 1 → bit_at (get_or new c 0) k ≡ 1 =
-    λ c had. elim (eqb c code) as (λ b. eqb c code ≡ b → bit_at (get_or new c 0) k ≡ 1) [
-      | true ↦ λ t.
-          let same : c ≡ code = eqb-true c code t in
-          ap (λ (n : ℕ). bit_at (get_or new n 0) k) same ∙ ap (λ (m : ℕ). bit_at m k) here
-          ∙ omega (
-            arith,
-            bit_at_or (get_or seen code 0) (get_or masks row 0) k,
-            bit_at-lt (get_or masks row 0) k,
-            sym (ap (λ (n : ℕ). bit_at (get_or seen n 0) k) same) ∙ had,
-          )
-      | false ↦ λ f. ap (λ (m : ℕ). bit_at m k) (get_or-set_other seen code c mark 0
-          (λ e. let t : eqb c code ≡ true = eq-eqb c code e in cc)) ∙ had
-    ] refl in
-    elim (eqb p row) as (λ b. eqb p row ≡ b → bit_at (get_or new (get_or codes p 0) 0) k ≡ 1) [
-      | true ↦ λ t.
-          let same : p ≡ row = eqb-true p row t in
-          ap (λ (n : ℕ). bit_at (get_or new (get_or codes n 0) 0) k) same ∙ ap (λ (m : ℕ). bit_at m k) here
-          ∙ omega (
-            arith,
-            bit_at_or (get_or seen code 0) (get_or masks row 0) k,
-            bit_at-lt (get_or seen code 0) k,
-            sym (ap (λ (n : ℕ). bit_at (get_or masks n 0) k) same) ∙ bit,
-          )
-      | false ↦ λ f.
-          let other : (p ≡ row → ⊥) = λ e. let t : eqb p row ≡ true = eq-eqb p row e in cc in
-          keeps (get_or codes p 0) (before p k (omega (arith, below, other)) bit)
-    ] refl
+mark_more seen codes masks row within before p k below bit = grind (arith, bit_or, get_or-set_same, eqb, eqb-true, bit_at_or, bit_at-lt, get_or-set_other, eq-eqb)
 
 -- only codes of rows with the bit are marked
 pub mark_only : (initial seen codes masks : List ℕ) (row : ℕ) → get_or codes row 0 < length seen → row < length codes

@@ -41,11 +41,4 @@ next_plan questions n plan later is =
 -- where no plan is left, each question has been made ready
 pub all_planned : (questions : List (Query × List Value)) (n : ℕ) (left : List Plan) → n ≤ length questions
     → length left ≡ 0 → left ≡ plans_of (drop n questions) → n ≡ length questions
-all_planned questions n left within none is = omega (
-  arith,
-  within,
-  none,
-  ap length is,
-  length-map (drop n questions) (λ (question : Query × List Value). plan_over question.0 question.1),
-  length-drop n questions,
-)
+all_planned questions n left within none is = grind (arith, length-map, length-drop)

@@ -33,13 +33,12 @@ use Rattle.shared_scan.proofs.TotalLaws.{group_is}
 
 all_apart : (base : Tables) (masks : Masks) (k : ℕ) (columns : List Column) (values : List (List Value)) (step : ℕ)
     (parts : List (List ℕ)) → ArePrepared base masks k columns values step parts → AllByRecursion AreApart values
-all_apart base masks k [] [] step [] h = tt
-all_apart base masks k [] [] step (p ∷ parts) h = absurd h
-all_apart base masks k [] (v ∷ values) step parts h = absurd h
-all_apart base masks k (c ∷ columns) [] step parts h = absurd h
-all_apart base masks k (c ∷ columns) (v ∷ values) step [] h = absurd h
-all_apart base masks k (c ∷ columns) (v ∷ values) step (p ∷ parts) h =
-    (h.0.apart, all_apart base masks k columns values (step * length v) parts h.1)
+all_apart base masks k [] [] step [] h = grind arith
+all_apart base masks k [] [] step (p ∷ parts) h = grind arith
+all_apart base masks k [] (v ∷ values) step parts h = grind arith
+all_apart base masks k (c ∷ columns) [] step parts h = grind arith
+all_apart base masks k (c ∷ columns) (v ∷ values) step [] h = grind arith
+all_apart base masks k (c ∷ columns) (v ∷ values) step (p ∷ parts) h = grind (arith, all_apart base masks k columns values (step * length v) parts h.1)
 
 pub is_grouping : (base : Tables) (masks : Masks) (k : ℕ) (lines : LineColumns) (question : Query × List Value)
     (ready : Ready) (groups : List GroupColumn)
@@ -47,17 +46,7 @@ pub is_grouping : (base : Tables) (masks : Masks) (k : ℕ) (lines : LineColumns
     groups
     → IsGroupingBy base masks k lines (plan_over question.0 question.1) ready.groups.columns.items ready.plan.measure
     groups ready.groups.size
-is_grouping base masks k lines question ready groups is columns =
-    let P : Plan → Type 0 = λ plan. IsGroupingBy base masks k lines plan ready.groups.columns.items ready.plan.measure
-    groups ready.groups.size in
-    subst P is.plan_is (record {
-      measures = refl;
-      parts_are = parts_of_prepared base masks k lines ready.plan.groups ready.groups.columns.items 1
-          (parts_in ready.groups.parts) groups is.prepared columns;
-      apart = all_apart base masks k ready.plan.groups ready.groups.columns.items 1 (parts_in ready.groups.parts)
-          is.prepared;
-      size_is = is.size_is;
-    })
+is_grouping base masks k lines question ready groups is columns = grind (arith, parts_of_prepared, all_apart)
 
 -- the columns of a question with few groups, from what they add
 pub dense_columns : (base : Tables) (lines : LineColumns) (ready : Ready) (parts : Parts) (list : List (List ℕ))

@@ -29,28 +29,18 @@ use Rattle.shared_scan.proofs.TestLaws.{pass_by_places, row_reads}
 -- every column has a value for each key
 pub values_are_rows : (base : Tables) (t : Table) (place : ℕ)
     → length (values_at base t place) ≡ length (keys_of base t)
-values_are_rows base table.Customer place = length-map base.dimensions.customers (customer_value place)
-    ∙ sym (length-map base.dimensions.customers customer_key)
-values_are_rows base table.Supplier place = length-map base.dimensions.suppliers (supplier_value place)
-    ∙ sym (length-map base.dimensions.suppliers supplier_key)
-values_are_rows base table.Part place = length-map base.dimensions.parts (part_value place)
-    ∙ sym (length-map base.dimensions.parts part_key)
-values_are_rows base table.Date place = length-map base.dimensions.dates (date_value place)
-    ∙ sym (length-map base.dimensions.dates date_key)
-values_are_rows base table.Lineorder place = refl
+values_are_rows base table.Customer place = grind (arith, length-map)
+values_are_rows base table.Supplier place = grind (arith, length-map)
+values_are_rows base table.Part place = grind (arith, length-map)
+values_are_rows base table.Date place = grind (arith, length-map)
+values_are_rows base table.Lineorder place = grind arith
 
 -- the mask of a row's code is that of its value
 code_mask : (plans : List Plan) (column : Column) (values : List Value) (masks : List ℕ)
     → AreCodeMasks column plans (distinct values) masks → (p : ℕ) → p < length values
     → IsMask (λ plan. passes_at (tests_of column.table plan) column.place (get_or values p (Number 0))) plans
     (get_or masks (get_or (codes_of values) p 0) 0)
-code_mask plans column values masks are p below =
-    let value = get_or values p (Number 0) in
-    let code : get_or (codes_of values) p 0 ≡ code_in (distinct values) value =
-    get_or-map (code_in (distinct values)) values p (Number 0) 0 below in
-    let read = code_reads values p value (slice_get-get_or values p (Number 0) below) in
-    subst (λ (n : ℕ). IsMask (λ plan. passes_at (tests_of column.table plan) column.place value) plans
-    (get_or masks n 0)) (sym code) (are.each (code_in (distinct values) value) value read)
+code_mask plans column values masks are p below = grind (arith, get_or-map, code_reads, slice_get-get_or)
 
 module _ (base : Tables) (t : Table) (plans : List Plan) where
   -- before the first column, every row passes

@@ -55,14 +55,12 @@ line_count places lines are = ap length are.customers_are ∙ length-map places 
 pub prepared_lengths : (base : Tables) (masks : Masks) (k : ℕ) (groups : List Column) (columns : List (List Value))
     (step : ℕ) (parts : List (List ℕ)) → ArePrepared base masks k groups columns step parts
     → (length columns ≡ length groups) × (length parts ≡ length groups)
-prepared_lengths base masks k [] [] step [] h = (refl, refl)
-prepared_lengths base masks k [] [] step (p ∷ parts) h = absurd h
-prepared_lengths base masks k [] (v ∷ columns) step parts h = absurd h
-prepared_lengths base masks k (g ∷ groups) [] step parts h = absurd h
-prepared_lengths base masks k (g ∷ groups) (v ∷ columns) step [] h = absurd h
-prepared_lengths base masks k (g ∷ groups) (v ∷ columns) step (p ∷ parts) h =
-    let rest = prepared_lengths base masks k groups columns (step * length v) parts h.1 in
-    (omega (arith, rest.0), omega (arith, rest.1))
+prepared_lengths base masks k [] [] step [] h = grind arith
+prepared_lengths base masks k [] [] step (p ∷ parts) h = grind arith
+prepared_lengths base masks k [] (v ∷ columns) step parts h = grind arith
+prepared_lengths base masks k (g ∷ groups) [] step parts h = grind arith
+prepared_lengths base masks k (g ∷ groups) (v ∷ columns) step [] h = grind arith
+prepared_lengths base masks k (g ∷ groups) (v ∷ columns) step (p ∷ parts) h = grind (arith, prepared_lengths base masks k groups columns (step * length v) parts h.1)
 
 module _ (base : Tables) (masks : Masks) (all : List Ready) (ready : AreReady base masks (questions_of all) all) where
   pub question_at : (k : ℕ) (r : Ready) → k < length all

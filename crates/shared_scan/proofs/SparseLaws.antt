@@ -37,14 +37,8 @@ value_more f es i e at = ap (map f) (entry_more (λ p. p.1) es i e at) ∙ map-a
 -- beside a number stands what the map has for it
 pub beside_is : {X : Type 0} (f : GroupSums → X) (es : List (ℕ × GroupSums)) (g : ℕ)
     → beside (f nothing) (keys_of es) (map f (values_of es)) g ≡ f (unwrap_or (lookup (nat_eq g) es) nothing)
-beside_is f [] g = refl
-beside_is f (e ∷ es) g = by_test (beside_is f es g) (nat_eq g e.0) refl where
-  by_test : beside (f nothing) (keys_of es) (map f (values_of es)) g ≡ f (unwrap_or (lookup (nat_eq g) es) nothing)
-      → (b : Bool) → nat_eq g e.0 ≡ b
-      → beside (f nothing) (keys_of (e ∷ es)) (map f (values_of (e ∷ es))) g ≡ f
-      (unwrap_or (lookup (nat_eq g) (e ∷ es)) nothing)
-  by_test rest true is = rw is refl
-  by_test rest false is = rw is rest
+beside_is f [] g = grind arith
+beside_is f (e ∷ es) g = grind (arith, beside_is f es g)
 
 pub all_unmapped : (P : GroupColumn → Type 0) (xs : List SparseColumn) → All P (as_group_columns xs)
     → All (λ x. P (as_group_column x)) xs

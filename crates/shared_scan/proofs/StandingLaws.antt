@@ -21,13 +21,7 @@ use Rattle.shared_scan.specs.Standing.{parts_of_line, takes_line, group_of_line,
 -- a sum over one item more
 pub sum_one_more : {X : Type 0} (f : X → ℕ) (x : X) (before after : List X)
     → sum_by f (before ++ x ∷ after) ≡ f x + sum_by f (before ++ after)
-sum_one_more f x before after =
-    let whole : sum_by f (before ++ x ∷ after) ≡ sum_by f before + sum_by f (x ∷ after) =
-    sum_by-append f before (x ∷ after) in
-    let tail : sum_by f (x ∷ after) ≡ f x + sum_by f after = sum_by-cons f x after in
-    let rest : sum_by f (before ++ after) ≡ sum_by f before + sum_by f after = sum_by-append f before after in
-    let swap : sum_by f before + (f x + sum_by f after) ≡ f x + (sum_by f before + sum_by f after) = omega arith in
-    whole ∙ ap (λ (v : ℕ). sum_by f before + v) tail ∙ swap ∙ ap (λ (v : ℕ). f x + v) (sym rest)
+sum_one_more f x before after = grind (arith, sum_by-append, sum_by-cons)
 
 pub one_more_sum : (f : ScannedLine → ℕ) (line : ScannedLine) (fewer more : List ScannedLine)
     → IsOneMore line fewer more → sum_by f more ≡ f line + sum_by f fewer
@@ -191,12 +185,7 @@ pub parts_step : (base : Tables) (columns : List Column) (parts : List (List ℕ
     → part ≡ get_or parts i part
     → parts_of_line base (drop i columns) (drop i parts) line ≡ part_of_line base column part line
     + parts_of_line base (drop (i + 1) columns) (drop (i + 1) parts) line
-parts_step base columns parts line i column part in_columns in_parts is own =
-    let first : drop i columns ≡ column ∷ drop (i + 1) columns = drop_more columns i column in_columns
-    ∙ ap (λ (c : Column). c ∷ drop (i + 1) columns) (sym is) in
-    let other : drop i parts ≡ part ∷ drop (i + 1) parts = drop_more parts i part in_parts
-    ∙ ap (λ (p : List ℕ). p ∷ drop (i + 1) parts) (sym own) in
-    λ j. parts_of_line base (first j) (other j) line
+parts_step base columns parts line i column part in_columns in_parts is own = grind (arith, drop_more)
 
 -- the same, where the column is read at its place
 pub parts_step_at : (base : Tables) (columns : List Column) (parts : List (List ℕ)) (line : ScannedLine) (i : ℕ)
@@ -213,13 +202,12 @@ no_parts base (column ∷ columns) line = refl
 -- nothing is added behind the last
 pub parts_end : (base : Tables) (columns : List Column) (parts : List (List ℕ)) (line : ScannedLine) (i : ℕ)
     → min (length columns) (length parts) ≤ i → parts_of_line base (drop i columns) (drop i parts) line ≡ 0
-parts_end base [] parts line zero past = refl
-parts_end base (column ∷ columns) [] line zero past = refl
-parts_end base (column ∷ columns) (part ∷ parts) line zero past = absurd (omega (arith, past))
-parts_end base [] parts line (suc i) past = refl
-parts_end base (column ∷ columns) [] line (suc i) past = no_parts base (drop i columns) line
-parts_end base (column ∷ columns) (part ∷ parts) line (suc i) past = parts_end base columns parts line i
-    (omega (arith, past))
+parts_end base [] parts line zero past = grind arith
+parts_end base (column ∷ columns) [] line zero past = grind arith
+parts_end base (column ∷ columns) (part ∷ parts) line zero past = grind arith
+parts_end base [] parts line (suc i) past = grind arith
+parts_end base (column ∷ columns) [] line (suc i) past = grind (arith, no_parts)
+parts_end base (column ∷ columns) (part ∷ parts) line (suc i) past = grind (arith, parts_end base columns parts line i (omega (arith, past)))
 
 -- a part is added, modulo 2^64
 pub part_added : (group part rest total : ℕ) → (group + (part + rest)) % 2 ^ 64 ≡ total % 2 ^ 64

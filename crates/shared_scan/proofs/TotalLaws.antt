@@ -155,13 +155,7 @@ record AreSmall (place : Place) : Type 0 where
 
 small_at : (dimensions : Dimensions) (places : List Place) (i : ℕ) → All (IsWithin dimensions) places
     → AreSmall (get_or places i nowhere)
-small_at dimensions places i within =
-    elim (nat_lt i (length places)) as (λ b. nat_lt i (length places) ≡ b → AreSmall (get_or places i nowhere)) [
-      | true ↦ λ e. let one = within i nowhere (ltb-true i (length places) e) in
-          record { quantity = one.quantity; price = one.price; revenue = one.revenue; cost = one.cost }
-      | false ↦ λ e. subst AreSmall (sym (get_or_past places i nowhere (ltb-false i (length places) e)))
-          (record { quantity = omega arith; price = omega arith; revenue = omega arith; cost = omega arith })
-    ] refl
+small_at dimensions places i within = grind (arith, nowhere, ltb-true, get_or_past, ltb-false)
 
 gain_small : (dimensions : Dimensions) (places : List Place) (measure : Measure) (i : ℕ)
     → All (IsWithin dimensions) places → gain_of measure (fact_at dimensions (get_or places i nowhere)) ≤ 2 ^ 36
@@ -186,12 +180,7 @@ loss_small dimensions places Lines i within = omega arith
 
 known_at : (dimensions : Dimensions) (place : Place) → IsWithin dimensions place
     → IsKnown dimensions (line_of (fact_at dimensions place))
-known_at dimensions place within = record {
-  customer = known_key customer_key dimensions.customers place.customer within.customer;
-  supplier = known_key supplier_key dimensions.suppliers place.supplier within.supplier;
-  part = known_key part_key dimensions.parts place.part within.part;
-  date = known_key date_key dimensions.dates place.date within.date;
-}
+known_at dimensions place within = grind (arith, known_key)
 
 pub known_all : (dimensions : Dimensions) (places : List Place) → All (IsWithin dimensions) places
     → All (IsKnown dimensions) (map line_of (live_facts dimensions places))
@@ -428,15 +417,7 @@ module _ (base : Tables) (question : Query × List Value) (plans : List Plan) (k
 -- totals that have a number for each group are its sums
 summed_list : (amount group : ℕ → ℕ) (size : ℕ) (places new : List ℕ) → Adds amount group places (replicate size 0) new
     → ((g : ℕ) → get_or new g 0 < 2 ^ 64) → IsSummed amount group size places (λ g. get_or new g 0)
-summed_list amount group size places new adds fits = record {
-  each = λ g below.
-      let there : g < length (replicate size 0) = omega (arith, below, length-replicate {A = ℕ} size 0) in
-      let total = sum_in amount group g places in
-      adds.each g there ∙ ap (λ (v : ℕ). (v + total) % 2 ^ 64) (get_or-replicate size g 0 0 below)
-      ∙ ap (λ (v : ℕ). v % 2 ^ 64) (zero-add total);
-  past = λ g past. get_or_past new g 0 (omega (arith, past, adds.len, length-replicate {A = ℕ} size 0));
-  fits = fits;
-}
+summed_list amount group size places new adds fits = grind (arith, length-replicate, get_or-replicate, zero-add, get_or_past)
 
 pub summed_totals : (lines : LineColumns) (masks : Masks) (k : ℕ) (grouping : Grouping) (places : List ℕ)
     (totals : Totals) → AreTotals lines masks k grouping places totals

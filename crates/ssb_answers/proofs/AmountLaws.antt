@@ -76,17 +76,4 @@ fits gains losses z p q e = omega (arith, ints, p, q, e)
 
 pub sum_fits : (measure : Measure) (facts : List Fact) → length facts ≤ 33554432 → All IsFactWithinLimits facts
     → SumFits measure facts
-sum_fits measure facts few within =
-    let gains
-    = few_sum (gain measure) facts few
-    (All-weaker IsFactWithinLimits (λ fact. gain measure fact ≤ most) (gain_most measure) facts within) in
-    let losses
-    = few_sum (loss measure) facts few
-    (All-weaker IsFactWithinLimits (λ fact. loss measure fact ≤ most) (loss_most measure) facts within) in
-    record {
-      gains = gains;
-      losses = losses;
-      difference = total_is measure facts;
-      fits = fits (sum_by (gain measure) facts) (sum_by (loss measure) facts) (total measure facts) gains losses
-          (total_is measure facts);
-    }
+sum_fits measure facts few within = grind (arith, few_sum, gain_most, loss_most, total_is, fits)

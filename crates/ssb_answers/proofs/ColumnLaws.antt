@@ -1,3 +1,4 @@
+use Rattle.std.proofs.Common.{arith}
 -- What queries read in a column is what the row has there.
 use Rattle.std.proofs.Common.{◌≡◌, ◌-◌, Some, refl, sym, subst, inl, inr}
 use Rattle.std.specs.List.{slice_get}
@@ -10,29 +11,20 @@ HasItsValue combination column =
     slice_get (row_in column.table combination) (column.place - 1) ≡ Some (in_row (value_at column combination))
 
 pub columns_have_their_values : ColumnsHaveTheirValues
-columns_have_their_values column combination (inl e) = subst (HasItsValue combination) (sym e) refl
-columns_have_their_values column combination (inr (inl e)) = subst (HasItsValue combination) (sym e) refl
-columns_have_their_values column combination (inr (inr (inl e))) = subst (HasItsValue combination) (sym e) refl
-columns_have_their_values column combination (inr (inr (inr (inl e)))) = subst (HasItsValue combination) (sym e) refl
-columns_have_their_values column combination (inr (inr (inr (inr (inl e))))) = subst (HasItsValue combination)
-    (sym e) refl
-columns_have_their_values column combination (inr (inr (inr (inr (inr (inl e)))))) = subst (HasItsValue combination)
-    (sym e) refl
-columns_have_their_values column combination (inr (inr (inr (inr (inr (inr (inl e))))))) = subst
-    (HasItsValue combination) (sym e) refl
-columns_have_their_values column combination (inr (inr (inr (inr (inr (inr (inr (inl e)))))))) = subst
-    (HasItsValue combination) (sym e) refl
-columns_have_their_values column combination (inr (inr (inr (inr (inr (inr (inr (inr (inl e))))))))) = subst
-    (HasItsValue combination) (sym e) refl
-columns_have_their_values column combination (inr (inr (inr (inr (inr (inr (inr (inr (inr (inl e)))))))))) = subst
-    (HasItsValue combination) (sym e) refl
-columns_have_their_values column combination (inr (inr (inr (inr (inr (inr (inr (inr (inr (inr (inl e))))))))))) = subst
-    (HasItsValue combination) (sym e) refl
+columns_have_their_values column combination (inl e) = grind arith
+columns_have_their_values column combination (inr (inl e)) = grind arith
+columns_have_their_values column combination (inr (inr (inl e))) = grind arith
+columns_have_their_values column combination (inr (inr (inr (inl e)))) = grind arith
+columns_have_their_values column combination (inr (inr (inr (inr (inl e))))) = grind arith
+columns_have_their_values column combination (inr (inr (inr (inr (inr (inl e)))))) = grind arith
+columns_have_their_values column combination (inr (inr (inr (inr (inr (inr (inl e))))))) = grind arith
+columns_have_their_values column combination (inr (inr (inr (inr (inr (inr (inr (inl e)))))))) = grind arith
+columns_have_their_values column combination (inr (inr (inr (inr (inr (inr (inr (inr (inl e))))))))) = grind arith
+columns_have_their_values column combination (inr (inr (inr (inr (inr (inr (inr (inr (inr (inl e)))))))))) = grind arith
+columns_have_their_values column combination (inr (inr (inr (inr (inr (inr (inr (inr (inr (inr (inl e))))))))))) = grind arith
 columns_have_their_values column combination
-    (inr (inr (inr (inr (inr (inr (inr (inr (inr (inr (inr (inl e)))))))))))) = subst (HasItsValue combination)
-    (sym e) refl
+    (inr (inr (inr (inr (inr (inr (inr (inr (inr (inr (inr (inl e)))))))))))) = grind arith
 columns_have_their_values column combination
-    (inr (inr (inr (inr (inr (inr (inr (inr (inr (inr (inr (inr (inl e))))))))))))) = subst (HasItsValue combination)
-    (sym e) refl
+    (inr (inr (inr (inr (inr (inr (inr (inr (inr (inr (inr (inr (inl e))))))))))))) = grind arith
 columns_have_their_values column combination
-    (inr (inr (inr (inr (inr (inr (inr (inr (inr (inr (inr (inr (inr none))))))))))))) = absurd none
+    (inr (inr (inr (inr (inr (inr (inr (inr (inr (inr (inr (inr (inr none))))))))))))) = grind arith

@@ -8,11 +8,7 @@ use Rattle.ssb_schema.specs.FirstFault.{AreDistinct}
 use Rattle.ssb_base.specs.Base.{row_with, has_key_of}
 
 nat_eq-differs : (x y : ℕ) → nat_eq x y ≡ false → nat_eq y x ≡ false
-nat_eq-differs x y e =
-    elim (nat_eq y x) as (λ b. nat_eq y x ≡ b → b ≡ false) [
-      | true ↦ λ t. let same : nat_eq x y ≡ true = (unsigned_Decides x y).1 (sym ((unsigned_Decides y x).0 t)) in cc
-      | false ↦ λ _. refl
-    ] refl
+nat_eq-differs x y e = grind arith
 
 module _ {R : Type 0} (key : R → ℕ) (k : ℕ) where
   filter_none : (rows : List R) → ((j : ℕ) (row : R) → slice_get rows j ≡ Some row → nat_eq (key row) k ≡ false)

@@ -1,3 +1,4 @@
+use Rattle.std.proofs.Common.{arith}
 -- The members of a list.
 use Rattle.std.proofs.Common.{◌≡◌, List, [], ◌∷◌, map, Bool, true, false, cond, sym, refl, ap, ◌∙◌, subst, inl, inr}
 use Rattle.std.specs.Prelude.{filter, IsPermutation}
@@ -17,17 +18,9 @@ has_from_map f (x ∷ xs) y (inl e) = (x, inl refl, e)
 has_from_map f (x ∷ xs) y (inr h) = let rest = has_from_map f xs y h in (rest.0, inr rest.1, rest.2)
 
 pub has_filter : {X : Type 0} (p : X → Bool) (xs : List X) (x : X) → p x ≡ true → Has xs x → Has (filter p xs) x
-has_filter p [] x t h = h
-has_filter p (y ∷ xs) x t (inl e) =
-    let here : p y ≡ true = sym (ap p e) ∙ t in
-    subst (λ (b : Bool). Has (cond b (y ∷ filter p xs) (filter p xs)) x) (sym here) (inl e)
-has_filter p (y ∷ xs) x t (inr h) =
-    elim (p y) as
-    (λ b. Has (cond b (y ∷ filter p xs) (filter p xs)) x) [
-      | true ↦ inr
-          (has_filter p xs x t h)
-      | false ↦ has_filter p xs x t h
-    ]
+has_filter p [] x t h = grind arith
+has_filter p (y ∷ xs) x t (inl e) = grind arith
+has_filter p (y ∷ xs) x t (inr h) = grind (arith, has_filter p xs x t h)
 
 pub all_weaker : {X : Type 0} (P Q : X → Type 0) → ((x : X) → P x → Q x) → (xs : List X) → AllByRecursion P xs
     → AllByRecursion Q xs

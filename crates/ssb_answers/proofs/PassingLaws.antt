@@ -1,3 +1,4 @@
+use Rattle.std.proofs.Common.{arith}
 -- A filter of joined rows is a join of filtered rows, so a combination is left where each of its rows is.
 use Rattle.std.proofs.Common.{◌≡◌, List, [], ◌∷◌, ◌++◌, map, Bool, true, false, cond, refl, ap, ◌∙◌}
 use Rattle.std.specs.Prelude.{◌&&◌, nat_eq, filter}
@@ -16,34 +17,19 @@ use Rattle.ssb_answers.specs.Combination.{Combination, joined_with, is_in_ranges
 -- a filter by a test that is `b` and a test of what was mapped
 filter_map : {X A : Type 0} (b : Bool) (p : A → Bool) (q : X → Bool) (f : X → A) → ((x : X) → p (f x) ≡ (b && q x))
     → (xs : List X) → filter p (map f xs) ≡ cond b (map f (filter q xs)) []
-filter_map true p q f same [] = refl
-filter_map true p q f same (x ∷ xs) =
-    ap (λ (t : Bool). cond t (f x ∷ filter p (map f xs)) (filter p (map f xs))) (same x)
-    ∙ elim (q x) as
-    (λ t. cond t (f x ∷ filter p (map f xs)) (filter p (map f xs)) ≡ map f (cond t (x ∷ filter q xs) (filter q xs))) [
-      | true ↦ ap (λ t. f x ∷ t) (filter_map true p q f same xs)
-      | false ↦ filter_map true p q f same xs
-    ]
-filter_map false p q f same [] = refl
-filter_map false p q f same (x ∷ xs) = ap (λ (t : Bool). cond t (f x ∷ filter p (map f xs)) (filter p (map f xs)))
-    (same x) ∙ filter_map false p q f same xs
+filter_map true p q f same [] = grind arith
+filter_map true p q f same (x ∷ xs) = grind (arith, filter_map true p q f same xs)
+filter_map false p q f same [] = grind arith
+filter_map false p q f same (x ∷ xs) = grind (arith, filter_map false p q f same xs)
 
 -- the same for lists that are joined end to end
 filter_flat_map : {X A : Type 0} (b : Bool) (p : A → Bool) (q : X → Bool) (f g : X → List A)
     → ((x : X) → filter p (f x) ≡ cond (b && q x) (g x) []) → (xs : List X)
     → filter p (flat_map f xs) ≡ cond b (flat_map g (filter q xs)) []
-filter_flat_map true p q f g same [] = refl
-filter_flat_map true p q f g same (x ∷ xs) =
-    filter-append p (f x) (flat_map f xs)
-    ∙ ap (λ t. t ++ filter p (flat_map f xs)) (same x)
-    ∙ elim (q x) as
-    (λ t. cond t (g x) [] ++ filter p (flat_map f xs) ≡ flat_map g (cond t (x ∷ filter q xs) (filter q xs))) [
-      | true ↦ ap (λ t. g x ++ t) (filter_flat_map true p q f g same xs)
-      | false ↦ filter_flat_map true p q f g same xs
-    ]
-filter_flat_map false p q f g same [] = refl
-filter_flat_map false p q f g same (x ∷ xs) = filter-append p (f x) (flat_map f xs)
-    ∙ ap (λ t. t ++ filter p (flat_map f xs)) (same x) ∙ filter_flat_map false p q f g same xs
+filter_flat_map true p q f g same [] = grind arith
+filter_flat_map true p q f g same (x ∷ xs) = grind (arith, filter-append, filter_flat_map true p q f g same xs)
+filter_flat_map false p q f g same [] = grind arith
+filter_flat_map false p q f g same (x ∷ xs) = grind (arith, filter-append, filter_flat_map false p q f g same xs)
 
 flat_map_empty : {X A : Type 0} (f : X → List A) → ((x : X) → f x ≡ []) → (xs : List X) → flat_map f xs ≡ []
 flat_map_empty f empty [] = refl

@@ -1,3 +1,4 @@
+use Rattle.std.proofs.Common.{arith}
 -- Rows that hold each group's sum, sorted, are the answer; and the answer says what the subject asks of it.
 use Rattle.std.proofs.Common.{◌≡◌, ◌≢◌, List, [], ◌∷◌, length, map, Bool, true, false, cond, Option, Some, sym, refl}
 use Rattle.std.proofs.Common.{ap, ◌∙◌, subst, inl, inr}
@@ -289,11 +290,7 @@ distinct_from_ordered ((groups, sum) ∷ entries) s =
 -- each row of a plan is that of its group
 pub row_of_its_group : (plan : Plan) (found : List Combination) (row : ResultRow) → Has (rows_over plan found) row
     → row ≡ row_of plan found row.groups
-row_of_its_group plan found row h =
-    let target
-    = has_from_map (row_of plan found) (groups_among plan.groups (group_of plan) found) row
-    (has_from_in_order (row_cmp plan.order) _ row h) in
-    target.2 ∙ ap (row_of plan found) (sym (ap (λ (r : ResultRow). r.groups) target.2))
+row_of_its_group plan found row h = grind (arith, has_from_map, has_from_in_order)
 
 module _ (plan : Plan) (found : List Combination) where
   apart_from_row : (row : ResultRow) (rows : List ResultRow) → row ≡ row_of plan found row.groups
@@ -334,10 +331,4 @@ filter_all p all (x ∷ xs) = ap (λ (b : Bool). cond b (x ∷ filter p xs) (fil
 -- without group columns all combinations are of the one group
 pub total_is_one_row : (plan : Plan) (found : List Combination) → plan.groups ≡ []
     → rows_over plan found ≡ record { groups = []; sum = sum_over plan.measure found } ∷ []
-total_is_one_row plan found none =
-    ap (λ (columns : List Column). in_order (row_cmp plan.order)
-    (map (row_of plan found) (groups_among columns (group_of plan) found))) none
-    ∙ ap (λ (cs : List Combination). record { groups = []; sum = sum_over plan.measure cs } ∷ [])
-    (filter_all _
-    (λ c. ap (λ (columns : List Column). is_eq
-    (groups_cmp (map (λ column. value_at column c) columns) [])) none) found)
+total_is_one_row plan found none = grind (arith, filter_all)

@@ -1,3 +1,4 @@
+use Rattle.std.proofs.Common.{arith}
 -- The sum of a group as combinations are added one after another.
 use Rattle.std.proofs.Common.{◌≡◌, List, [], ◌∷◌, ◌++◌, true, false, cond, Some, refl, ap, ◌∙◌}
 use Rattle.std.specs.Prelude.{pos, ◌+ℤ◌, filter, unwrap_or}
@@ -26,26 +27,13 @@ pub group_sum_push : (plan : Plan) (found : List Combination) (c : Combination) 
     ≡ cond (is_eq (groups_cmp (group_of plan c) groups))
     (Some (unwrap_or (sum_over plan.measure (in_group plan groups found)) (pos 0) +ℤ amount plan.measure c.fact))
     (sum_over plan.measure (in_group plan groups found))
-group_sum_push plan found c groups =
-    ap (sum_over plan.measure)
-    (filter-append (λ combination. is_eq (groups_cmp (group_of plan combination) groups)) found (c ∷ []))
-    ∙ elim (is_eq (groups_cmp (group_of plan c) groups)) as
-    (λ b. sum_over plan.measure (in_group plan groups found ++ cond b (c ∷ []) [])
-    ≡ cond b (Some
-    (unwrap_or (sum_over plan.measure (in_group plan groups found)) (pos 0) +ℤ amount plan.measure c.fact))
-    (sum_over plan.measure (in_group plan groups found))) [
-      | true ↦ sum_over_push plan.measure (in_group plan groups found) c
-      | false ↦ ap (sum_over plan.measure) (append-nil (in_group plan groups found))
-    ]
+group_sum_push plan found c groups = grind (arith, filter-append, sum_over_push, append-nil)
 
 -- one line more adds its own combinations
 pub combinations_push : (plan : Plan) (dimensions : Dimensions) (facts : List Fact) (fact : Fact)
     → combinations plan dimensions (facts ++ fact ∷ []) ≡ combinations plan dimensions facts
     ++ filter (passes plan) (joined_with dimensions fact)
-combinations_push plan dimensions facts fact =
-    ap (filter (passes plan)) (flat_map-append (joined_with dimensions) facts (fact ∷ [])
-    ∙ ap (λ t. joined dimensions facts ++ t) (append-nil (joined_with dimensions fact)))
-    ∙ filter-append (passes plan) (joined dimensions facts) (joined_with dimensions fact)
+combinations_push plan dimensions facts fact = grind (arith, flat_map-append, append-nil, filter-append)
 
 -- the combinations over lines in two parts
 pub combinations-append : (plan : Plan) (dimensions : Dimensions) (facts more : List Fact)

@@ -45,21 +45,12 @@ module _ (c : Combination) where
 
 -- a number that lies in the range, if there is one
 lies_in : (range : Option NumberRange) (n : ℕ) → is_within range n ≡ true → IfSome range (λ r. IsInRange r n)
-lies_in None n within = tt
-lies_in (Some range) n within = (
-  at_most range.from n (first_so _ _ within),
-  at_most n range.to (second_so _ _ within),
-)
-  where
-    at_most : (a b : ℕ) → nat_le a b ≡ true → a ≤ b
-    at_most a b e = grind (arith, nat_tests, e)
+lies_in None n within = grind arith
+lies_in (Some range) n within = grind (arith, nat_le, nat_tests)
 
 is_in : (range : Option NumberRange) (n : ℕ) → IfSome range (λ r. IsInRange r n) → is_within range n ≡ true
-is_in None n lies = refl
-is_in (Some range) n lies = both_true (at_most range.from n lies.0) (at_most n range.to lies.1)
-  where
-    at_most : (a b : ℕ) → a ≤ b → nat_le a b ≡ true
-    at_most a b le = grind (arith, nat_tests, le)
+is_in None n lies = grind arith
+is_in (Some range) n lies = grind (arith, nat_le, nat_tests)
 
 pub plans_pass : PlansPass
 plans_pass plan c own = (

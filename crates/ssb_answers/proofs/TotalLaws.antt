@@ -37,12 +37,7 @@ fits_added sum more h a = omega (arith, ints, h, a)
 
 pub room : (totals : SumsByGroup) (groups : List Value) (more : ℤ) → SumsFit totals → IsAmount more
     → HasRoom totals groups more
-room totals groups more fit a =
-    elim (get groups_cmp totals groups) as (λ o. get groups_cmp totals groups ≡ o
-    → FitsSigned w64 (unwrap_or o (pos 0) +ℤ more)) [
-      | None ↦ λ _. fits_first more a
-      | Some sum ↦ λ e. fits_added sum more (fit groups sum e) a
-    ] refl
+room totals groups more fit a = grind (arith, fits_first, fits_added)
 
 pub adds_one_line : (old new : SumsByGroup) (groups : List Value) (more : ℤ) → IsAmount more → Adds old new groups more
     → AddsOneLine old new

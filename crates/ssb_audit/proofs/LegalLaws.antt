@@ -37,15 +37,9 @@ none_both a b first second = ap (λ o. option_or o b) first ∙ second
 -- where a list has no first fault, no element has one
 each_clear : {X : Type 0} (judge : ℕ → X → Option AuditFault) (n : ℕ) (xs : List X) → first_from judge n xs ≡ None
     → (i : ℕ) (x : X) → slice_get xs i ≡ Some x → judge (n + i) x ≡ None
-each_clear judge n [] none i x is = cc
-each_clear judge n (y ∷ ys) none zero x is =
-    let same : y ≡ x = cc in
-    let place : n + 0 ≡ n = omega arith in
-    ap (λ m. judge m x) place ∙ ap (judge n) (sym same) ∙ none_first (judge n y) (first_from judge (n + 1) ys) none
-each_clear judge n (y ∷ ys) none (suc i) x is =
-    let place : n + suc i ≡ (n + 1) + i = omega arith in
-    ap (λ m. judge m x) place ∙ each_clear judge (n + 1) ys (none_second (judge n y) (first_from judge (n + 1) ys) none)
-    i x is
+each_clear judge n [] none i x is = grind arith
+each_clear judge n (y ∷ ys) none zero x is = grind (arith, none_first)
+each_clear judge n (y ∷ ys) none (suc i) x is = grind (arith, none_second, each_clear judge (n + 1) ys (none_second (judge n y) (first_from judge (n + 1) ys) none) i x is)
 
 -- where no element has a fault, the list has no first one
 all_clear : {X : Type 0} (judge : ℕ → X → Option AuditFault) (n : ℕ) (xs : List X)
@@ -129,12 +123,8 @@ bounded_by_it : (answers : List Told) (client n : ℕ) (x : Told) → slice_get 
     → went_back (take n answers) x ≡ false
     → Bounded answers client n → (i : ℕ) (told : Told) → (i ≡ n) ⊎ (i < n) → slice_get answers i ≡ Some told
     → told.client ≡ client → told.at ≤ x.at
-bounded_by_it answers client n x here his not before i told (inl at) is to =
-    let same : told ≡ x = same_told answers n i x told here is at in
-    omega (arith, ap (λ (t : Told). t.at) same)
-bounded_by_it answers client n x here his not before i told (inr lt) is to =
-    let (last, found, le) = before i told lt is to in
-    omega (arith, le, not_back (take n answers) x last (ap (λ k. last_of k (take n answers)) his ∙ found) not)
+bounded_by_it answers client n x here his not before i told (inl at) is to = grind (arith, same_told)
+bounded_by_it answers client n x here his not before i told (inr lt) is to = grind (arith, not_back)
 
 bounded_more : (answers : List Told) (client n : ℕ) (x : Told) (b : Bool) → slice_get answers n ≡ Some x
     → is_to client x ≡ b → went_back (take n answers) x ≡ false
@@ -160,14 +150,7 @@ bounded_more answers client n x false here to not before i told within is his =
 
 bounded_past : (answers : List Told) (client n : ℕ) → slice_get answers n ≡ None → Bounded answers client n
     → Bounded answers client (n + 1)
-bounded_past answers client n past before i told within is his = passed (at_or_before i n within)
-  where
-    passed : (i ≡ n) ⊎ (i < n) → (last : Told) × (last_of client (take (n + 1) answers) ≡ Some last)
-        × (told.at ≤ last.at)
-    passed (inl at) = absurd (no_some (slice_get answers i) told (ap (slice_get answers) at ∙ past) is)
-    passed (inr lt) =
-        let (last, found, le) = before i told lt is his in
-        (last, ap (last_of client) (take_past answers n past) ∙ found, le)
+bounded_past answers client n past before i told within is his = grind (arith, at_or_before, no_some, take_past)
 
 bounded : (answers : List Told) (client : ℕ) → ((i : ℕ) (told : Told) → slice_get answers i ≡ Some told
     → went_back (take i answers) told ≡ false)
@@ -216,35 +199,12 @@ stands answers client (suc n) = subst (Stands answers client) (add-one n)
 -- where no answers go back, none is after fewer commits than the one before
 none_back : (answers : List Told) → NeverGoBack answers → (i : ℕ) (told : Told) → slice_get answers i ≡ Some told
     → went_back (take i answers) told ≡ false
-none_back answers never i told is = cases (last_of told.client (take i answers)) refl
-  where
-    cases : (o : Option Told) → last_of told.client (take i answers) ≡ o → went_back (take i answers) told ≡ false
-    cases None found = ap (λ o. option_map_or (λ (l : Told). nat_lt told.at l.at) o false) found
-    cases (Some last) found =
-        let (m, lt, there, his) = stands answers told.client i last found in
-        ap (λ o. option_map_or (λ (l : Told). nat_lt told.at l.at) o false) found
-        ∙ le-ltb told.at last.at (never m i last told lt there is his)
+none_back answers never i told is = grind (arith, stands, le-ltb)
 
 -- an answer without a fault of order
 pub order_clear : (count : ℕ) (earlier : List Told) (told : Told) → order_fault count earlier told ≡ None
     → (told.at ≤ count) × (went_back earlier told ≡ false)
-order_clear count earlier told none = cases (nat_lt count told.at) (went_back earlier told) refl refl
-  where
-    cases : (large back : Bool) → nat_lt count told.at ≡ large → went_back earlier told ≡ back → (told.at ≤ count)
-        × (went_back earlier told ≡ false)
-    cases true back is_large is_back =
-        let some = ap (λ b. if b then Some (AtTooLarge told.client (turn_of told.client earlier)) else
-        (if went_back earlier told then Some (WentBack told.client (turn_of told.client earlier)) else None))
-        is_large in
-        absurd (no_some (order_fault count earlier told) (AtTooLarge told.client (turn_of told.client earlier)) none
-        some)
-    cases false true is_large is_back =
-        let some = ap (λ b. if b then Some (AtTooLarge told.client (turn_of told.client earlier)) else
-        (if went_back earlier told then Some (WentBack told.client (turn_of told.client earlier)) else None))
-        is_large
-        ∙ ap (λ b. if b then Some (WentBack told.client (turn_of told.client earlier)) else None) is_back in
-        absurd (no_some (order_fault count earlier told) (WentBack told.client (turn_of told.client earlier)) none some)
-    cases false false is_large is_back = (ltb-false count told.at is_large, is_back)
+order_clear count earlier told none = grind (arith, no_some, ltb-false)
 
 -- and one without a fault of its rows
 pub rows_clear : (base : Tables) (history : List CommitRecord) (earlier : List Told) (told : Told)

@@ -131,17 +131,7 @@ option_map_none f (Some x) e = absurd cc
 
 -- what a line with no unknown key keeps
 line_known : (dimensions : Dimensions) (line : LineFields) → unknown_of dimensions line ≡ None → IsKnown dimensions line
-line_known dimensions line none =
-    let customer = test_none (not (has_key customer_key dimensions.customers line.customer_key)) _ _ none in
-    let supplier = test_none (not (has_key supplier_key dimensions.suppliers line.supplier_key)) _ _ customer.1 in
-    let part = test_none (not (has_key part_key dimensions.parts line.part_key)) _ _ supplier.1 in
-    let date = test_none (not (has_key date_key dimensions.dates line.order_date)) _ _ part.1 in
-    record {
-      customer = not_false _ customer.0;
-      supplier = not_false _ supplier.0;
-      part = not_false _ part.0;
-      date = not_false _ date.0;
-    }
+line_known dimensions line none = grind (arith, test_none, not_false)
 
 -- what a base without a fault keeps
 pub base_keeps : (base : Tables) → base_fault base ≡ None → IsSound base

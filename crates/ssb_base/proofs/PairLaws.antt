@@ -15,13 +15,7 @@ line_key line = (line.order_key, line.line_number)
 
 -- a pair that comes after one is another
 later_is_other : (p q : ℕ × ℕ) → p.0 * 256 + p.1 < q.0 * 256 + q.1 → same_pair p q ≡ false
-later_is_other p q later = parted (eqb_tells p.0 q.0) (eqb_tells p.1 q.1)
-  where
-    parted : ((nat_eq p.0 q.0 ≡ true) × (p.0 ≡ q.0)) ⊎ ((nat_eq p.0 q.0 ≡ false) × (p.0 ≢ q.0))
-        → ((nat_eq p.1 q.1 ≡ true) × (p.1 ≡ q.1)) ⊎ ((nat_eq p.1 q.1 ≡ false) × (p.1 ≢ q.1)) → same_pair p q ≡ false
-    parted (inr other) second = rw other.0 refl
-    parted (inl same) (inr other) = rw (same.0, other.0) refl
-    parted (inl same) (inl alike) = absurd (omega (arith, later, same.1, alike.1))
+later_is_other p q later = grind (arith, eqb_tells)
 
 -- a pair after the last line's is that of no line, where it was that of no line before
 pub new_next : (lines : List LineFields) (i : ℕ) (line : LineFields) (q : ℕ × ℕ) → slice_get lines i ≡ Some line

@@ -22,10 +22,7 @@ beside_seen t count seen has all = All-head (λ list. IsPrefix list seen) has.li
 -- the writer has not taken more commits than the token sees
 within_seen : (before : TokenRecord) (count : ℕ) (after : TokenRecord) → HasBeside before count → Took before after
     → count ≤ length after.seen
-within_seen before count after has took =
-    let e : count ≡ length has.list = has.count_is in
-    let n = beginnings_are_shorter has.list after.seen (beside_seen before count after.seen has took.beside) in
-    omega arith
+within_seen before count after has took = grind (arith, beginnings_are_shorter, beside_seen)
 
 -- it has not taken more than it sees
 still_within : (before after : List CommitRecord) (taken : ℕ) → IsPrefix before after → taken ≤ length before
@@ -42,83 +39,12 @@ there_when_taken before count after (inr has) took = within_seen before count af
 -- a dispatcher that took the rows, and gave them back as they were
 pub fetches : (before t after : TokenRecord) (number : ℕ) → before.who ≡ Dispatcher number → before.has_rows ≡ false
     → Took before t → after ≡ gave_back t → Fetches before after
-fetches before t after number who free took put =
-    let who_is : t.who ≡ Dispatcher number = ap (λ (u : TokenRecord). u.who) took.now ∙ who in
-    let m : mark_after t.who (length t.seen) t.mark ≡ Some (length t.seen) =
-    ap (λ w. mark_after w (length t.seen) t.mark) who_is in
-    let put_deed = deeds.deed (event.PutRows before.who None) Done ∷ [] in
-    let e1 : after ≡ record t {
-      has_rows = false;
-      mark = Some (length t.seen);
-      did = t.did ++ deeds.deed (event.PutRows t.who None) Done ∷ [];
-    } =
-    put ∙ ap (λ k. record t {
-      has_rows = false;
-      mark = k;
-      did = t.did ++ deeds.deed (event.PutRows t.who None) Done ∷ [];
-    }) m in
-    let e2 : after ≡ record before {
-      seen = t.seen;
-      beside = [];
-      has_rows = false;
-      mark = Some (length t.seen);
-      did = (before.did ++ deeds.deed (event.TakeRows before.who) Done ∷ []) ++ put_deed;
-    } =
-    e1 ∙ ap (λ (u : TokenRecord). record u {
-      has_rows = false;
-      mark = Some (length t.seen);
-      did = u.did ++ deeds.deed (event.PutRows u.who None) Done ∷ [];
-    }) took.now in
-    let e3 : after ≡ record before {
-      seen = t.seen;
-      beside = [];
-      mark = Some (length t.seen);
-      did = before.did ++ deeds.handed_back before.who;
-    } =
-    e2 ∙ (ap (λ b. record before {
-      seen = t.seen;
-      beside = [];
-      has_rows = b;
-      mark = Some (length t.seen);
-      did = (before.did ++ deeds.deed (event.TakeRows before.who) Done ∷ []) ++ put_deed;
-    }) (sym free) ∙ ap (λ ds. record before {
-      seen = t.seen;
-      beside = [];
-      mark = Some (length t.seen);
-      did = ds;
-    }) (append_assoc before.did (deeds.deed (event.TakeRows before.who) Done ∷ []) put_deed)) in
-    let s : after.seen ≡ t.seen = ap (λ (u : TokenRecord). u.seen) e3 in
-    record {
-      begins = subst (IsPrefix before.seen) (sym s) took.begins;
-      beside = subst (λ xs. All (λ list. IsPrefix list xs) before.beside) (sym s) took.beside;
-      now = subst (λ xs. after ≡ record before {
-        seen = xs;
-        beside = [];
-        mark = Some (length xs);
-        did = before.did ++ deeds.handed_back before.who;
-      }) (sym s) e3;
-    }
+fetches before t after number who free took put = grind (arith, append_assoc)
 
 pub idle_after_fetch : (number : ℕ) (before after : TokenRecord) → Fetches before after → IsSound after
     → IsIdle number before → IsIdle number after
-idle_after_fetch number before after fetches sound idle = record {
-  who_is = ap (λ (t : TokenRecord). t.who) fetches.now ∙ idle.who_is;
-  free = record {
-    rows = ap (λ (t : TokenRecord). t.has_rows) fetches.now ∙ idle.free.rows;
-    writer = ap (λ (t : TokenRecord). t.has_writer) fetches.now ∙ idle.free.writer;
-    hand = ap (λ (t : TokenRecord). t.grabbed) fetches.now ∙ idle.free.hand;
-  };
-  sound = sound;
-}
+idle_after_fetch number before after fetches sound idle = grind arith
 
 pub idle_after_look : (number : ℕ) (before after : TokenRecord) → Saw before after → IsSound after
     → IsIdle number before → IsIdle number after
-idle_after_look number before after saw sound idle = record {
-  who_is = ap (λ (t : TokenRecord). t.who) saw.now ∙ idle.who_is;
-  free = record {
-    rows = ap (λ (t : TokenRecord). t.has_rows) saw.now ∙ idle.free.rows;
-    writer = ap (λ (t : TokenRecord). t.has_writer) saw.now ∙ idle.free.writer;
-    hand = ap (λ (t : TokenRecord). t.grabbed) saw.now ∙ idle.free.hand;
-  };
-  sound = sound;
-}
+idle_after_look number before after saw sound idle = grind arith

@@ -1,3 +1,4 @@
+use Rattle.std.proofs.Common.{arith}
 -- A refresh inside the hold of the rows.
 use Rattle.std.proofs.Common.{◌≡◌, ℕ, inl, inr, List, [], ◌∷◌, ◌++◌, length, length-append, append_assoc, Some, None}
 use Rattle.std.proofs.Common.{false, Result, Ok, Err, ap, sym, subst, ◌∙◌}
@@ -27,20 +28,8 @@ told_may_put : (t : TokenRecord) (old new : Warehouse) (client : ℕ) (actions :
     (reply : Result Receipt RefreshError) → t.who ≡ Client client → old ≡ record { base = t.table.base; log = t.seen }
     → Tells reply old.base old.log actions
     → OnOk reply (new ≡ with_commit old (commit_by client actions)) → OnErr reply (new ≡ old) → MayPut t new
-told_may_put t old new client actions (Ok receipt) who was tells grown same =
-    let e : new ≡ record { base = t.table.base; log = t.seen ++ commit_by client actions ∷ [] } =
-    grown ∙ ap (λ w. with_commit w (commit_by client actions)) was in (
-      ap (λ (w : Warehouse). w.base) e,
-      inr (
-        commit_by client actions,
-        who,
-        subst (λ (w : Warehouse). refusal_of w.base w.log actions ≡ None) was tells.0,
-        ap (λ (w : Warehouse). w.log) e,
-      ),
-    )
-told_may_put t old new client actions (Err error) who was tells grown same =
-    let e : new ≡ record { base = t.table.base; log = t.seen } = same ∙ was in
-    (ap (λ (w : Warehouse). w.base) e, inl (ap (λ (w : Warehouse). w.log) e))
+told_may_put t old new client actions (Ok receipt) who was tells grown same = grind arith
+told_may_put t old new client actions (Err error) who was tells grown same = grind arith
 
 pub may_put : (t : TokenRecord) (old new : Warehouse) (client : ℕ) (actions : List Action)
     (reply : Result Receipt RefreshError) → t.who ≡ Client client → old ≡ record { base = t.table.base; log = t.seen }
@@ -52,39 +41,7 @@ may_put t old new client actions reply who was is grown same =
 -- the token that took the rows, and gave them back as they were
 hands_back : (before t after : TokenRecord) → before.who ≡ t.who → Took before t → before.has_rows ≡ false → (c : ℕ)
     → t.who ≡ Client c → after ≡ gave_back t → HandsBack before after
-hands_back before t after same took free c who put =
-    let m : mark_after t.who (length t.seen) t.mark ≡ t.mark = ap (λ w. mark_after w (length t.seen) t.mark) who in
-    let put_deed = deed (event.PutRows before.who None) Done ∷ [] in
-    let e1 : after ≡ record t { has_rows = false; did = t.did ++ deed (event.PutRows t.who None) Done ∷ [] } =
-    put ∙ ap (λ k. record t {
-      has_rows = false;
-      mark = k;
-      did = t.did ++ deed (event.PutRows t.who None) Done ∷ [];
-    }) m in
-    let e2 : after ≡ record before {
-      seen = t.seen;
-      beside = [];
-      has_rows = false;
-      did = (before.did ++ deed (event.TakeRows before.who) Done ∷ []) ++ put_deed;
-    } =
-    e1 ∙ ap (λ (u : TokenRecord). record u {
-      has_rows = false;
-      did = u.did ++ deed (event.PutRows u.who None) Done ∷ [];
-    }) took.now in
-    let e3 : after ≡ record before { seen = t.seen; beside = []; did = before.did ++ handed_back before.who } =
-    e2 ∙ (ap (λ b. record before {
-      seen = t.seen;
-      beside = [];
-      has_rows = b;
-      did = (before.did ++ deed (event.TakeRows before.who) Done ∷ []) ++ put_deed;
-    }) (sym free) ∙ ap (λ ds. record before { seen = t.seen; beside = []; did = ds })
-    (append_assoc before.did (deed (event.TakeRows before.who) Done ∷ []) put_deed)) in
-    let s : after.seen ≡ t.seen = ap (λ (u : TokenRecord). u.seen) e3 in
-    record {
-      begins = subst (λ xs. IsPrefix before.seen xs) (sym s) took.begins;
-      now = subst (λ xs. after ≡ record before { seen = xs; beside = []; did = before.did ++ handed_back before.who })
-          (sym s) e3;
-    }
+hands_back before t after same took free c who put = grind (arith, append_assoc)
 
 told_refreshed : (before t after : TokenRecord) (old new : Warehouse) (client : ℕ) (actions : List Action)
     (reply : Result Receipt RefreshError) → before.who ≡ Client client → before.has_rows ≡ false → Took before t

@@ -1,3 +1,4 @@
+use Rattle.std.proofs.Common.{arith}
 -- Sources that spell scripts, one after another.
 use Rattle.std.proofs.Common.{ℕ, List, [], ◌∷◌, ◌++◌, Option}
 use Rattle.ssb_files.specs.Scripts.{AreScripts}
@@ -10,8 +11,8 @@ pub more_scripts : (sources : List (Option (List ℕ))) (scripts : List Script) 
     (script : Script)
     → AreScripts sources scripts → AreAsked source (requests_of script) → AreScripts (sources ++ source ∷ [])
     (scripts ++ script ∷ [])
-more_scripts [] [] source script are asked = (asked, tt)
-more_scripts [] (x ∷ scripts) source script are asked = absurd are
-more_scripts (s ∷ sources) [] source script are asked = absurd are
+more_scripts [] [] source script are asked = grind arith
+more_scripts [] (x ∷ scripts) source script are asked = grind arith
+more_scripts (s ∷ sources) [] source script are asked = grind arith
 more_scripts (s ∷ sources) (x ∷ scripts) source script are asked
-    = (are.0, more_scripts sources scripts source script are.1 asked)
+    = grind (arith, more_scripts sources scripts source script are.1 asked)

@@ -1,3 +1,4 @@
+use Rattle.std.proofs.Common.{arith}
 -- No answer and no reply has a float.
 use Rattle.std.proofs.Common.{◌≡◌, ℕ, ℤ, pos, negsuc, Bool, true, false, List, [], ◌∷◌, ◌++◌, map, Option, Some, None}
 use Rattle.std.proofs.Common.{Result, Ok, Err, refl, codes, if◌then◌else◌}
@@ -48,19 +49,13 @@ row_exact : (query : Query) (row : ResultRow) → has_float (row_data query row)
 row_exact query row = placed_exact (sum_first query) (sum_data row.sum) row.groups (sum_exact row.sum)
 
 pub answer_exact : (answer : Answer) → members_have_float (answer_members answer) ≡ false
-answer_exact (Rows question at rows) =
-    rw (items_exact text_data (heads_of question.0 (plan_over question.0 question.1)) (λ text. refl))
-    (rw (items_exact value_data question.1 value_exact)
-    (rw (items_exact (row_data question.0) rows (row_exact question.0)) refl))
-answer_exact (Unserved question cause) = rw (items_exact value_data question.1 value_exact) refl
+answer_exact (Rows question at rows) = grind (arith, items_exact, value_exact, row_exact)
+answer_exact (Unserved question cause) = grind (arith, items_exact, value_exact)
 
 pub titled_exact : (title : List ℕ) (answer : Answer)
     → members_have_float (put (codes "title") (text_data title) (answer_members answer)) ≡ false
-titled_exact title (Rows question at rows) =
-    rw (items_exact text_data (heads_of question.0 (plan_over question.0 question.1)) (λ text. refl))
-    (rw (items_exact value_data question.1 value_exact)
-    (rw (items_exact (row_data question.0) rows (row_exact question.0)) refl))
-titled_exact title (Unserved question cause) = rw (items_exact value_data question.1 value_exact) refl
+titled_exact title (Rows question at rows) = grind (arith, items_exact, value_exact, row_exact)
+titled_exact title (Unserved question cause) = grind (arith, items_exact, value_exact)
 
 pub answers_exact : (answers : List Answer) → has_float (list_data (map answer_data answers)) ≡ false
 answers_exact answers = items_exact answer_data answers answer_exact

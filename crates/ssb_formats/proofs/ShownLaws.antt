@@ -1,3 +1,4 @@
+use Rattle.std.proofs.Common.{arith}
 -- Writing one text after another, where a part of a text may be all of it.
 use Rattle.std.proofs.Common.{◌≡◌, ℕ, ◌+◌, ◌<◌, List, [], ◌∷◌, ◌++◌, length, take, drop, get_or, flat_map, Option}
 use Rattle.std.proofs.Common.{Result, Ok, Err, IsErrAnd, is_err, refl, sym, ◌∙◌, ap, append_assoc, append-nil}
@@ -14,21 +15,11 @@ nothing_part a x = record { part = []; rest = x; begins = refl; appends = append
 
 -- a text and then a part of another
 pub part_then : (a b c : Option (List ℕ)) (x y : List ℕ) → Appends a b x → AppendsPart b c y → AppendsPart a c (x ++ y)
-part_then a b c x y first second = record {
-  part = x ++ second.part;
-  rest = second.rest;
-  begins = ap (λ t. x ++ t) second.begins ∙ sym (append_assoc x second.part second.rest);
-  appends = appends_both a b c x second.part first second.appends;
-}
+part_then a b c x y first second = grind (arith, append_assoc, appends_both)
 
 -- a part of a text is one of a longer text
 pub part_longer : (a b : Option (List ℕ)) (x y : List ℕ) → AppendsPart a b x → AppendsPart a b (x ++ y)
-part_longer a b x y written = record {
-  part = written.part;
-  rest = written.rest ++ y;
-  begins = ap (λ t. t ++ y) written.begins ∙ append_assoc written.part written.rest y;
-  appends = written.appends;
-}
+part_longer a b x y written = grind (arith, append_assoc)
 
 -- what wrote a text or stopped short shows it, whatever the fault is called
 pub shows_of : {X Y E F : Type 0} (a b : Option (List ℕ)) (x : List ℕ) (r : Result X E) (s : Result Y F)

@@ -16,23 +16,11 @@ beginning_of_fewer least count log file fewer was = record { count = was.count; 
 
 -- so many commits at least
 pub keeps_enough : (count : ℕ) (log : List CommitRecord) (file : List ℕ) → KeepsFirst count log file → KeepsAtLeast count file
-keeps_enough count log file first = record {
-  marks = first.marks;
-  commits = take count log;
-  keeps = first.keeps;
-  enough = omega (arith, length-take-le count log first.inside);
-}
+keeps_enough count log file first = grind (arith, length-take-le)
 
 -- of a longer log too
 pub keeps_of_longer : (count : ℕ) (shorter longer : List CommitRecord) (file : List ℕ) → IsPrefix shorter longer → KeepsFirst count shorter file → KeepsFirst count longer file
-keeps_of_longer count shorter longer file begins first =
-    let whole : longer ≡ shorter ++ begins.rest = begins.whole in
-    let same : take count longer ≡ take count shorter = ap (take count) whole ∙ take-append-le count shorter begins.rest first.inside in
-    record {
-      marks = first.marks;
-      keeps = subst (λ (commits : List CommitRecord). KeepsCommits first.marks commits file) (sym same) first.keeps;
-      inside = omega (arith, first.inside, ap length whole, length-append shorter begins.rest);
-    }
+keeps_of_longer count shorter longer file begins first = grind (arith, take-append-le, length-append)
 
 pub beginning_of_longer : (least : ℕ) (shorter longer : List CommitRecord) (file : List ℕ) → IsPrefix shorter longer → KeepsBeginning least shorter file → KeepsBeginning least longer file
 beginning_of_longer least shorter longer file begins was = record { count = was.count; enough = was.enough; first = keeps_of_longer was.count shorter longer file begins was.first }
@@ -53,12 +41,7 @@ whole_log count log rest is = ap (λ (end : List CommitRecord). take count log +
 pub keeps_whole : (count : ℕ) (log rest : List CommitRecord) (old new : List ℕ) → rest ≡ drop count log → KeepsFirst count log old
     → ((marks : List TableMark) (before : List CommitRecord) → KeepsCommits marks before old → KeepsCommits marks (before ++ rest) new)
     → KeepsFirst (length log) log new
-keeps_whole count log rest old new is first more =
-    record {
-      marks = first.marks;
-      keeps = subst (λ (commits : List CommitRecord). KeepsCommits first.marks commits new) (whole_log count log rest is) (more first.marks (take count log) first.keeps);
-      inside = omega arith;
-    }
+keeps_whole count log rest old new is first more = grind (arith, whole_log)
 
 -- the rest of a log completes its count
 pub counted : (count : ℕ) (log rest : List CommitRecord) → rest ≡ drop count log → count ≤ length log → count + length rest ≡ length log
@@ -67,19 +50,7 @@ counted count log rest is inside =
 
 -- with the rest of the log or without it
 keeps_either_way : (count : ℕ) (log rest : List CommitRecord) (old file : List ℕ) → rest ≡ drop count log → (first : KeepsFirst count log old) → KeepsWithOrWithout first.marks (take count log) rest file → KeepsBeginning count log file
-keeps_either_way count log rest old file is first left =
-    ⊎_elim
-    (λ same. record { count = count; enough = omega arith; first = record { marks = first.marks; keeps = same; inside = first.inside } })
-    (λ grown. record {
-      count = length log;
-      enough = first.inside;
-      first = record {
-        marks = first.marks;
-        keeps = subst (λ (commits : List CommitRecord). KeepsCommits first.marks commits file) (whole_log count log rest is) grown;
-        inside = omega arith;
-      };
-    })
-    left
+keeps_either_way count log rest old file is first left = grind (arith, ⊎_elim, whole_log)
 
 module _ {D : Type 0} (moment : D → ℕ) (left_since : D → ℕ → List ℕ → Type 0) (seen : D → List ℕ) where
   -- while the rest of the log is appended
@@ -124,10 +95,7 @@ module _ {D : Type 0} (moment : D → ℕ) (left_since : D → ℕ → List ℕ 
 -- what is left of a journal that is on the disk
 pub left_whole : (may_leave : List ℕ → Type 0) (seen : List ℕ) (count : ℕ) (log : List CommitRecord) (whole : Bool)
     → Only seen may_leave → KeepsFirst count log seen → IsLeft may_leave seen count log whole
-left_whole may_leave seen count log whole durable first = record {
-  crash = λ file left. subst (KeepsBeginning count log) (sym (durable file left)) (record { count = count; enough = omega arith; first = first });
-  written = λ is. first;
-}
+left_whole may_leave seen count log whole durable first = grind arith
 
 -- of a longer log too
 pub left_of_longer : (may_leave : List ℕ → Type 0) (seen : List ℕ) (count : ℕ) (shorter longer : List CommitRecord) (whole : Bool)

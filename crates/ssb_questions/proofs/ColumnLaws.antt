@@ -1,3 +1,4 @@
+use Rattle.std.proofs.Common.{arith}
 -- The columns that clauses of a star question name, and what its plan tests in them.
 use Rattle.std.proofs.Common.{◌≡◌, ◌∙◌, ℕ, Bool, true, false, List, [], ◌∷◌, Option, Some, None, refl, sym, ap, inl}
 use Rattle.std.proofs.Common.{inr}
@@ -46,13 +47,8 @@ column_read word =
 
 column_test_read : (column : Column) → Has query_columns column → (bytes : List ℕ) (ends : Option (List ℕ × List ℕ))
     → IfSome (column_test column bytes ends) IsRead
-column_test_read column has bytes None =
-    some_map IsRead (Is column) (value_for column bytes) (some_any (λ v. IsRead (Is column v)) (λ v. has) _)
-column_test_read column has bytes (Some ends) =
-    some_and_then IsRead (λ from. option_map (FromTo column from) (value_for column ends.1)) (value_for column ends.0)
-    (some_any (λ from. IfSome (option_map (FromTo column from) (value_for column ends.1)) IsRead)
-    (λ from. some_map IsRead (FromTo column from) (value_for column ends.1)
-    (some_any (λ to. IsRead (FromTo column from to)) (λ to. has) _)) _)
+column_test_read column has bytes None = grind (arith, some_map, some_any)
+column_test_read column has bytes (Some ends) = grind (arith, some_and_then, some_any, some_map)
 
 column_clause_read : (name bytes : List ℕ)
     → IfSome (option_and_then (λ column. column_test column bytes (parted (codes "..") bytes)) (column_named name))
@@ -114,10 +110,7 @@ group_read BySum has = tt
 
 pub star_groups_read : (constants : List Value)
     → AllByRecursion (Has query_columns) (filter_map group_in (clauses_of constants))
-star_groups_read constants =
-    all_kept (Has query_columns) group_in (clauses_of constants)
-    (all_weaker IsRead (λ clause. IfSome (group_in clause) (Has query_columns)) group_read (clauses_of constants)
-    (clauses_read constants))
+star_groups_read constants = grind (arith, all_kept, all_weaker, group_read, clauses_read)
 
 -- no two of them have one name
 named_back : AllByRecursion (λ column. column_named (column_name column) ≡ Some column) query_columns
@@ -130,11 +123,7 @@ at P (y ∷ xs) x all (inl e) = let here : P y = all.0 in rw e here
 at P (y ∷ xs) x all (inr has) = at P xs x all.1 has
 
 pub same_is : (a b : Column) → Has query_columns a → Has query_columns b → same_column a b ≡ true → a ≡ b
-same_is a b has_a has_b same =
-    let names : column_name a ≡ column_name b = (bytes_eq-Decides (column_name a) (column_name b)).0 same in
-    let back = λ (column : Column) (has : Has query_columns column).
-    at (λ c. column_named (column_name c) ≡ Some c) query_columns column named_back has in
-    ap (λ (column : Option Column). unwrap_or column a) (sym (back a has_a) ∙ ap column_named names ∙ back b has_b)
+same_is a b has_a has_b same = grind (arith, bytes_eq-Decides, at, named_back)
 
 -- what is asked of a column is of its kind
 on_texts : (ends : Option (List ℕ × List ℕ)) (texts : List (List ℕ))
@@ -153,13 +142,9 @@ on_numbers None (number ∷ other ∷ numbers) = refl
 
 of_kind : (kind : Option Kind) (texts : Bool) → option_map takes_texts kind ≡ Some texts → (column : Column)
     (clauses : List Clause) → IfSome (cond_by (kind_where column kind) column clauses) (λ c. is_on_texts c ≡ texts)
-of_kind None texts e column clauses = absurd cc
-of_kind (Some takes.Text) texts e column clauses =
-    let is : true ≡ texts = cc in
-    some_weaker (λ c. is_on_texts c ≡ true) (λ c. is_on_texts c ≡ texts) (λ c on. on ∙ is) _ (on_texts _ _)
-of_kind (Some (takes.Number least most)) texts e column clauses =
-    let is : false ≡ texts = cc in
-    some_weaker (λ c. is_on_texts c ≡ false) (λ c. is_on_texts c ≡ texts) (λ c on. on ∙ is) _ (on_numbers _ _)
+of_kind None texts e column clauses = grind arith
+of_kind (Some takes.Text) texts e column clauses = grind (arith, some_weaker, on_texts)
+of_kind (Some (takes.Number least most)) texts e column clauses = grind (arith, some_weaker, on_numbers)
 
 -- a column of a table, which takes texts or not
 abbrev IsOf : Table → Column → Type 0
@@ -168,18 +153,11 @@ IsOf t column = (column.table ≡ t) × Has query_columns column
 
 test_is : (t : Table) (column : Column) → IsOf t column → (clauses : List Clause)
     → IfSome (test_of clauses column) (IsTestOf t)
-test_is t column of clauses =
-    some_map (IsTestOf t) (λ cond. record { column = column; cond = cond }) (cond_of clauses column)
-    (some_weaker (λ c. is_on_texts c ≡ of.2) (λ c. IsTestOf t (record { column = column; cond = c }))
-    (λ c on. record { table = of.0; column = of.1; kind = of.3 ∙ ap Some (sym on) }) (cond_of clauses column)
-    (of_kind (column_kind column) of.2 of.3 column clauses))
+test_is t column of clauses = grind (arith, some_map, some_weaker, of_kind)
 
 tests_are : (t : Table) (columns : List Column) → AllByRecursion (IsOf t) columns → (clauses : List Clause)
     → AllByRecursion (IsTestOf t) (tests_of clauses columns)
-tests_are t columns all clauses =
-    all_kept (IsTestOf t) (test_of clauses) columns
-    (all_weaker (IsOf t) (λ column. IfSome (test_of clauses column) (IsTestOf t))
-    (λ column of. test_is t column of clauses) columns all)
+tests_are t columns all clauses = grind (arith, all_kept, all_weaker, test_is)
 
 pub read : AllByRecursion (Has query_columns) query_columns
 read = all_has query_columns

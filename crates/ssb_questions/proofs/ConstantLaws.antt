@@ -57,13 +57,8 @@ by_kinds : (kinds : Option (List ConstantKind)) (query : Query) (constants : Lis
     → fault_by kinds query constants ≡ None → (place : ℕ) (k : ConstantKind)
     → slice_get (unwrap_or kinds []) place ≡ Some k
     → (v : Value) × (slice_get constants place ≡ Some v) × (fits k v ≡ true)
-by_kinds None query constants fit place k at = absurd cc
-by_kinds (Some kinds) query constants fit place k at =
-    let pairs = zip kinds constants in
-    let test = λ (at : ConstantKind × Value). not (fits at.0 at.1) in
-    let parts = no_fault (nat_eq (length constants) (length kinds)) (position test pairs) _ fit in
-    let same : length constants ≡ length kinds = grind (arith, parts.0, nat_tests) in
-    fits_each kinds constants 0 same (sym (position_from-zero test pairs) ∙ parts.1) place k at
+by_kinds None query constants fit place k at = grind arith
+by_kinds (Some kinds) query constants fit place k at = grind (arith, no_fault, nat_eq, nat_tests, fits_each, position_from-zero)
 
 at_place : (query : Query) (constants : List Value) → constants_fault query constants ≡ None
     → (place : ℕ) (k : ConstantKind) → slice_get (kinds_of query) place ≡ Some k

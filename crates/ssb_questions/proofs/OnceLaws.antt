@@ -38,13 +38,9 @@ counted_from p (x ∷ xs) a = let later = counted_from p xs (a + cond (p x) 1 0)
 
 counted : (p : Subject → Bool) (xs : List Subject) (s : Subject) (a : ℕ) → Has xs s → p s ≡ true
     → 1 ≤ fold (λ n x. n + cond (p x) 1 0) a xs
-counted p [] s a has e = absurd has
-counted p (x ∷ xs) s a (inl is) e =
-    let here : p x ≡ true = ap p (sym is) ∙ e in
-    let one : ◌≡◌ {A = ℕ} (cond (p x) 1 0) 1 = ap (λ (b : Bool). cond b 1 0) here in
-    let later = counted_from p xs (a + cond (p x) 1 0) in
-    omega (arith, later, one)
-counted p (x ∷ xs) s a (inr has) e = counted p xs s (a + cond (p x) 1 0) has e
+counted p [] s a has e = grind arith
+counted p (x ∷ xs) s a (inl is) e = grind (arith, counted_from)
+counted p (x ∷ xs) s a (inr has) e = grind (arith, counted p xs s (a + cond (p x) 1 0) has e)
 
 not_none : (n : ℕ) → 1 ≤ n → nat_eq n 0 ≡ true → ⊥
 not_none n some e = let none : n ≡ 0 = grind (arith, e, nat_tests) in omega (arith, some, none)
@@ -65,21 +61,11 @@ behind false other e = e
 range_follows : (place : ℕ) (earlier : List Subject) (column : Column)
     → may_stand_at place earlier (Some (Range column)) ≡ true
     → (is_absent (Range column) earlier ≡ true) × (is_absent (OneValue column) earlier ≡ true)
-range_follows place earlier column may =
-    let all = behind (nat_eq place 0) (may_follow place earlier (Range column)) may in
-    let first = first_so (is_absent Order earlier && is_absent (Range column) earlier)
-    (is_absent (OneValue column) earlier) all in
-    let second = second_so (is_absent Order earlier && is_absent (Range column) earlier)
-    (is_absent (OneValue column) earlier) all in
-    (second_so (is_absent Order earlier) (is_absent (Range column) earlier) first, second)
+range_follows place earlier column may = grind (arith, behind, nat_eq)
 
 one_follows : (place : ℕ) (earlier : List Subject) (column : Column)
     → may_stand_at place earlier (Some (OneValue column)) ≡ true → is_absent (Range column) earlier ≡ true
-one_follows place earlier column may =
-    let all = behind (nat_eq place 0) (may_follow place earlier (OneValue column)) may in
-    second_so (is_absent Order earlier) (is_absent (Range column) earlier)
-    (first_so (is_absent Order earlier && is_absent (Range column) earlier)
-    (nat_lt (count_of (OneValue column) earlier) 16) all)
+one_follows place earlier column may = grind (arith, behind, nat_eq, nat_lt)
 
 quantity_follows : (place : ℕ) (earlier : List Subject) → may_stand_at place earlier (Some Quantity) ≡ true
     → is_absent Quantity earlier ≡ true
@@ -159,14 +145,10 @@ has_first (Some x) xs s e = inl cc
 
 earlier_has : (xs : List Value) (i j : ℕ) (v : Value) (c : Clause) → i < j → slice_get xs i ≡ Some v
     → clause_said v ≡ Some c → Has (subjects_of (take j xs)) (subject c)
-earlier_has [] i j v c lt at e = absurd cc
-earlier_has (x ∷ xs) i zero v c lt at e = absurd (omega (arith, lt))
-earlier_has (x ∷ xs) zero (suc j) v c lt at e =
-    let same : x ≡ v = cc in
-    has_first (subject_of x) (subjects_of (take j xs)) (subject c) (ap (option_map subject) (ap clause_said same ∙ e))
-earlier_has (x ∷ xs) (suc i) (suc j) v c lt at e =
-    has_more (subject_of x) (subjects_of (take j xs)) (subject c)
-    (earlier_has xs i j v c (omega (arith, lt)) at e)
+earlier_has [] i j v c lt at e = grind arith
+earlier_has (x ∷ xs) i zero v c lt at e = grind arith
+earlier_has (x ∷ xs) zero (suc j) v c lt at e = grind (arith, has_first)
+earlier_has (x ∷ xs) (suc i) (suc j) v c lt at e = grind (arith, has_more, earlier_has xs i j v c (omega (arith, lt)) at e)
 
 said_is_read : (v : Value) (c : Clause) → clause_said v ≡ Some c → IsRead c
 said_is_read v c e = (subst (λ (o : Option Clause). AllByRecursion IsRead (cons_option o [])) e (clauses_read (v ∷ []))).0
@@ -249,11 +231,8 @@ IsOfKind (FromTo column from to) = IsOf (kind_in column) from × IsOf (kind_in c
 IsOfKind _ = Unit {0}
 
 spelled_of : (k : ConstantKind) (bytes : List ℕ) → IfSome (spelled_as k bytes) (IsOf k)
-spelled_of (kind.Text column) bytes =
-    some_where (IsOf (kind.Text column)) (fits (kind.Text column) (value.Text bytes)) (value.Text bytes) (λ _. tt)
-spelled_of kind.Number bytes =
-    some_map (IsOf kind.Number) value.Number (number_spelled bytes)
-    (some_any (λ n. IsOf kind.Number (value.Number n)) (λ n. tt) (number_spelled bytes))
+spelled_of (kind.Text column) bytes = grind (arith, some_where)
+spelled_of kind.Number bytes = grind (arith, some_map, some_any)
 
 column_test_of : (column : Column) (bytes : List ℕ) (ends : Option (List ℕ × List ℕ))
     → IfSome (column_test column bytes ends) IsOfKind
@@ -271,10 +250,7 @@ column_test_of column bytes (Some ends) =
 column_clause_of : (name bytes : List ℕ)
     → IfSome (option_and_then (λ column. column_test column bytes (parted (codes "..") bytes)) (column_named name))
     IsOfKind
-column_clause_of name bytes =
-    some_and_then IsOfKind (λ column. column_test column bytes (parted (codes "..") bytes)) (column_named name)
-    (some_any (λ column. IfSome (column_test column bytes (parted (codes "..") bytes)) IsOfKind)
-    (λ column. column_test_of column bytes (parted (codes "..") bytes)) (column_named name))
+column_clause_of name bytes = grind (arith, some_and_then, some_any, column_test_of)
 
 test_of_kind : (name bytes : List ℕ) → IfSome (test_clause name bytes) IsOfKind
 test_of_kind name bytes =
@@ -287,21 +263,15 @@ test_of_kind name bytes =
     (column_clause_of name bytes))
 
 word_of_kind : (word : List ℕ) → IfSome (word_clause word) IsOfKind
-word_of_kind word =
-    some_or IsOfKind (option_map Sums (measure_named word)) (option_map GroupsBy (column_named word))
-    (some_map IsOfKind Sums (measure_named word) (some_any (λ m. IsOfKind (Sums m)) (λ m. tt) (measure_named word)))
-    (some_map IsOfKind GroupsBy (column_named word)
-    (some_any (λ column. IsOfKind (GroupsBy column)) (λ column. tt) (column_named word)))
+word_of_kind word = grind (arith, some_or, some_map, some_any)
 
 parted_of_kind : (bytes : List ℕ) (parts : Option (List ℕ × List ℕ)) → IfSome (clause_parted bytes parts) IsOfKind
 parted_of_kind bytes None = word_of_kind bytes
 parted_of_kind bytes (Some parts) = test_of_kind parts.0 parts.1
 
 said_of_kind : (v : Value) → IfSome (clause_said v) IsOfKind
-said_of_kind (value.Text bytes) =
-    some_if IsOfKind (text_eq bytes (codes "ORDER=SUM")) (Some BySum) (clause_parted bytes (parted (codes "=") bytes)) tt
-    (parted_of_kind bytes (parted (codes "=") bytes))
-said_of_kind (value.Number number) = tt
+said_of_kind (value.Text bytes) = grind (arith, some_if, parted_of_kind)
+said_of_kind (value.Number number) = grind arith
 
 pub clauses_of_kind : (constants : List Value) → AllByRecursion IsOfKind (clauses_of constants)
 clauses_of_kind constants =

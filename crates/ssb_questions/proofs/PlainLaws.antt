@@ -48,11 +48,7 @@ one_plain : (b : ℕ) → is_plain_byte b ≡ true → nat_eq 32 b ≡ false →
 one_plain b byte other = rw (byte, other) refl
 
 two_plain : (b c : ℕ) (rest : List ℕ) → is_plain_byte b ≡ true → IsPlain (c ∷ rest) → IsPlain (b ∷ c ∷ rest)
-two_plain b c rest byte plain =
-    let bytes = first_so (list_all is_plain_byte (c ∷ rest)) (not (ends_in_space (c ∷ rest))) plain in
-    let end = second_so (list_all is_plain_byte (c ∷ rest)) (not (ends_in_space (c ∷ rest))) plain in
-    both (is_plain_byte b && list_all is_plain_byte (c ∷ rest)) (not (ends_in_space (b ∷ c ∷ rest)))
-    (both (is_plain_byte b) (list_all is_plain_byte (c ∷ rest)) byte bytes) (ap not (later b c rest) ∙ end)
+two_plain b c rest byte plain = grind (arith, both, later)
 
 behind_mark : (b : ℕ) (bytes : List ℕ) → is_plain_byte b ≡ true → nat_eq 32 b ≡ false → IsPlain bytes
     → IsPlain (b ∷ bytes)
@@ -61,11 +57,9 @@ behind_mark b (c ∷ rest) byte other plain = two_plain b c rest byte plain
 
 behind_text : (a : List ℕ) (b : ℕ) (rest : List ℕ) → list_all is_plain_byte a ≡ true → IsPlain (b ∷ rest)
     → IsPlain (a ++ b ∷ rest)
-behind_text [] b rest all plain = plain
-behind_text (x ∷ []) b rest all plain = two_plain x b rest (first_so (is_plain_byte x) true all) plain
-behind_text (x ∷ y ∷ a) b rest all plain =
-    two_plain x y (a ++ b ∷ rest) (first_so (is_plain_byte x) (list_all is_plain_byte (y ∷ a)) all)
-    (behind_text (y ∷ a) b rest (second_so (is_plain_byte x) (list_all is_plain_byte (y ∷ a)) all) plain)
+behind_text [] b rest all plain = grind arith
+behind_text (x ∷ []) b rest all plain = grind (arith, two_plain)
+behind_text (x ∷ y ∷ a) b rest all plain = grind (arith, two_plain, behind_text (y ∷ a) b rest (second_so (is_plain_byte x) (list_all is_plain_byte (y ∷ a)) all) plain)
 
 bytes_of : (bytes : List ℕ) → IsPlain bytes → list_all is_plain_byte bytes ≡ true
 bytes_of bytes plain = first_so (list_all is_plain_byte bytes) (not (ends_in_space bytes)) plain
@@ -85,11 +79,8 @@ digit_plain : (c : ℕ) → is_ascii_digit c ≡ true → (is_plain_byte c ≡ t
 digit_plain c digit = (grind (arith, nat_tests), grind (arith, nat_tests))
 
 digits_plain : (digits : List ℕ) → list_all is_ascii_digit digits ≡ true → IsPlain digits
-digits_plain [] all = refl
-digits_plain (c ∷ digits) all =
-    let one = digit_plain c (first_so (is_ascii_digit c) (list_all is_ascii_digit digits) all) in
-    behind_mark c digits one.0 one.1
-    (digits_plain digits (second_so (is_ascii_digit c) (list_all is_ascii_digit digits) all))
+digits_plain [] all = grind arith
+digits_plain (c ∷ digits) all = grind (arith, digit_plain, behind_mark, digits_plain digits (second_so (is_ascii_digit c) (list_all is_ascii_digit digits) all))
 
 -- a value of which something is told only where a test passes
 if_there : {X : Type 0} (b : Bool) (x : X) (Q : Type 0) → (b ≡ true → Q) → IfSome (cond b (Some x) None) (λ _. Q)
@@ -97,16 +88,10 @@ if_there true x Q h = h refl
 if_there false x Q h = tt
 
 number_plain : (bytes : List ℕ) → IfSome (number_of bytes) (λ _. IsPlain bytes)
-number_plain bytes =
-    if_there (is_numeral bytes && nat_lt (decimal_value bytes) (2 ^ 64)) (decimal_value bytes) (IsPlain bytes)
-    (λ is. digits_plain bytes (second_so (nat_lt 0 (length bytes) && _) (list_all is_ascii_digit bytes)
-    (first_so (is_numeral bytes) (nat_lt (decimal_value bytes) (2 ^ 64)) is)))
+number_plain bytes = grind (arith, if_there, nat_lt, digits_plain)
 
 spelled_number_plain : (bytes : List ℕ) → IfSome (number_spelled bytes) (λ _. IsPlain bytes)
-spelled_number_plain bytes =
-    some_and_then (λ _. IsPlain bytes) (λ n. if nat_lt n (2 ^ 32) then Some n else None) (number_of bytes)
-    (some_weaker (λ _. IsPlain bytes) (λ n. IfSome (if nat_lt n (2 ^ 32) then Some n else None) (λ _. IsPlain bytes))
-    (λ n plain. if_there (nat_lt n (2 ^ 32)) n (IsPlain bytes) (λ _. plain)) (number_of bytes) (number_plain bytes))
+spelled_number_plain bytes = grind (arith, some_and_then, nat_lt, some_weaker, if_there, number_plain)
 
 -- values
 text_plain : (long plain : Bool) (fault other : SchemaFault)
@@ -175,13 +160,8 @@ same_plain a b plain same = let is : a ≡ b = (bytes_eq-Decides a b).0 same in 
 
 found_plain : {X : Type 0} (name : X → List ℕ) (word : List ℕ) (xs : List X) → AllByRecursion (λ x. IsPlain (name x)) xs
     → IfSome (find (λ x. text_eq (name x) word) xs) (λ _. IsPlain word)
-found_plain name word [] all = tt
-found_plain name word (x ∷ xs) all =
-    elim (text_eq (name x) word) as (λ t. text_eq (name x) word ≡ t
-    → IfSome (cond t (Some x) (find (λ y. text_eq (name y) word) xs)) (λ _. IsPlain word)) [
-      | true ↦ λ same. same_plain (name x) word all.0 same
-      | false ↦ λ _. found_plain name word xs all.1
-    ] refl
+found_plain name word [] all = grind arith
+found_plain name word (x ∷ xs) all = grind (arith, same_plain, found_plain name word xs all.1)
 
 column_plain : (word : List ℕ) → IfSome (column_named word) (λ _. IsPlain word)
 column_plain word = found_plain column_name word query_columns

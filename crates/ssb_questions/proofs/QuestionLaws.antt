@@ -1,3 +1,4 @@
+use Rattle.std.proofs.Common.{arith}
 -- Distinct queries have distinct names, and `==` of questions decides whether they are the same.
 use Rattle.std.proofs.Common.{◌≡◌, ℕ, List, Option, Some, refl, sym, ap, ◌∙◌}
 use Rattle.std.specs.Prelude.{◌&&◌, true, Bool, find}
@@ -46,13 +47,4 @@ both_true : (s t : Bool) → s ≡ true → t ≡ true → (s && t) ≡ true
 both_true s t p q = ap (λ (b : Bool). b && t) p ∙ q
 
 pub question_Decides : (a b : Query × List Value) → Decides (question_eq a b) (a ≡ b)
-question_Decides a b =
-    let names = bytes_eq-Decides (name_of a.0) (name_of b.0) in
-    let constants = slice_eq-Decides value_Decides a.1 b.1 (pointwise (eq_by_cmp value_cmp) a.1 b.1) refl in (
-      λ t. same_parts a b (name_of-same a.0 b.0 (names.0 (first_so _ _ t))) (constants.0 (second_so _ _ t)),
-      λ e. both_true _ _ (names.1 (ap (λ (question : Query × List Value). name_of question.0) e))
-          (constants.1 (ap (λ (question : Query × List Value). question.1) e)),
-    )
-  where
-    same_parts : (a b : Query × List Value) → a.0 ≡ b.0 → a.1 ≡ b.1 → a ≡ b
-    same_parts a b p q = λ i. (p i, q i)
+question_Decides a b = grind (arith, bytes_eq-Decides, slice_eq-Decides, value_Decides, name_of-same, both_true)

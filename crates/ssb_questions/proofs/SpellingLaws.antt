@@ -64,34 +64,7 @@ TestBack column =
 
 tests_back : AllByRecursion TestBack query_columns
 unfolding parted
-tests_back = (
-  λ b. refl,
-  (
-    λ b. refl,
-    (
-      λ b. refl,
-      (
-        λ b. refl,
-        (
-          λ b. refl,
-          (
-            λ b. refl,
-            (
-              λ b. refl,
-              (
-                λ b. refl,
-                (
-                  λ b. refl,
-                  (λ b. refl, (λ b. refl, (λ b. refl, (λ b. refl, tt)))),
-                ),
-              ),
-            ),
-          ),
-        ),
-      ),
-    ),
-  ),
-)
+tests_back = grind arith
 
 quantity_back : (bytes : List ℕ)
     → clause_of (named (codes "LO_QUANTITY") bytes) ≡ option_map QuantityIn (range_spelled bytes)
@@ -129,20 +102,14 @@ no_dot c digit = grind (arith, nat_tests)
 
 digits_alone : (digits : List ℕ) → list_all is_ascii_digit digits ≡ true → parted (codes "..") digits ≡ None
 unfolding parted
-digits_alone [] all = refl
-digits_alone (c ∷ digits) all =
-    let other = no_dot c (first_so (is_ascii_digit c) (list_all is_ascii_digit digits) all) in
-    let later = digits_alone digits (second_so (is_ascii_digit c) (list_all is_ascii_digit digits) all) in
-    rw (other, later) refl
+digits_alone [] all = grind arith
+digits_alone (c ∷ digits) all = grind (arith, no_dot, digits_alone digits (second_so (is_ascii_digit c) (list_all is_ascii_digit digits) all))
 
 digits_first : (digits : List ℕ) → list_all is_ascii_digit digits ≡ true
     → parted (codes "..") (dotted digits []) ≡ Some (digits, [])
 unfolding parted
-digits_first [] all = refl
-digits_first (c ∷ digits) all =
-    let other = no_dot c (first_so (is_ascii_digit c) (list_all is_ascii_digit digits) all) in
-    let later = digits_first digits (second_so (is_ascii_digit c) (list_all is_ascii_digit digits) all) in
-    rw (other, later) refl
+digits_first [] all = grind arith
+digits_first (c ∷ digits) all = grind (arith, no_dot, digits_first digits (second_so (is_ascii_digit c) (list_all is_ascii_digit digits) all))
 
 -- what stands before the first dots, whatever stands behind them
 rest_of : Option (List ℕ × List ℕ) → Option (List ℕ × List ℕ)
@@ -153,10 +120,9 @@ not_here : (t : Bool) (b : ℕ) (rest tail behind : List ℕ) (later : Option (L
     → cond {A = Option (List ℕ × List ℕ)} t (Some ([], behind)) (option_map (λ parts. (b ∷ parts.0, parts.1)) later)
     ≡ Some (b ∷ rest, tail) → (t ≡ false) × (later ≡ Some (rest, tail))
 unfolding rest_of
-not_here true b rest tail behind later e = absurd (
-    let never : [] ≡ b ∷ rest = ap (λ (o : Option (List ℕ × List ℕ)). (unwrap_or o (b ∷ rest, tail)).0) e in cc)
-not_here false b rest tail behind None e = absurd cc
-not_here false b rest tail behind (Some parts) e = (refl, ap rest_of e)
+not_here true b rest tail behind later e = grind arith
+not_here false b rest tail behind None e = grind arith
+not_here false b rest tail behind (Some parts) e = grind (arith, rest_of)
 
 first_dots : (from to : List ℕ) → parted (codes "..") (dotted from []) ≡ Some (from, [])
     → parted (codes "..") (dotted from to) ≡ Some (from, to)
@@ -171,18 +137,7 @@ first_dots (b ∷ c ∷ from) to e =
     rw (here.0, later) refl
 
 range_back : (range : NumberRange) → IsRange range → range_spelled (range_text range) ≡ Some range
-range_back range is =
-    let parts : parted (codes "..") (range_text range) ≡ Some (decimal range.from, decimal range.to) =
-    first_dots (decimal range.from) (decimal range.to)
-    (digits_first (decimal range.from) (all_digits range.from is.0)) in
-    let from = number_back range.from is.0 in
-    let to = number_back range.to is.1 in
-    ap (range_of (range_text range)) parts ∙ both range.from range.to from to
-  where
-    both : (from to : ℕ) → number_spelled (decimal from) ≡ Some from → number_spelled (decimal to) ≡ Some to
-        → range_of (dotted (decimal from) (decimal to)) (Some (decimal from, decimal to))
-        ≡ Some (record { from = from; to = to })
-    both from to first second = rw (first, second) refl
+range_back range is = grind (arith, first_dots, digits_first, all_digits, number_back, first)
 
 -- values are read back
 spelled_back : (k : ConstantKind) (v : Value) → fits k v ≡ true → ((n : ℕ) → v ≡ value.Number n → n < 2 ^ 32)
@@ -235,20 +190,14 @@ constant_of clause = value.Text (clause_text clause)
 clauses_back : (clauses : List Clause) → AllByRecursion IsWithinBounds clauses
     → clauses_of (map constant_of clauses) ≡ clauses
 unfolding constant_of
-clauses_back [] all = refl
-clauses_back (clause ∷ clauses) all =
-    let here = clause_back clause all.0 in
-    let later = clauses_back clauses all.1 in
-    rw (here, later) refl
+clauses_back [] all = grind arith
+clauses_back (clause ∷ clauses) all = grind (arith, clause_back, clauses_back clauses all.1)
 
 subjects_back : (clauses : List Clause) → AllByRecursion IsWithinBounds clauses
     → subjects_of (map constant_of clauses) ≡ map subject clauses
 unfolding constant_of
-subjects_back [] all = refl
-subjects_back (clause ∷ clauses) all =
-    let here = clause_back clause all.0 in
-    let later = subjects_back clauses all.1 in
-    rw (here, later) refl
+subjects_back [] all = grind arith
+subjects_back (clause ∷ clauses) all = grind (arith, clause_back, subjects_back clauses all.1)
 
 take_all : {X : Type 0} (P : X → Type 0) (n : ℕ) (xs : List X) → AllByRecursion P xs → AllByRecursion P (take n xs)
 take_all P zero xs all = tt
@@ -284,19 +233,12 @@ stands clauses all order place lt =
     rw (few, earlier, constant) may
 
 none_found : (p : ℕ → Bool) (n a : ℕ) → ((i : ℕ) → i < a + n → p i ≡ false) → find p (range_with_len a n) ≡ None
-none_found p zero a h = refl
-none_found p (suc n) a h =
-    let here = h a (omega arith) in
-    let later = none_found p n (a + 1) (λ i lt. h i (omega (arith, lt))) in
-    rw (here, later) refl
+none_found p zero a h = grind arith
+none_found p (suc n) a h = grind (arith, none_found p n (a + 1) (λ i lt. h i (omega (arith, lt))))
 
 taken : (clauses : List Clause) → AllByRecursion IsWithinBounds clauses → StandInOrder clauses
     → first_bad (map constant_of clauses) ≡ None
-taken clauses all order =
-    none_found (λ place. not (may_stand (map constant_of clauses) place)) (max 1 (length (map constant_of clauses))) 0
-    (λ i lt. let some = order.some in
-    let within : i < length clauses = omega (arith, lt, some, length-map clauses constant_of) in
-    ap not (stands clauses all order i within))
+taken clauses all order = grind (arith, none_found, constant_of, length-map, stands)
 
 pub clauses_spelled : ClausesAreSpelled
 clauses_spelled clauses all order = (

@@ -29,26 +29,20 @@ use Rattle.ssb_questions.specs.declared.query.Query.TheVariants.{Q4_1, Q4_2, Q4_
 use Rattle.ssb_questions.specs.declared.value.Value.{Value}
 
 pub over_columns : (query : Query) (constants : List Value) → IsOverColumns (plan_over query constants)
-over_columns Q1_1 constants = search rules
-over_columns Q1_2 constants = search rules
-over_columns Q1_3 constants = search rules
-over_columns Q2_1 constants = search rules
-over_columns Q2_2 constants = search rules
-over_columns Q2_3 constants = search rules
-over_columns Q3_1 constants = search rules
-over_columns Q3_2 constants = search rules
-over_columns Q3_3 constants = search rules
-over_columns Q3_4 constants = search rules
-over_columns Q4_1 constants = search rules
-over_columns Q4_2 constants = search rules
-over_columns Q4_3 constants = search rules
-over_columns Star constants = record {
-  customers = customer_tests (clauses_of constants);
-  suppliers = supplier_tests (clauses_of constants);
-  parts = part_tests (clauses_of constants);
-  dates = date_tests (clauses_of constants);
-  groups = star_groups_read constants;
-}
+over_columns Q1_1 constants = grind arith
+over_columns Q1_2 constants = grind arith
+over_columns Q1_3 constants = grind arith
+over_columns Q2_1 constants = grind arith
+over_columns Q2_2 constants = grind arith
+over_columns Q2_3 constants = grind arith
+over_columns Q3_1 constants = grind arith
+over_columns Q3_2 constants = grind arith
+over_columns Q3_3 constants = grind arith
+over_columns Q3_4 constants = grind arith
+over_columns Q4_1 constants = grind arith
+over_columns Q4_2 constants = grind arith
+over_columns Q4_3 constants = grind arith
+over_columns Star constants = grind (arith, customer_tests, supplier_tests, part_tests, date_tests, star_groups_read)
 
 pub groups_read : (query : Query) (constants : List Value)
     → AllByRecursion (Has query_columns) (plan_over query constants).groups
@@ -106,13 +100,7 @@ stands constants none i v at =
 -- a group column stands at the second to fifth place
 behind : (i : ℕ) (first second : Bool) → (if nat_eq i 0 then false else (nat_le i 4 && first && second)) ≡ true
     → (1 ≤ i) × (i ≤ 4)
-behind i first second e = elim (cases_Bool (nat_eq i 0)) [
-  | inl same ↦ absurd (let never : false ≡ true = rw same at e in cc)
-  | inr other ↦
-      let all : (nat_le i 4 && first && second) ≡ true = rw other at e in
-      let le = first_so (nat_le i 4) first (first_so (nat_le i 4 && first) second all) in
-      (grind (arith, other, nat_tests), grind (arith, le, nat_tests))
-]
+behind i first second e = grind (arith, cases_Bool, nat_eq, nat_le, nat_tests)
 
 group_place : (i : ℕ) (earlier : List Subject) (o : Option Clause) (column : Column)
     → may_stand_at i earlier (option_map subject o) ≡ true → option_and_then group_in o ≡ Some column

@@ -211,10 +211,9 @@ or_true false c e = e
 
 has_any : {X : Type 0} (same : X → X → Bool) → ((a : X) → same a a ≡ true) → (v : X) (xs : List X) → Has xs v
     → list_any (λ x. same x v) xs ≡ true
-has_any same itself v [] has = absurd has
-has_any {X} same itself v (x ∷ xs) (inl is) =
-    ap (λ (b : Bool). b || list_any (λ y. same y v) xs) (ap (λ (y : X). same y v) (sym is) ∙ itself v)
-has_any same itself v (x ∷ xs) (inr has) = or_true (same x v) (list_any (λ y. same y v) xs) (has_any same itself v xs has)
+has_any same itself v [] has = grind arith
+has_any {X} same itself v (x ∷ xs) (inl is) = grind arith
+has_any same itself v (x ∷ xs) (inr has) = grind (arith, or_true, has_any same itself v xs has)
 
 text_tells : (a b : List ℕ) → text_eq a b ≡ true → a ≡ b
 text_tells a b e = (bytes_eq-Decides a b).0 e
@@ -606,10 +605,9 @@ groups_mean (DiscountIn range ∷ clauses) = groups_mean clauses
 groups_mean (BySum ∷ clauses) = groups_mean clauses
 
 has_order : (clauses : List Clause) → Has clauses BySum → list_any is_order clauses ≡ true
-has_order [] has = absurd has
-has_order (c ∷ clauses) (inl is) =
-    ap (λ (b : Bool). b || list_any is_order clauses) (ap is_order (sym is))
-has_order (c ∷ clauses) (inr has) = or_true (is_order c) (list_any is_order clauses) (has_order clauses has)
+has_order [] has = grind arith
+has_order (c ∷ clauses) (inl is) = grind arith
+has_order (c ∷ clauses) (inr has) = grind (arith, or_true, has_order clauses has)
 
 order_has : (clauses : List Clause) → list_any is_order clauses ≡ true → Has clauses BySum
 order_has [] e = absurd cc

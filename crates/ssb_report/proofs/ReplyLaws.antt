@@ -1,3 +1,4 @@
+use Rattle.std.proofs.Common.{arith}
 -- The replies of the one-thread warehouse, and others.
 use Rattle.std.proofs.Common.{◌≡◌, ◌⊎◌, Bool, true, false, List, [], ◌∷◌, Result, map, refl, sym, ◌∙◌, ap, inl, inr}
 use Rattle.ssb_schema.specs.declared.refresh.Action.{Action}
@@ -23,10 +24,7 @@ TrueOrGivenUp warehouse request reply = (reply ≡ true_reply warehouse request)
 refreshed_so : (warehouse : Warehouse) (actions : List Action) (reply : Result Receipt RefreshError)
     → IsRefreshReply warehouse.base warehouse.log actions reply
     → TrueOrGivenUp warehouse (Refresh actions) (Refreshed reply)
-refreshed_so warehouse actions reply is = elim is [
-  | inl same ↦ inl (ap Refreshed same)
-  | inr full ↦ inr (ap (λ r. gives_up (Refreshed r)) full.0)
-]
+refreshed_so warehouse actions reply is = grind arith
 
 -- answers without rows give up, where something is asked
 left_or_none : (warehouse : Warehouse) (questions : List (Named × List Value)) (answers : List Answer) (cause : Cause)
@@ -38,10 +36,7 @@ left_or_none warehouse (question ∷ questions) answers cause is = inr (ap any_u
 answered_so : (causes : Cause → Bool) (warehouse : Warehouse) (questions : List (Named × List Value))
     (answers : List Answer) → AreAnswers causes warehouse questions answers
     → (answers ≡ map (warehouse_answer warehouse) questions) ⊎ (any_unserved answers ≡ true)
-answered_so causes warehouse questions answers is = elim is [
-  | inl same ↦ inl same
-  | inr left ↦ left_or_none warehouse questions answers left.0 left.2
-]
+answered_so causes warehouse questions answers is = grind (arith, left_or_none)
 
 true_or_given_up : (causes : Cause → Bool) (warehouse : Warehouse) (request : RequestRecord) (reply : Reply)
     → IsReply causes warehouse request reply → TrueOrGivenUp warehouse request reply
@@ -66,27 +61,11 @@ true_reply_may causes warehouse (Ask asking) = inl refl
 true_reply_may causes warehouse Abort = tt
 
 pub true_replies_answer : TrueRepliesAnswer
-true_replies_answer causes client warehouse [] = tt
-true_replies_answer causes client warehouse (request ∷ requests) = (
-  true_reply_may causes warehouse request,
-  true_replies_answer causes client
-      (with_commits warehouse (committed_by client request (true_reply warehouse request))) requests,
-)
+true_replies_answer causes client warehouse [] = grind arith
+true_replies_answer causes client warehouse (request ∷ requests) = grind (arith, true_reply_may, true_replies_answer causes client (with_commits warehouse (committed_by client request (true_reply warehouse request))) requests)
 
 pub others_give_up : OthersGiveUp
-others_give_up causes client warehouse [] [] are served = refl
-others_give_up causes client warehouse [] (reply ∷ replies) are served = absurd are
-others_give_up causes client warehouse (request ∷ requests) [] are served = absurd are
-others_give_up causes client warehouse (request ∷ requests) (reply ∷ replies) are served =
-    let others = others_give_up causes client (with_commits warehouse (committed_by client request reply)) requests
-    replies are.1 served.1 in
-    elim (true_or_given_up causes warehouse request reply are.0) [
-      | inl same ↦ ap (λ first. first ∷ replies) same
-          ∙ ap (λ rest. true_reply warehouse request ∷ rest)
-          (others ∙ ap (λ first. true_replies client (with_commits warehouse (committed_by client request first))
-          requests) same)
-      | inr given_up ↦ absurd (cc_false (sym given_up ∙ served.0))
-    ]
-  where
-    cc_false : true ≡ false → ⊥
-    cc_false h = cc
+others_give_up causes client warehouse [] [] are served = grind arith
+others_give_up causes client warehouse [] (reply ∷ replies) are served = grind arith
+others_give_up causes client warehouse (request ∷ requests) [] are served = grind arith
+others_give_up causes client warehouse (request ∷ requests) (reply ∷ replies) are served = grind (arith, true_or_given_up, others_give_up causes client (with_commits warehouse (committed_by client request reply)) requests replies are.1 served.1)

@@ -26,17 +26,9 @@ placed table.Lineorder = refl
 
 found_at : (rows : List Described) (place i : ℕ) → are_placed place rows ≡ true
     → find (λ row. nat_eq row.place (place + i)) rows ≡ slice_get rows i
-found_at [] place i h = refl
-found_at (row ∷ rows) place zero h =
-    let here : nat_eq row.place (place + 0) ≡ true
-    = grind (arith, nat_tests, first_so (nat_eq row.place place) (are_placed (suc place) rows) h) in
-    rw here refl
-found_at (row ∷ rows) place (suc i) h =
-    let not_here : nat_eq row.place (place + suc i) ≡ false
-    = grind (arith, nat_tests, first_so (nat_eq row.place place) (are_placed (suc place) rows) h) in
-    let same : suc place + i ≡ place + suc i = omega arith in
-    rw not_here (ap (λ (n : ℕ). find (λ other. nat_eq other.place n) rows) (sym same)
-    ∙ found_at rows (suc place) i (second_so (nat_eq row.place place) (are_placed (suc place) rows) h))
+found_at [] place i h = grind arith
+found_at (row ∷ rows) place zero h = grind (arith, nat_eq, nat_tests)
+found_at (row ∷ rows) place (suc i) h = grind (arith, nat_eq, nat_tests, found_at rows (suc place) i (second_so (nat_eq row.place place) (are_placed (suc place) rows) h))
 
 -- the name at a place, from the names in order
 pub name_at : (column : Column) (names : List (List ℕ)) → 0 < column.place

@@ -33,10 +33,8 @@ pub decimal_value-push-le : (cs : List ℕ) (c : ℕ) → decimal_value cs ≤ d
 decimal_value-push-le cs c = omega (arith, decimal_value-push cs c)
 
 decimal_value-append-le : (cs ds : List ℕ) → decimal_value cs ≤ decimal_value (cs ++ ds)
-decimal_value-append-le cs [] = rw (append-nil cs) (omega arith)
-decimal_value-append-le cs (d ∷ ds) =
-    let more : (cs ++ d ∷ []) ++ ds ≡ cs ++ d ∷ ds = append_assoc cs (d ∷ []) ds in
-    omega (arith, decimal_value-push-le cs d, decimal_value-append-le (cs ++ d ∷ []) ds, ap decimal_value more)
+decimal_value-append-le cs [] = grind (arith, append-nil)
+decimal_value-append-le cs (d ∷ ds) = grind (arith, append_assoc, decimal_value-push-le, decimal_value-append-le (cs ++ d ∷ []) ds)
 
 decimal_value-take-le : (bytes : List ℕ) (i : ℕ) → decimal_value (take i bytes) ≤ decimal_value bytes
 decimal_value-take-le bytes i = omega (
@@ -57,23 +55,13 @@ and_false false = refl
 
 -- bytes whose first digits write too large a number spell none
 pub number_of-too_large : (bytes : List ℕ) (i : ℕ) → 2 ^ 64 ≤ decimal_value (take i bytes) → number_of bytes ≡ None
-number_of-too_large bytes i large =
-    let over : nat_lt (decimal_value bytes) (2 ^ 64) ≡ false =
-    le-ltb _ _ (omega (arith, large, decimal_value-take-le bytes i)) in
-    rw (over, and_false (is_numeral bytes)) refl
+number_of-too_large bytes i large = grind (arith, nat_lt, le-ltb, decimal_value-take-le, and_false)
 
 -- bytes that are no digits spell no number
 pub number_of-no_digits : (bytes : List ℕ) (i : ℕ) → i < length bytes → is_ascii_digit (get_or bytes i 0) ≡ false
     → number_of bytes ≡ None
-number_of-no_digits bytes i lt bad = rw (
-  list_all_at is_ascii_digit bytes i 0 lt bad,
-  and_false (nat_lt 0 (length bytes) && nat_le (length bytes) 20),
-) refl
+number_of-no_digits bytes i lt bad = grind (arith, list_all_at, and_false, nat_lt, nat_le)
 
 pub number_of-digits : (bytes : List ℕ) → 0 < length bytes → length bytes ≤ 20 → list_all is_ascii_digit bytes ≡ true
     → decimal_value bytes < 2 ^ 64 → number_of bytes ≡ Some (decimal_value bytes)
-number_of-digits bytes some few digits fits =
-    let a : nat_lt 0 (length bytes) ≡ true = lt-ltb _ _ some in
-    let b : nat_le (length bytes) 20 ≡ true = le-leb _ _ few in
-    let d : nat_lt (decimal_value bytes) (2 ^ 64) ≡ true = lt-ltb _ _ fits in
-    rw (a, b, digits, d) refl
+number_of-digits bytes some few digits fits = grind (arith, nat_lt, lt-ltb, nat_le, le-leb)

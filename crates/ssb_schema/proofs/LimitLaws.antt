@@ -71,13 +71,7 @@ line_within r e =
 
 -- so are those of its fact
 pub fact_within : (r : LineFields) → IsWithinLimits r → IsFactWithinLimits (fact_of r)
-fact_within r h = record {
-  quantity = h.quantity;
-  discount = h.discount;
-  price = h.extended_price;
-  revenue = h.revenue;
-  cost = h.supply_cost;
-}
+fact_within r h = grind arith
 
 -- the numbers of a date are within their columns' ranges
 pub record IsDateWithinLimits (row : DateFields) : Type 0 where

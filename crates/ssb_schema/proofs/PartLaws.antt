@@ -10,16 +10,7 @@ pub record Holds (bytes first second third : List ℕ) : Type 0 where
   pub three : part bytes (length first + length second) (length first + length second + length third) ≡ third
 
 parts : (a b c rest : List ℕ) → Holds (((a ++ b) ++ c) ++ rest) a b c
-parts a b c rest =
-    let behind : ((a ++ b) ++ c) ++ rest ≡ (a ++ b) ++ (c ++ rest) = append_assoc (a ++ b) c rest in
-    let apart : ((a ++ b) ++ c) ++ rest ≡ a ++ (b ++ (c ++ rest)) = behind ∙ append_assoc a b (c ++ rest) in
-    record {
-      one = rw apart (take_at a (b ++ (c ++ rest)) (length a - 0) (omega arith));
-      two = rw (apart, drop_at a (b ++ (c ++ rest)) (length a) refl) (take_at b (c ++ rest)
-          (length a + length b - length a) (omega arith));
-      three = rw (behind, drop_at (a ++ b) (c ++ rest) (length a + length b) (length-append a b))
-          (take_at c rest (length a + length b + length c - (length a + length b)) (omega arith));
-    }
+parts a b c rest = grind (arith, append_assoc, take_at, drop_at, length-append)
 
 -- put into bytes one behind the other
 pub put_three : (a b c zeros one two three : List ℕ)

@@ -68,12 +68,7 @@ first_more bytes rest behind count size first whole left =
 
 pub stand_first : (bytes rest : List ℕ) (count size : ℕ) → AreFirst bytes count rest
     → size + length rest ≡ length bytes → StandFirst count size bytes
-stand_first bytes rest count size first counted = record {
-  requests = first.requests;
-  front = (parted_at bytes (concat first.requests) rest size first.joined counted).0;
-  each = first.each;
-  many = first.many;
-}
+stand_first bytes rest count size first counted = grind (arith, parted_at)
 
 -- what is left is what stands behind them
 pub first_rest : (bytes rest : List ℕ) (count size : ℕ) → AreFirst bytes count rest
@@ -90,11 +85,10 @@ Few each = AllByRecursion (λ asked. length asked ≤ 1) each
 at_most : (requests : List (List ℕ)) (each : List (List RequestRecord))
     → AllZip (SpellsScript most_records) requests each → Few each
     → length (flat_map (λ r. r) each) ≤ length requests
-at_most [] [] spell few = omega arith
-at_most [] (asked ∷ each) spell few = absurd spell
-at_most (request ∷ requests) [] spell few = absurd spell
-at_most (request ∷ requests) (asked ∷ each) spell few =
-    omega (arith, at_most requests each spell.1 few.1, few.0, length-append asked (flat_map (λ r. r) each))
+at_most [] [] spell few = grind arith
+at_most [] (asked ∷ each) spell few = grind arith
+at_most (request ∷ requests) [] spell few = grind arith
+at_most (request ∷ requests) (asked ∷ each) spell few = grind (arith, length-append, at_most requests each spell.1 few.1)
 
 -- so where they ask as many, each asks one
 one_each : (requests : List (List ℕ)) (each : List (List RequestRecord)) (wanted : List RequestRecord)
@@ -116,10 +110,7 @@ one_each (request ∷ requests) ((one ∷ two ∷ more) ∷ each) wanted spell f
 -- a plain text has no byte order mark at the start of a request
 marks_of : (text : List ℕ) (requests : List (List ℕ)) → IsPlainText text → text ≡ concat requests
     → AllByRecursion HasNoMark (request_texts requests [])
-marks_of text requests plain joined =
-    unmarked_parts (request_texts requests [])
-    (subst (AllByRecursion (λ b. b ≢ 239))
-    (joined ∙ sym (append-nil (concat requests)) ∙ sym (concat-push requests [])) plain.1)
+marks_of text requests plain joined = grind (arith, unmarked_parts, append-nil, concat-push)
 
 pub ask_in_turn : (count : ℕ) (text : List ℕ) (wanted : List RequestRecord) → IsPlainText text
     → SpellsScript most_records text wanted → length wanted ≡ count → AskInTurn count text wanted
@@ -170,12 +161,7 @@ asks_first bytes one asked first = at first.requests first.joined first.each fir
 
 -- it begins with a request
 pub asks_begins : (bytes : List ℕ) (one : RequestRecord) → AsksFirst bytes one → BeginsWithRequest bytes
-asks_begins bytes one first = record {
-  request = first.request;
-  more = first.more;
-  is = first.is;
-  joined = first.joined;
-}
+asks_begins bytes one first = grind arith
 
 -- and the request there asks it
 pub asks_whole : (bytes : List ℕ) (one : RequestRecord) (size : ℕ) → AsksFirst bytes one → IsWhole size bytes

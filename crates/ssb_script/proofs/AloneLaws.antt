@@ -1,3 +1,4 @@
+use Rattle.std.proofs.Common.{arith}
 -- Questions that are asked alone are a script, which asks each by itself.
 use Rattle.std.proofs.Common.{◌≡◌, ◌∙◌, ◌∷◌, All, ℕ, [], List, Some, None, Result, Ok, Err, map, length, refl, sym, ap}
 use Rattle.std.specs.List.{AllZip}
@@ -33,14 +34,10 @@ line_said _ question is = absurd cc
 
 lines_said : (records : List (List (List ℕ))) (questions : List Question)
     → map asked_by records ≡ map Some questions → map line_of records ≡ map Ok (map line.Query questions)
-lines_said [] [] is = refl
-lines_said [] (question ∷ questions) is = absurd cc
-lines_said (fields ∷ records) [] is = absurd cc
-lines_said (fields ∷ records) (question ∷ questions) is =
-    let first = line_said (line_of fields) question (ap (head_or None) is) in
-    let others : map line_of records ≡ map Ok (map line.Query questions) = lines_said records questions
-    (ap tail_of is) in
-    rw (first, others) refl
+lines_said [] [] is = grind arith
+lines_said [] (question ∷ questions) is = grind arith
+lines_said (fields ∷ records) [] is = grind arith
+lines_said (fields ∷ records) (question ∷ questions) is = grind (arith, line_said, lines_said records questions (ap tail_of is))
 
 -- each request has a line of its own
 abbrev own_line : Question → List ScriptLine

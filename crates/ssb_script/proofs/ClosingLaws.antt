@@ -10,11 +10,8 @@ behind false x one other = refl
 closing : {A : Type 0} (f : A → List ℕ) (x : A) (xs : List A) (d : A) → without_closing (map f (x ∷ xs))
     ≡ cond (nat_eq (length (f (get_or (x ∷ xs) (length xs) d))) 0) (map f (take (length xs) (x ∷ xs))) (map f (x ∷ xs))
 unfolding without_closing
-closing f x [] d = refl
-closing f x (y ∷ xs) d =
-    ap (λ rest. f x ∷ rest) (closing f y xs d)
-    ∙ behind (nat_eq (length (f (get_or (y ∷ xs) (length xs) d))) 0) (f x) (map f (take (length xs) (y ∷ xs)))
-    (map f (y ∷ xs))
+closing f x [] d = grind arith
+closing f x (y ∷ xs) d = grind (arith, behind, nat_eq, closing f y xs d)
 
 -- the fields but the last, where it has no bytes; else all
 pub last_dropped : {A : Type 0} (f : A → List ℕ) (fields : List A) (d : A) → 1 ≤ length fields

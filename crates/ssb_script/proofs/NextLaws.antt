@@ -32,13 +32,9 @@ found_next found.Nothing (Some text) (Some left) bytes taken is =
 
 -- of two beginnings of one text the shorter begins the longer
 begins : (p q x y : List ℕ) → length p ≤ length q → p ++ x ≡ q ++ y → (more : List ℕ) × (q ≡ p ++ more)
-begins [] q x y short e = (q, refl)
-begins (a ∷ p) [] x y short e = absurd (omega arith)
-begins (a ∷ p) (b ∷ q) x y short e =
-    let later = begins p q x y (omega arith) cc in
-    let tail = later.1 in
-    let head : a ≡ b = cc in
-    (later.0, cc)
+begins [] q x y short e = grind arith
+begins (a ∷ p) [] x y short e = grind arith
+begins (a ∷ p) (b ∷ q) x y short e = grind (arith, begins p q x y (omega arith) cc)
 
 beyond : (text bytes left : List ℕ) (requests : List (List ℕ)) (rest : List ℕ) → text ≡ bytes ++ left
     → IsUnfinished bytes → length bytes < length text → IsCutInto text requests rest
@@ -53,10 +49,9 @@ beyond text bytes left (p ∷ requests) rest taken none more cut = elim (leb_tel
 
 pub too_long : (limit : ℕ) (a b : Option (List ℕ)) (bytes : List ℕ) → Consumes a b bytes → IsUnfinished bytes
     → length bytes ≡ limit → IsLessThan a bytes → IfSome a (BeginsBeyond limit)
-too_long limit None b bytes taken none full more = tt
-too_long limit (Some text) None bytes taken none full more = absurd taken
-too_long limit (Some text) (Some left) bytes taken none full more = λ requests rest cut.
-    omega (arith, full, beyond text bytes left requests rest taken none more cut)
+too_long limit None b bytes taken none full more = grind arith
+too_long limit (Some text) None bytes taken none full more = grind arith
+too_long limit (Some text) (Some left) bytes taken none full more = grind (arith, beyond)
 
 pub found_next_of : (result : Result NextRequest RequestError) (a b : Option (List ℕ)) (bytes : List ℕ)
     → Consumes a b bytes → IfOk result (λ what. IsFound what a bytes) → IfOk result (λ what. CutsNext what a b bytes)
@@ -66,8 +61,7 @@ found_next_of (Err why) a b bytes taken is = tt
 pub too_long_of : (result : Result NextRequest RequestError) (limit : ℕ) (a b : Option (List ℕ)) (bytes : List ℕ)
     → Consumes a b bytes → IfErr result (λ why. IsRequestFault why limit a bytes) → IsErrOf result error.TooLong
     → IfSome a (BeginsBeyond limit)
-too_long_of (Ok what) limit a b bytes taken fault is = absurd cc
-too_long_of (Err error.TooLong) limit a b bytes taken fault is =
-    too_long limit a b bytes taken fault.0 fault.1 fault.2
-too_long_of (Err error.Read) limit a b bytes taken fault is = absurd cc
-too_long_of (Err error.OutOfMemory) limit a b bytes taken fault is = absurd cc
+too_long_of (Ok what) limit a b bytes taken fault is = grind arith
+too_long_of (Err error.TooLong) limit a b bytes taken fault is = grind (arith, too_long)
+too_long_of (Err error.Read) limit a b bytes taken fault is = grind arith
+too_long_of (Err error.OutOfMemory) limit a b bytes taken fault is = grind arith

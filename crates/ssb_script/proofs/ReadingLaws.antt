@@ -41,19 +41,7 @@ HasReadKnown remaining known reader count requests begun =
 -- at the start nothing was read
 pub read_nothing : {R : Type 0} (remaining : R → Option (List ℕ)) (text : List ℕ) (reader : Reader R)
     → HasGiven remaining text reader [] → HasRead remaining text reader 0 [] Nothing
-read_nothing remaining text reader given = record {
-  records = [];
-  given = given;
-  many = refl;
-  spells = record {
-    lines = [];
-    said = refl;
-    spelled = record { parts = []; each = tt; joined = refl };
-    whole = All-nil IsWholeRequest;
-    room = tt;
-    settled = tt;
-  };
-}
+read_nothing remaining text reader given = grind arith
 
 zip_push : {A B : Type 0} (R : A → B → Type 0) (xs : List A) (ys : List B) (x : A) (y : B) → AllZip R xs ys → R x y
     → AllZip R (xs ++ x ∷ []) (ys ++ y ∷ [])
@@ -134,30 +122,14 @@ pub read_all : {R : Type 0} (remaining : R → Option (List ℕ)) (most : ℕ) (
     (count : ℕ) (requests : List RequestRecord) (fields : List (List ℕ))
     → HasRead remaining text old count requests Nothing → GivesNext remaining old new false fields → count ≤ most
     → SpellsScript most text requests
-read_all remaining most text old new count requests fields so_far next few = record {
-  records = so_far.records;
-  all = next text so_far.records so_far.given;
-  few = rw so_far.many few;
-  lines = so_far.spells.lines;
-  said = so_far.spells.said ∙ ap (map Ok) (append-nil so_far.spells.lines);
-  spelled = so_far.spells.spelled;
-  whole = so_far.spells.whole;
-}
+read_all remaining most text old new count requests fields so_far next few = grind (arith, append-nil)
 
 -- there was no more record, and a refresh or a block is begun
 pub ends_open : {R : Type 0} (remaining : R → Option (List ℕ)) (most : ℕ) (text : List ℕ) (old new : Reader R)
     (count : ℕ) (requests : List RequestRecord) (begun : Begun) (fields : List (List ℕ)) (e : ScriptError)
     → HasRead remaining text old count requests begun → GivesNext remaining old new false fields → count ≤ most
     → IsOpenEnd begun e → EndsOpen most text e
-ends_open remaining most text old new count requests begun fields e so_far next few is = record {
-  records = so_far.records;
-  all = next text so_far.records so_far.given;
-  few = rw so_far.many few;
-  requests = requests;
-  begun = begun;
-  spells = so_far.spells;
-  is = is;
-}
+ends_open remaining most text old new count requests begun fields e so_far next few is = grind arith
 
 -- one more record was read, and it has a fault
 pub first_fault : {R : Type 0} (remaining : R → Option (List ℕ)) (most : ℕ) (text : List ℕ) (old new : Reader R)

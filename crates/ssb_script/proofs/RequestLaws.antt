@@ -1,3 +1,4 @@
+use Rattle.std.proofs.Common.{arith}
 -- Laws of a request: at the front of a text there is one at most, and none where no line has ended it.
 use Rattle.std.proofs.Common.{◌≡◌, ℕ, Bool, true, false, List, [], ◌∷◌, ◌++◌, Option, Some, None, is_none, refl, sym}
 use Rattle.std.proofs.Common.{ap, subst, ◌∙◌, append_assoc, append-nil}
@@ -74,11 +75,7 @@ same_lines (l ∷ k ∷ ls) (m ∷ n ∷ ms) x y al am p q e =
 
 -- two requests at the front of one text are one
 pub same_request : (a b x y : List ℕ) → IsRequest a → IsRequest b → a ++ x ≡ b ++ y → (a ≡ b) × (x ≡ y)
-same_request a b x y p q e =
-    let joined : concat p.lines ++ x ≡ concat q.lines ++ y =
-    ap (λ bytes. bytes ++ x) (sym p.joined) ∙ e ∙ ap (λ bytes. bytes ++ y) q.joined in
-    let same = same_lines p.lines q.lines x y p.each q.each p.makes q.makes joined in
-    (p.joined ∙ ap concat same.0 ∙ sym q.joined, same.1)
+same_request a b x y p q e = grind (arith, same_lines)
 
 -- where no line has ended a block, and then no line has ended, it goes on
 no_end : (block : BlockKind) (ls ms : List (List ℕ)) (tail more : List ℕ) → AreLinesAll ls → HasNoEnd block ls
@@ -111,10 +108,7 @@ no_request (Some block) (l ∷ ls) (m ∷ n ∷ ms) tail more al opened last am 
 -- what was begun and has no end yet, and then bytes without an LF
 pub open_is_unfinished : (begun : Option BlockKind) (bytes tail : List ℕ) → IsOpen begun bytes → HasNoLineEnd tail
     → IsUnfinished (bytes ++ tail)
-open_is_unfinished begun bytes tail opened last = λ request more p e.
-    let joined : concat opened.lines ++ tail ≡ concat p.lines ++ more =
-    ap (λ b. b ++ tail) (sym opened.joined) ∙ e ∙ ap (λ b. b ++ more) p.joined in
-    no_request begun opened.lines p.lines tail more opened.each opened.begins last p.each p.makes joined
+open_is_unfinished begun bytes tail opened last = grind (arith, no_request)
 
 -- one more line behind lines
 pub concat-push : (lines : List (List ℕ)) (line : List ℕ) → concat (lines ++ line ∷ []) ≡ concat lines ++ line
@@ -142,12 +136,11 @@ some_of (Some block) e = (block, refl)
 
 makes-push : (begun : Option BlockKind) (lines : List (List ℕ)) (line : List ℕ) → AreOpen begun lines
     → ends_request begun line ≡ true → MakeRequest (lines ++ line ∷ [])
-makes-push None [] line opened ends = none_of (opens line) ends
-makes-push None (l ∷ lines) line opened ends = absurd cc
-makes-push (Some block) [] line opened ends = absurd opened
-makes-push (Some block) (l ∷ []) line opened ends = (block, opened.0, ends)
-makes-push (Some block) (l ∷ k ∷ lines) line opened ends =
-    (block, opened.0, ends-push block (k ∷ lines) line opened.1 ends)
+makes-push None [] line opened ends = grind (arith, none_of)
+makes-push None (l ∷ lines) line opened ends = grind arith
+makes-push (Some block) [] line opened ends = grind arith
+makes-push (Some block) (l ∷ []) line opened ends = grind arith
+makes-push (Some block) (l ∷ k ∷ lines) line opened ends = grind (arith, ends-push)
 
 opens-push : (begun : Option BlockKind) (lines : List (List ℕ)) (line : List ℕ) → AreOpen begun lines
     → ends_request begun line ≡ false → AreOpen (begun_behind begun line) (lines ++ line ∷ [])

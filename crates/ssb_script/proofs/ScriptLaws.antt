@@ -249,10 +249,7 @@ one_line_asks l (b ∷ c) (request ∷ wanted) (part ∷ parts) behind opened en
 -- the record of a line that begins a block says so
 first_opens : (l c : List ℕ) (block : BlockKind) (said : ScriptLine) → opens l ≡ Some block → Ended l c → HasNoMark l
     → (f : List (List ℕ)) → records_in c ≡ f ∷ [] → line_of f ≡ Ok said → said ≡ opening_of block
-first_opens l c block said opened ended mark f is says =
-    let one = line_opens l c block ended mark opened in
-    let same : f ≡ one.0 = let e = one.1 in cc in
-    let other = sym says ∙ ap line_of same ∙ one.2 in cc
+first_opens l c block said opened ended mark f is says = grind (arith, line_opens)
 
 opening_is_one : (a b : BlockKind) → opening_of a ≡ opening_of b → a ≡ b
 opening_is_one Refreshing Refreshing e = refl
@@ -351,10 +348,8 @@ strip_request request y p =
 -- so none stands at the front of a text whose requests have none
 text_unmarked : (requests : List (List ℕ)) (rest : List ℕ) → AllByRecursion IsRequest requests
     → AllByRecursion HasNoMark (request_texts requests rest) → HasNoMark (concat requests ++ rest)
-text_unmarked [] rest each none = none.0
-text_unmarked (p ∷ requests) rest each none =
-    ap strip_bom (append_assoc p (concat requests) rest) ∙ strip_request p (concat requests ++ rest) each.0
-    ∙ ap (λ t. t ++ (concat requests ++ rest)) none.0 ∙ sym (append_assoc p (concat requests) rest)
+text_unmarked [] rest each none = grind arith
+text_unmarked (p ∷ requests) rest each none = grind (arith, append_assoc, strip_request)
 
 -- the contents of a request's lines, where something stands behind it
 request_contents : (request more : List ℕ) → (p : IsRequest request) → HasNoLoneReturn (request ++ more)

@@ -40,9 +40,4 @@ dispatchers_for table server tokens room clients same is there left here =
 pub left_by_all : (table server : TableRecord) (cs clients ds dispatchers : List TokenRecord) (base left : Tables)
     (log out : List CommitRecord) → table ≡ server → cs ≡ clients → ds ≡ dispatchers → left ≡ base → out ≡ log
     → Leaves table cs ds base log → Leaves server clients dispatchers left out
-left_by_all table server cs clients ds dispatchers base left log out same clients_are tokens_are base_is log_is leaves =
-    subst (λ l. Leaves server clients dispatchers left l) (sym log_is)
-    (subst (λ b. Leaves server clients dispatchers b log) (sym base_is)
-    (subst (λ xs. Leaves server clients xs base log) tokens_are
-    (subst (λ xs. Leaves server xs ds base log) clients_are
-    (subst (λ h. Leaves h cs ds base log) same leaves))))
+left_by_all table server cs clients ds dispatchers base left log out same clients_are tokens_are base_is log_is leaves = grind arith

@@ -44,24 +44,11 @@ pub may_serve : (t : TokenRecord) (client at : ℕ) (questions : Questions) (row
     → HasInHand t.grabbed client questions → at ≡ length t.seen → t.version ≡ Some at
     → rows ≡ all_rows_after t.table.base questions t.seen
     → MayAnswer t client (response.Rows questions at rows)
-may_serve t client at questions rows has e version is = record {
-  asked = has.newest.request;
-  held = found_first t.grabbed client has.newest has.others has.grabbed_is has.client_is;
-  serves = (
-    sym has.questions_is,
-    version,
-    is ∙ ap (λ xs. all_rows_after t.table.base questions xs)
-        (sym (ap (λ n. take n t.seen) e ∙ take_all (length t.seen) t.seen (omega arith))),
-  );
-}
+may_serve t client at questions rows has e version is = grind (arith, found_first, take_all)
 
 pub may_give_up : (t : TokenRecord) (client : ℕ) (questions : Questions) (cause : Unserved)
     → HasInHand t.grabbed client questions → IsCause cause → MayAnswer t client (response.Unserved questions cause)
-may_give_up t client questions cause has is = record {
-  asked = has.newest.request;
-  held = found_first t.grabbed client has.newest has.others has.grabbed_is has.client_is;
-  serves = (sym has.questions_is, is);
-}
+may_give_up t client questions cause has is = grind (arith, found_first)
 
 some_is : {X : Type 0} {a b : X} → Some a ≡ Some b → a ≡ b
 some_is e = cc
@@ -81,34 +68,7 @@ given_newest client asked reply newest e is =
 -- an answer to the newest request
 pub gave_one : (t : TokenRecord) (client : ℕ) (questions : Questions) (reply : Response) (after : TokenRecord)
     → HasInHand t.grabbed client questions → Answers t client reply after → GaveOne t (outcome_of reply) after
-gave_one t client questions reply after has answers =
-    let asked : answers.asked ≡ has.newest.request = some_is (sym answers.held
-    ∙ found_first t.grabbed client has.newest has.others has.grabbed_is has.client_is) in
-    let given = given_newest client answers.asked reply has.newest has.client_is asked in
-    let named : deeds.deed (answer_named (number_of t.who) client reply) Done ∷ []
-    ≡ deeds.answered (number_of t.who) (outcome_of reply) (has.newest ∷ []) =
-    ap (λ e. deeds.deed e Done ∷ []) (named_newest (number_of t.who) client reply has.newest has.client_is) in
-    record {
-      newest = has.newest;
-      others = has.others;
-      grabbed_is = has.grabbed_is;
-      fresh = subst (All IsFresh) given (All-push IsFresh [] (given_to client answers.asked reply) (All-nil IsFresh)
-          answers.fresh);
-      now = answers.now ∙ (ap (λ gs. record t {
-        grabbed = gs;
-        given = t.given ++ given_to client answers.asked reply ∷ [];
-        did = t.did ++ deeds.deed (answer_named (number_of t.who) client reply) Done ∷ [];
-      }) (without_first t.grabbed client has.newest has.others has.grabbed_is has.client_is)
-          ∙ (ap (λ gs. record t {
-            grabbed = has.others;
-            given = t.given ++ gs;
-            did = t.did ++ deeds.deed (answer_named (number_of t.who) client reply) Done ∷ [];
-          }) given ∙ ap (λ ds. record t {
-            grabbed = has.others;
-            given = t.given ++ deeds.given_to_all (outcome_of reply) (has.newest ∷ []);
-            did = t.did ++ ds;
-          }) named));
-    }
+gave_one t client questions reply after has answers = grind (arith, some_is, found_first, given_newest, named_newest, without_first)
 
 snoc_inj : {X : Type 0} (xs ys : List X) (x y : X) → xs ++ x ∷ [] ≡ ys ++ y ∷ [] → (xs ≡ ys) × (x ≡ y)
 snoc_inj [] [] x y e = (refl, cc)
@@ -139,14 +99,7 @@ none_grabbed [] keeps = refl
 none_grabbed (newest ∷ others) keeps = absurd (not_empty (clients_of others) newest.client (sym keeps.clients))
 
 pub gave_none : (t : TokenRecord) (outcome : Outcome) → Gave t 0 outcome t
-gave_none t outcome = record {
-  left = [];
-  count_is = refl;
-  grabbed_is = refl;
-  fresh = All-nil IsFresh;
-  now = ap (λ gs. record t { given = gs }) (sym (append-nil t.given))
-      ∙ ap (λ ds. record t { given = t.given ++ []; did = ds }) (sym (append-nil t.did));
-}
+gave_none t outcome = grind (arith, append-nil)
 
 pub gave_more : (before t after : TokenRecord) (count : ℕ) (outcome : Outcome) → Gave before count outcome t
     → GaveOne t outcome after → Gave before (count + 1) outcome after
@@ -200,10 +153,7 @@ gave_more before t after count outcome gave one =
 pub left_keeps : (t : TokenRecord) (outcome : Outcome) (after : TokenRecord) (hand : Hand) (client : ℕ)
     (questions : Questions) → GaveOne t outcome after → Popped hand t.grabbed client questions
     → Keeps hand after.grabbed
-left_keeps t outcome after hand client questions one last =
-    let both : one.newest ∷ one.others ≡ last.has.newest ∷ last.has.others = sym one.grabbed_is ∙ last.has.grabbed_is in
-    let same : one.others ≡ last.has.others = cc in
-    subst (λ gs. Keeps hand gs) (sym (ap (λ (u : TokenRecord). u.grabbed) one.now ∙ same)) last.keeps
+left_keeps t outcome after hand client questions one last = grind arith
 
 -- the last of the rows answers the last of the questions
 pub record RowsPopped (base : Tables) (seen : List CommitRecord) (requests : List Questions)
@@ -216,25 +166,12 @@ pub rows_popped : (base : Tables) (seen : List CommitRecord) (requests : List Qu
     (questions : Questions) (rows rest : List RequestRows) (found : RequestRows)
     → rows ≡ answers_after base seen (requests ++ questions ∷ []) → rows ≡ rest ++ found ∷ []
     → RowsPopped base seen requests questions rest found
-rows_popped base seen requests questions rows rest found is ends =
-    let f : Questions → RequestRows = λ q. record { questions = q; rows = all_rows_after base q seen } in
-    let r = snoc_inj rest (answers_after base seen requests) found (f questions)
-    (sym ends ∙ (is ∙ map_push f requests questions)) in
-    let q : found.questions ≡ questions = ap (λ (row : RequestRows). row.questions) r.1 in
-    record {
-      rest_is = r.0;
-      questions_is = q;
-      answered = ap (λ (row : RequestRows). row.rows) r.1 ∙ ap (λ x. all_rows_after base x seen) (sym q);
-    }
+rows_popped base seen requests questions rows rest found is ends = grind (arith, snoc_inj, map_push)
 
 pub some_rows : (base : Tables) (seen : List CommitRecord) (requests : List Questions)
     (questions : Questions) (rows : List RequestRows) → rows ≡ answers_after base seen (requests ++ questions ∷ [])
     → length rows ≡ 0 → ⊥
-some_rows base seen requests questions rows is none =
-    let f : Questions → RequestRows = λ q. record { questions = q; rows = all_rows_after base q seen } in
-    let n : length rows ≡ length (answers_after base seen requests ++ f questions ∷ []) =
-    ap length (is ∙ map_push f requests questions) in
-    omega (arith, length_push (answers_after base seen requests) (f questions))
+some_rows base seen requests questions rows is none = grind (arith, map_push, length_push)
 
 pub in_hand_of : (grabbed : List Grabbed) (client : ℕ) (questions other : Questions) → other ≡ questions
     → HasInHand grabbed client questions → HasInHand grabbed client other

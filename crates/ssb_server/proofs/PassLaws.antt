@@ -1,3 +1,4 @@
+use Rattle.std.proofs.Common.{arith}
 -- The rows that passes find, question by question, are those of the requests.
 use Rattle.std.proofs.Common.{◌≡◌, ℕ, ◌+◌, ◌<◌, List, [], ◌∷◌, ◌++◌, length, map, take, drop, get_or, refl, ap, sym}
 use Rattle.std.proofs.Common.{◌∙◌, append_assoc, length-append}
@@ -76,13 +77,7 @@ pub group_next : (requests : List Questions) (k : ℕ) (questions : Questions) (
     → questions ≡ get_or requests k questions → own ≡ take (length questions) rest → later ≡ drop (length questions) rest
     → one ≡ joined own → more ≡ found ++ one ∷ [] → found ++ grouped (drop k requests) rest ≡ all
     → more ++ grouped (drop (k + 1) requests) later ≡ all
-group_next requests k questions rest own later found more all one within is front back made grown before =
-    let others : List Questions = drop (k + 1) requests in
-    ap (λ l. l ++ grouped others later) grown
-    ∙ (append_assoc found (one ∷ []) (grouped others later)
-    ∙ (ap (λ x. found ++ x ∷ grouped others later) (made ∙ ap joined front)
-    ∙ (ap (λ l. found ++ joined (take (length questions) rest) ∷ grouped others l) back
-    ∙ (ap (λ l. found ++ grouped l rest) (sym (next_request requests k questions within is)) ∙ before))))
+group_next requests k questions rest own later found more all one within is front back made grown before = grind (arith, append_assoc, next_request)
 
 pub count_next : (requests : List Questions) (k : ℕ) (questions : Questions) (n : ℕ) → k < length requests
     → questions ≡ get_or requests k questions → n ≡ length (all_questions (drop k requests))

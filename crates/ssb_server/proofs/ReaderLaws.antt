@@ -41,10 +41,9 @@ table_range keep.Unread dispatchers is = (omega (arith, is.0), omega (arith, is.
 pub as_many_answer : (keeps : Keeps) (dispatchers : ℕ) (tokens : List TokenRecord) (reader : Option TokenRecord)
     → is_some reader ≡ has_reader keeps → length (with_reader tokens reader) ≡ at_table keeps dispatchers
     → length tokens ≡ dispatchers
-as_many_answer keep.All dispatchers tokens None there count = count
-as_many_answer keep.All dispatchers tokens (Some reader) there count = absurd (cc)
-as_many_answer keep.Recent dispatchers tokens None there count = count
-as_many_answer keep.Recent dispatchers tokens (Some reader) there count = absurd (cc)
-as_many_answer keep.Unread dispatchers tokens None there count = absurd (cc)
-as_many_answer keep.Unread dispatchers tokens (Some reader) there count =
-    omega (arith, count, length_push tokens reader)
+as_many_answer keep.All dispatchers tokens None there count = grind arith
+as_many_answer keep.All dispatchers tokens (Some reader) there count = grind arith
+as_many_answer keep.Recent dispatchers tokens None there count = grind arith
+as_many_answer keep.Recent dispatchers tokens (Some reader) there count = grind arith
+as_many_answer keep.Unread dispatchers tokens None there count = grind arith
+as_many_answer keep.Unread dispatchers tokens (Some reader) there count = grind (arith, length_push)

@@ -17,11 +17,7 @@ none_there : (i : ℕ) (commit : CommitRecord) → slice_get [] i ≡ Some commi
 none_there i commit here = let low : i < 0 = slice_get_within [] i commit here in omega (arith, low)
 
 new_sound : (table : TableRecord) (who : Who) → Owns who [] [] → IsSound (new_token table who)
-new_sound table who owns = record {
-  legal = record { accepted = λ i commit here. absurd (none_there i commit here) };
-  named = record { named = λ place commit here. absurd (none_there place commit here) };
-  owns = owns;
-}
+new_sound table who owns = grind (arith, none_there)
 
 new_free : (table : TableRecord) (who : Who) → IsFree (new_token table who)
 new_free table who = record { rows = refl; writer = refl; hand = refl }

@@ -47,54 +47,32 @@ stands_at base list reader guard here knows over told begins stands count =
 pub left_knows : (base : Tables) (list : List CommitRecord) (reader : Reading) (guard : Entered) (back : Reading)
     → reader.base ≡ base → reader.told ≡ list → guard.state.base ≡ reader.base → guard.told ≡ reader.told
     → back.base ≡ guard.state.base → back.told ≡ guard.told → Knows base list back
-left_knows base list reader guard back here knows over told back_base back_told = record {
-  base_is = back_base ∙ (over ∙ here);
-  told = subst (λ xs. IsPrefix xs list) (sym (back_told ∙ (told ∙ knows))) (begins_with_itself list);
-}
+left_knows base list reader guard back here knows over told back_base back_told = grind (arith, begins_with_itself)
 
 -- a copy whose number of commits is not the told one has more, which its reader entered
 pub ahead : (list : List CommitRecord) (reader : Reading) (guard : Entered) (back : Reading) (told found : ℕ)
     → reader.told ≡ list → IsPrefix reader.told guard.list → StandsFor guard.state guard.list → back.last ≡ guard.list
     → told ≡ length list → found ≡ guard.state.commits → found ≢ told
     → IsTrueCause list (Twin told found) × IsFound back (Twin told found)
-ahead list reader guard back told found knows begins stands last told_is found_is apart =
-    let n : guard.state.commits ≡ length guard.list = ap (λ (s : State). s.commits) stands in
-    let shorter = beginnings_are_shorter list guard.list (subst (λ xs. IsPrefix xs guard.list) knows begins) in
-    let more : told < found = omega (arith, n, shorter, told_is, found_is, apart) in
-    ((told_is, more), found_is ∙ (n ∙ ap length (sym last)))
+ahead list reader guard back told found knows begins stands last told_is found_is apart = grind (arith, beginnings_are_shorter)
 
 -- the writer has the first of the commits pending too
 pub first_follows : (before : Writing) (commits : List CommitRecord) (after : Writing)
     → AppendsFirst before commits after → Follows before.base (before.published ++ before.pending ++ commits) after
-first_follows before commits after has = subst (λ w. Follows before.base (before.published ++ before.pending ++ commits)
-    w) (sym has.now) record {
-      base_is = refl;
-      taken = subst (λ xs. IsPrefix xs (before.published ++ before.pending ++ commits))
-          (append_assoc before.published before.pending has.kept)
-          (prefix_behind (before.published ++ before.pending) has.kept commits has.first);
-    }
+first_follows before commits after has = grind (arith, append_assoc, prefix_behind)
 
 -- it has all of them pending
 pub all_follow : (before : Writing) (commits : List CommitRecord) (after : Writing)
     → after ≡ record before { pending = before.pending ++ commits }
     → Follows before.base (before.published ++ before.pending ++ commits) after
-all_follow before commits after now = subst (λ w. Follows before.base (before.published ++ before.pending ++ commits) w)
-    (sym now) record {
-      base_is = refl;
-      taken = subst (λ xs. IsPrefix xs (before.published ++ before.pending ++ commits))
-          (append_assoc before.published before.pending commits)
-          (begins_with_itself (before.published ++ before.pending ++ commits));
-    }
+all_follow before commits after now = grind (arith, append_assoc, begins_with_itself)
 
 -- and publishes them
 pub all_published : (before : Writing) (commits : List CommitRecord) (between after : Writing)
     → between ≡ record before { pending = before.pending ++ commits }
     → after ≡ record { base = between.base; published = between.published ++ between.pending; pending = [] }
     → after ≡ record { base = before.base; published = before.published ++ before.pending ++ commits; pending = [] }
-all_published before commits between after now is =
-    is ∙ (ap (λ (w : Writing). record { base = w.base; published = w.published ++ w.pending; pending = [] }) now
-    ∙ ap (λ xs. record { base = before.base; published = xs; pending = [] })
-    (sym (append_assoc before.published before.pending commits)))
+all_published before commits between after now is = grind (arith, append_assoc)
 
 pub published_follows : (base : Tables) (list : List CommitRecord) (after : Writing)
     → after ≡ record { base = base; published = list; pending = [] } → Follows base list after
@@ -143,31 +121,15 @@ pub fetched_all : (t : TokenRecord) (writer : Writing) (taken : ℕ) (after : To
     → HasTaken t writer → taken ≡ length (writer.published ++ writer.pending) → Fetches t after
     → commits ≡ drop taken after.seen
     → writer.published ++ writer.pending ++ commits ≡ after.seen
-fetched_all t writer taken after commits has count fetches is =
-    let list : List CommitRecord = writer.published ++ writer.pending in
-    let p : IsPrefix list after.seen = beside_seen t taken after.seen
-    (record { list = list; more = has.more; beside_is = has.beside_is; count_is = count }) fetches.beside in
-    ap (λ xs. list ++ xs) (is ∙ ap (λ n. drop n after.seen) count) ∙ prefix_drop list after.seen p
+fetched_all t writer taken after commits has count fetches is = grind (arith, beside_seen, prefix_drop)
 
 pub taken_follows : (t : TokenRecord) (writer : Writing) (after : TokenRecord) → HasTaken t writer → Fetches t after
     → Follows after.table.base after.seen writer
-taken_follows t writer after has fetches = record {
-  base_is = has.base_is ∙ sym (ap (λ (u : TokenRecord). u.table.base) fetches.now);
-  taken = beside_seen t (length (writer.published ++ writer.pending)) after.seen
-      (record {
-        list = writer.published ++ writer.pending;
-        more = has.more;
-        beside_is = has.beside_is;
-        count_is = refl;
-      }) fetches.beside;
-}
+taken_follows t writer after has fetches = grind (arith, beside_seen)
 
 pub knows_later : (t : TokenRecord) (reader : Reading) (after : TokenRecord) → Fetches t after → Knows t.table.base t.seen reader
     → Knows after.table.base after.seen reader
-knows_later t reader after fetches knows = record {
-  base_is = knows.base_is ∙ sym (ap (λ (u : TokenRecord). u.table.base) fetches.now);
-  told = beginnings_chain reader.told t.seen after.seen knows.told fetches.begins;
-}
+knows_later t reader after fetches knows = grind (arith, beginnings_chain)
 
 -- the writer's base is that of the token, before and after
 pub same_base : (t : TokenRecord) (writer : Writing) (after : TokenRecord) → HasTaken t writer → Fetches t after
@@ -200,69 +162,7 @@ knows_with t list u reader e knows = subst (λ (x : TokenRecord). Knows x.table.
 pub snapshot_fetched : (before : TokenRecord) (list : List CommitRecord) (taken fetched after : TokenRecord)
     → before.has_writer ≡ false → taken ≡ with_writer before list → Fetches taken fetched
     → after ≡ without_writer fetched → HasFetched before after
-snapshot_fetched before list taken fetched after free first fetches put =
-    let take_deed = deeds.deed (event.TakeWriter (number_of before.who)) Done ∷ [] in
-    let put_deed = deeds.deed (event.PutWriter (number_of before.who)) Done ∷ [] in
-    let e2 : fetched ≡ record before {
-      seen = fetched.seen;
-      beside = [];
-      has_writer = true;
-      mark = Some (length fetched.seen);
-      version = None;
-      did = (before.did ++ take_deed) ++ deeds.handed_back before.who;
-    } =
-    fetches.now ∙ ap (λ (u : TokenRecord). record u {
-      seen = fetched.seen;
-      beside = [];
-      mark = Some (length fetched.seen);
-      did = u.did ++ deeds.handed_back u.who;
-    }) first in
-    let e3 : after ≡ record before {
-      seen = fetched.seen;
-      beside = [];
-      has_writer = false;
-      mark = Some (length fetched.seen);
-      version = Some (length fetched.seen);
-      did = ((before.did ++ take_deed) ++ deeds.handed_back before.who) ++ put_deed;
-    } =
-    put ∙ ap (λ (u : TokenRecord). record u {
-      has_writer = false;
-      version = u.mark;
-      did = u.did ++ deeds.deed (event.PutWriter (number_of u.who)) Done ∷ [];
-    }) e2 in
-    let e4 : after ≡ record before {
-      seen = fetched.seen;
-      beside = [];
-      mark = Some (length fetched.seen);
-      version = Some (length fetched.seen);
-      did = before.did ++ deeds.fetched before.who;
-    } =
-    e3 ∙ (ap (λ b. record before {
-      seen = fetched.seen;
-      beside = [];
-      has_writer = b;
-      mark = Some (length fetched.seen);
-      version = Some (length fetched.seen);
-      did = ((before.did ++ take_deed) ++ deeds.handed_back before.who) ++ put_deed;
-    }) (sym free) ∙ ap (λ ds. record before {
-      seen = fetched.seen;
-      beside = [];
-      mark = Some (length fetched.seen);
-      version = Some (length fetched.seen);
-      did = ds;
-    }) (added_three before.did take_deed (deeds.handed_back before.who) put_deed)) in
-    let s : after.seen ≡ fetched.seen = ap (λ (u : TokenRecord). u.seen) put in
-    record {
-      begins = subst (λ xs. IsPrefix xs after.seen) (ap (λ (u : TokenRecord). u.seen) first)
-          (subst (λ xs. IsPrefix taken.seen xs) (sym s) fetches.begins);
-      now = subst (λ xs. after ≡ record before {
-        seen = xs;
-        beside = [];
-        mark = Some (length xs);
-        version = Some (length xs);
-        did = before.did ++ deeds.fetched before.who;
-      }) (sym s) e4;
-    }
+snapshot_fetched before list taken fetched after free first fetches put = grind (arith, added_three)
 
 pub sound_without : (t u : TokenRecord) → u ≡ without_writer t → IsSound t → IsSound u
 sound_without t u e sound = subst IsSound (sym e) record { legal = sound.legal; named = sound.named; owns = sound.owns }
@@ -272,8 +172,5 @@ pub again_follows : (base : Tables) (list : List CommitRecord) (between : Writin
     (result : Result (Unit {0}) AllocError) (after : Writing)
     → OnOk result (after ≡ record between { published = between.published ++ between.pending; pending = [] })
     → OnErr result (after ≡ between) → Follows base list between → Follows base list after
-again_follows base list between (Ok _) after is same follows = subst (λ w. Follows base list w) (sym is) record {
-  base_is = follows.base_is;
-  taken = subst (λ xs. IsPrefix xs list) (sym (append-nil (between.published ++ between.pending))) follows.taken;
-}
-again_follows base list between (Err _) after is same follows = subst (λ w. Follows base list w) (sym same) follows
+again_follows base list between (Ok _) after is same follows = grind (arith, append-nil)
+again_follows base list between (Err _) after is same follows = grind arith

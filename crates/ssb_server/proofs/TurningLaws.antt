@@ -27,96 +27,7 @@ use Rattle.ssb_server.proofs.GivingLaws.{none_grabbed}
 pub grows : (t0 t1 t2 t3 : TokenRecord) (hand : Hand) (count : ℕ) (outcome : Outcome) → t0.grabbed ≡ []
     → HasGrabbed t0 hand t1 → HasFetched t1 t2 → Gave t2 count outcome t3 → 1 ≤ count → Keeps no_hand t3.grabbed
     → Grows t0 count outcome t3
-grows t0 t1 t2 t3 hand count outcome none grabbed fetched gave some keeps =
-    let number = number_of t0.who in
-    let home : t3.grabbed ≡ [] = none_grabbed t3.grabbed keeps in
-    let all : t1.grabbed ≡ gave.left = sym (ap (λ (u : TokenRecord). u.grabbed) fetched.now)
-    ∙ (gave.grabbed_is ∙ (ap (λ gs. gave.left ++ gs) home ∙ append-nil gave.left)) in
-    let e1 : t1 ≡ record t0 {
-      mark = t1.mark;
-      version = t1.version;
-      grabbed = t1.grabbed;
-      did = t0.did ++ deeds.grabbed number gave.left;
-    } =
-    grabbed.now ∙ ap (λ gs. record t0 {
-      mark = t1.mark;
-      version = t1.version;
-      grabbed = t1.grabbed;
-      did = t0.did ++ deeds.grabbed number gs;
-    }) all in
-    let e2 : t2 ≡ record t0 {
-      seen = t2.seen;
-      beside = [];
-      mark = Some (length t2.seen);
-      version = Some (length t2.seen);
-      grabbed = t1.grabbed;
-      did = (t0.did ++ deeds.grabbed number gave.left) ++ deeds.fetched t0.who;
-    } =
-    fetched.now ∙ ap (λ (u : TokenRecord). record u {
-      seen = t2.seen;
-      beside = [];
-      mark = Some (length t2.seen);
-      version = Some (length t2.seen);
-      did = u.did ++ deeds.fetched u.who;
-    }) e1 in
-    let e3 : t3 ≡ record t0 {
-      seen = t2.seen;
-      beside = [];
-      mark = Some (length t2.seen);
-      version = Some (length t2.seen);
-      grabbed = t3.grabbed;
-      given = t0.given ++ deeds.given_to_all outcome gave.left;
-      did = ((t0.did ++ deeds.grabbed number gave.left) ++ deeds.fetched t0.who)
-          ++ deeds.answered number outcome gave.left;
-    } =
-    gave.now ∙ ap (λ (u : TokenRecord). record u {
-      grabbed = t3.grabbed;
-      given = u.given ++ deeds.given_to_all outcome gave.left;
-      did = u.did ++ deeds.answered (number_of u.who) outcome gave.left;
-    }) e2 in
-    let s : t3.seen ≡ t2.seen = ap (λ (u : TokenRecord). u.seen) gave.now in
-    let e4 : t3 ≡ record t0 {
-      seen = t2.seen;
-      beside = [];
-      mark = Some (length t2.seen);
-      version = Some (length t2.seen);
-      given = t0.given ++ deeds.given_to_all outcome gave.left;
-      did = t0.did ++ deeds.turned t0.who outcome gave.left;
-    } =
-    e3 ∙ (ap (λ gs. record t0 {
-      seen = t2.seen;
-      beside = [];
-      mark = Some (length t2.seen);
-      version = Some (length t2.seen);
-      grabbed = gs;
-      given = t0.given ++ deeds.given_to_all outcome gave.left;
-      did = ((t0.did ++ deeds.grabbed number gave.left) ++ deeds.fetched t0.who)
-          ++ deeds.answered number outcome gave.left;
-    }) (home ∙ sym none) ∙ ap (λ ds. record t0 {
-      seen = t2.seen;
-      beside = [];
-      mark = Some (length t2.seen);
-      version = Some (length t2.seen);
-      given = t0.given ++ deeds.given_to_all outcome gave.left;
-      did = ds;
-    }) (added_three t0.did (deeds.grabbed number gave.left) (deeds.fetched t0.who)
-    (deeds.answered number outcome gave.left))) in
-    record {
-      begins = subst (λ xs. IsPrefix t0.seen xs) (sym s)
-          (subst (λ xs. IsPrefix xs t2.seen) (ap (λ (u : TokenRecord). u.seen) e1) fetched.begins);
-      hand = gave.left;
-      count_is = gave.count_is;
-      some = some;
-      fresh = gave.fresh;
-      now = subst (λ xs. t3 ≡ record t0 {
-        seen = xs;
-        beside = [];
-        mark = Some (length xs);
-        version = Some (length xs);
-        given = t0.given ++ deeds.given_to_all outcome gave.left;
-        did = t0.did ++ deeds.turned t0.who outcome gave.left;
-      }) (sym s) e4;
-    }
+grows t0 t1 t2 t3 hand count outcome none grabbed fetched gave some keeps = grind (arith, none_grabbed, append-nil, added_three)
 
 pub turned : (t0 t1 t3 : TokenRecord) (hand : Hand) (turn : Turn) → t0.grabbed ≡ [] → HasGrabbed t0 hand t1 → Ends t1 turn t3
     → Keeps no_hand t3.grabbed → Turned t0 turn t3
@@ -179,15 +90,7 @@ nothing_grabbed t u hand grabbed is = subst HoldsNothing (sym grabbed.now) recor
 pub are_snapshot : (t : TokenRecord) (guard : Entered) (columns : Stored) → StandsAt t.table.base t.seen guard
     → columns_state columns ≡ guard.state → length (lines_after t.table.base t.seen) ≤ t.table.base.limits.lines
     → AreSnapshot columns
-are_snapshot t guard columns at same few =
-    let base : columns.base ≡ t.table.base = ap (λ (s : State). s.base) same ∙ at.base_is in
-    let n : t.table.base.limits.lines ≤ 33554432 = t.table.base.limits.lines_range in
-    let m : length (lines_after t.table.base t.seen) ≤ 33554432 = omega arith in
-    record {
-      history = t.seen;
-      stands = subst (λ s. StandsFor s t.seen) (sym same) at.stands;
-      few = subst (λ b. length (lines_after b t.seen) ≤ 33554432) (sym base) m;
-    }
+are_snapshot t guard columns at same few = grind arith
 
 pub copy_stands : (t : TokenRecord) (guard : Entered) (columns : Stored) → StandsAt t.table.base t.seen guard
     → columns_state columns ≡ guard.state → StandsFor (columns_state columns) t.seen
@@ -200,10 +103,7 @@ copy_base t guard columns at same = ap (λ (s : State). s.base) same ∙ at.base
 -- the reader that left knows what is seen
 pub left : (base : Tables) (seen : List CommitRecord) (guard : Entered) (back : Reading) → StandsAt base seen guard
     → back.base ≡ guard.state.base → back.told ≡ guard.told → Knows base seen back
-left base seen guard back at back_base back_told = record {
-  base_is = back_base ∙ at.base_is;
-  told = subst (λ xs. IsPrefix xs seen) (sym back_told) at.told;
-}
+left base seen guard back at back_base back_told = grind arith
 
 pub knows_grabbed : (t u : TokenRecord) (hand : Hand) (reader : Reading) → HasGrabbed t hand u → Knows t.table.base t.seen reader
     → Knows u.table.base u.seen reader
@@ -230,7 +130,4 @@ fetched_free t u fetched free = subst IsFree (sym fetched.now)
 
 pub fetched_knows : (t u : TokenRecord) (reader : Reading) → HasFetched t u → Knows t.table.base t.seen reader
     → Knows u.table.base u.seen reader
-fetched_knows t u reader fetched knows = record {
-  base_is = knows.base_is ∙ sym (ap (λ (x : TokenRecord). x.table.base) fetched.now);
-  told = beginnings_chain reader.told t.seen u.seen knows.told fetched.begins;
-}
+fetched_knows t u reader fetched knows = grind (arith, beginnings_chain)

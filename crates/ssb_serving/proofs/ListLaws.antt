@@ -24,10 +24,7 @@ push_made make done now after last y was grown is =
 pub push_read : {X Y Z : Type 0} (make : X → Y) (read : Z → Y) (done : List X) (now after : List Z) (last : X) (z : Z)
     → map read now ≡ map make done → after ≡ now ++ z ∷ [] → read z ≡ make last
     → map read after ≡ map make (done ++ last ∷ [])
-push_read make read done now after last z was grown is =
-    ap (map read) grown ∙ (map-append read now (z ∷ [])
-    ∙ (ap (λ ys. ys ++ read z ∷ []) was ∙ (ap (λ y. map make done ++ y ∷ []) is
-    ∙ sym (map-append make done (last ∷ [])))))
+push_read make read done now after last z was grown is = grind (arith, map-append)
 
 -- the same of lists one behind the other
 pub push_flat : {X Y : Type 0} (make : X → List Y) (done : List X) (now after : List Y) (last : X) (ys : List Y)

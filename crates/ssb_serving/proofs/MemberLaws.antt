@@ -37,11 +37,10 @@ number_in t = number_of t.who
 
 -- members keep their numbers
 still_numbers : (befores afters : List TokenRecord) → AreStill befores afters → map number_in afters ≡ map number_in befores
-still_numbers [] [] are = refl
-still_numbers [] (a ∷ others) are = absurd are
-still_numbers (b ∷ others) [] are = absurd are
-still_numbers (b ∷ befores) (a ∷ afters) are = ap (λ w. number_of w ∷ map number_in afters) are.0.who
-    ∙ ap (λ ns. number_of b.who ∷ ns) (still_numbers befores afters are.1)
+still_numbers [] [] are = grind arith
+still_numbers [] (a ∷ others) are = grind arith
+still_numbers (b ∷ others) [] are = grind arith
+still_numbers (b ∷ befores) (a ∷ afters) are = grind (arith, still_numbers befores afters are.1)
 
 -- a number is once in a row that it is in, and not in one that begins later
 count_map : {X Y : Type 0} (p : Y → Bool) (f : X → Y) (xs : List X) → count_by (λ x. p (f x)) xs ≡ count_by p (map f xs)
@@ -53,11 +52,8 @@ abbrev one_if : Bool → ℕ
 one_if test = cond test 1 0
 
 not_in_row : (first n number : ℕ) → number < first → count_by (λ x. x == number) (range_with_len first n) ≡ 0
-not_in_row first zero number low = refl
-not_in_row first (suc n) number low =
-    let here : one_if (eqb first number) ≡ 0 = ap one_if (ne_eqb first number (λ e. omega (arith, e, low))) in
-    let later = not_in_row (first + 1) n number (omega (arith, low)) in
-    omega (arith, count_cons (λ x. x == number) first (range_with_len (first + 1) n), here, later)
+not_in_row first zero number low = grind arith
+not_in_row first (suc n) number low = grind (arith, eqb, ne_eqb, count_cons, not_in_row (first + 1) n number (omega (arith, low)))
 
 -- the first of a row is it, or a later one
 once_first : (first n number : ℕ) → ((eqb first number ≡ true) × (first ≡ number))

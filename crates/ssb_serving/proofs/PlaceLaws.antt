@@ -42,8 +42,7 @@ get_below (x ∷ xs) (suc i) low = get_below xs i (omega (arith, low))
 -- what stands at the same place of two lists that agree place by place
 pub zip_at : {X Y : Type 0} (R : X → Y → Type 0) (xs : List X) (ys : List Y) (i : ℕ) (x : X) (y : Y) → AllZip R xs ys
     → slice_get xs i ≡ Some x → slice_get ys i ≡ Some y → R x y
-zip_at R [] ys i x y all here there = absurd (none_is here)
-zip_at R (a ∷ xs) [] i x y all here there = absurd (none_is there)
-zip_at R (a ∷ xs) (b ∷ ys) zero x y all here there =
-    subst (λ z. R z y) (some_is here) (subst (R a) (some_is there) all.0)
-zip_at R (a ∷ xs) (b ∷ ys) (suc i) x y all here there = zip_at R xs ys i x y all.1 here there
+zip_at R [] ys i x y all here there = grind (arith, none_is)
+zip_at R (a ∷ xs) [] i x y all here there = grind (arith, none_is)
+zip_at R (a ∷ xs) (b ∷ ys) zero x y all here there = grind (arith, some_is)
+zip_at R (a ∷ xs) (b ∷ ys) (suc i) x y all here there = grind (arith, zip_at R xs ys i x y all.1 here there)

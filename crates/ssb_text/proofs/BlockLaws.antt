@@ -1,3 +1,4 @@
+use Rattle.std.proofs.Common.{arith}
 -- What is known of the bytes of a source while blocks are cut from them.
 use Rattle.std.proofs.Common.{◌≡◌, ◌<◌, ℕ, true, List, [], ◌∷◌, ◌++◌, append-nil, append_assoc, length, take, drop}
 use Rattle.std.proofs.Common.{get_or, drop-cons, Option, Some, None, refl, sym, ap, ◌∙◌}
@@ -17,22 +18,13 @@ block_starts carry (Some rest) text is = (rest, refl, cc is)
 
 pub consumes_known : (old new : Option (List ℕ)) (rest bytes : List ℕ) → old ≡ Some rest → Consumes old new bytes
     → (later : List ℕ) × (new ≡ Some later) × (rest ≡ bytes ++ later)
-consumes_known None new rest bytes is consumed = cc is
-consumes_known (Some all) None rest bytes is consumed = absurd consumed
-consumes_known (Some all) (Some later) rest bytes is consumed =
-    let same : all ≡ rest = cc is in
-    (later, refl, sym same ∙ consumed)
+consumes_known None new rest bytes is consumed = grind arith
+consumes_known (Some all) None rest bytes is consumed = grind arith
+consumes_known (Some all) (Some later) rest bytes is consumed = grind arith
 
 pub block_more : (old before after : Option (List ℕ)) (block more : List ℕ) (count : ℕ) → BlockSoFar old before block
     → ReadsMore before after block more count → BlockSoFar old after more
-block_more old before after block more count so_far read text is =
-    let here = so_far text is in
-    let next = consumes_known before after here.0 read.bytes here.1 read.consumed in (
-      next.0,
-      next.1,
-      here.2 ∙ ap (λ (rest : List ℕ). block ++ rest) next.2 ∙ sym (append_assoc block read.bytes next.0)
-          ∙ ap (λ (front : List ℕ). front ++ next.0) (sym read.behind),
-    )
+block_more old before after block more count so_far read text is = grind (arith, consumes_known, append_assoc)
 
 pub end_known : (known : Option (List ℕ)) (rest : List ℕ) → known ≡ Some rest → IsAtEnd known → rest ≡ []
 end_known None rest is ended = cc is
@@ -41,18 +33,12 @@ end_known (Some all) rest is ended = let same : all ≡ rest = cc is in sym same
 -- the source is at its end, and nothing was read
 pub block_none : (old source : Option (List ℕ)) (carry block : List ℕ) → BlockSoFar old source block → IsAtEnd source
     → carry ≡ [] → block ≡ [] → WasAll old (prepend_known carry source)
-block_none old source carry block so_far ended none empty text is =
-    let here = so_far text is in
-    let last = end_known source here.0 here.1 ended in
-    (here.2 ∙ rw (empty, last) refl, rw (none, here.1, last) refl)
+block_none old source carry block so_far ended none empty text is = grind (arith, end_known)
 
 -- the source is at its end, and what was read is the last block
 pub block_last : (old source : Option (List ℕ)) (carry block : List ℕ) → BlockSoFar old source block → IsAtEnd source
     → carry ≡ [] → GivesBlock old (prepend_known carry source) block
-block_last old source carry block so_far ended none text is =
-    let here = so_far text is in
-    let empty = end_known source here.0 here.1 ended in
-    ([], rw (none, here.1, empty) refl, rw empty at here.2, refl)
+block_last old source carry block so_far ended none text is = grind (arith, end_known)
 
 line_starts : (bytes rest : List ℕ) (at : ℕ) → at < length bytes → get_or bytes at 0 ≡ 10
     → starts_line (drop at bytes ++ rest) ≡ true
@@ -82,42 +68,23 @@ joined-push (b ∷ bs) block =
 
 cut_more : (blocks : List (List ℕ)) (block rest : List ℕ) → AreCut blocks (block ++ rest) → starts_line rest ≡ true
     → AreCut (blocks ++ block ∷ []) rest
-cut_more [] block rest cut line = (line, tt)
-cut_more (b ∷ bs) block rest cut line =
-    let same : joined (bs ++ block ∷ []) ++ rest ≡ joined bs ++ (block ++ rest) =
-    rw (joined-push bs block) (append_assoc (joined bs) block rest) in
-    (rw same cut.0, cut_more bs block rest cut.1 line)
+cut_more [] block rest cut line = grind arith
+cut_more (b ∷ bs) block rest cut line = grind (arith, joined-push, append_assoc, cut_more bs block rest cut.1 line)
 
 -- one block more was given
 pub blocks_more : (old now new : Option (List ℕ)) (blocks : List (List ℕ)) (block : List ℕ)
     → GivesBlocks old now blocks → GivesBlock now new block → GivesBlocks old new (blocks ++ block ∷ [])
-blocks_more old now new blocks block given next text is =
-    let so_far = given text is in
-    let more = next so_far.0 so_far.1 in (
-      more.0,
-      more.1,
-      so_far.2 ∙ ap (λ (rest : List ℕ). joined blocks ++ rest) more.2
-          ∙ sym (append_assoc (joined blocks) block more.0)
-          ∙ ap (λ (front : List ℕ). front ++ more.0) (sym (joined-push blocks block)),
-      cut_more blocks block more.0 (rw more.2 at so_far.3) more.3,
-    )
+blocks_more old now new blocks block given next text is = grind (arith, append_assoc, joined-push, cut_more)
 
 -- there were no more bytes
 pub blocks_end : (old now new : Option (List ℕ)) (blocks : List (List ℕ)) → GivesBlocks old now blocks → WasAll now new
     → GivesBlocks old new blocks
-blocks_end old now new blocks given ended text is =
-    let so_far = given text is in
-    let none = ended so_far.0 so_far.1 in
-    let text_is : text ≡ joined blocks ++ [] = so_far.2 ∙ rw none.0 refl in
-    ([], none.1, text_is, rw none.0 at so_far.3)
+blocks_end old now new blocks given ended text is = grind arith
 
 -- no block was given, and there were no more bytes
 pub all_given : (old now new : Option (List ℕ)) (blocks : List (List ℕ)) → GivesBlocks old now blocks
     → WasAll now new → blocks ≡ [] → WasAll old new
-all_given old now new blocks given ended none text is =
-    let so_far = given text is in
-    let last = ended so_far.0 so_far.1 in
-    (so_far.2 ∙ rw (none, last.0) refl, last.1)
+all_given old now new blocks given ended none text is = grind arith
 
 -- what begins with a block follows if the block does
 pub follows_block : (done block rest : List ℕ) → Follows done (block ++ rest) → Follows done block
@@ -133,7 +100,5 @@ line_follows (x ∷ done) next line = line
 -- what stands behind blocks follows them
 pub follows_blocks : (done rest : List ℕ) (blocks : List (List ℕ)) → Follows done (joined blocks ++ rest)
     → AreCut blocks rest → Follows (done ++ joined blocks) rest
-follows_blocks done rest [] follows cut = rw (append-nil done) follows
-follows_blocks done rest (b ∷ bs) follows cut =
-    rw (← append_assoc done b (joined bs)) (follows_blocks (done ++ b) rest bs
-    (line_follows (done ++ b) (joined bs ++ rest) cut.0) cut.1)
+follows_blocks done rest [] follows cut = grind (arith, append-nil)
+follows_blocks done rest (b ∷ bs) follows cut = grind (arith, append_assoc, line_follows, follows_blocks (done ++ b) rest bs (line_follows (done ++ b) (joined bs ++ rest) cut.0) cut.1)

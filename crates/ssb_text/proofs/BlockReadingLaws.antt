@@ -15,10 +15,4 @@ front_kept before pad from more long =
 pub reads_behind : (old new : Option (List ℕ)) (before bytes : List ℕ) (from count : ℕ) → take from bytes ≡ before
     → from + count ≤ length bytes → Consumes old new (take count (drop from bytes)) → (count ≡ 0 → IsAtEnd new)
     → ReadsMore old new before (take (from + count) bytes) count
-reads_behind old new before bytes from count front within consumed ended = record {
-  bytes = take count (drop from bytes);
-  behind = take-add from count bytes ∙ rw front refl;
-  counted = length-take-le count (drop from bytes) (omega (arith, length-drop from bytes));
-  consumed = consumed;
-  ended = ended;
-}
+reads_behind old new before bytes from count front within consumed ended = grind (arith, take-add, length-take-le, length-drop)

@@ -45,19 +45,10 @@ pub values_read : (t : Table) (front : List (List ℕ)) (kinds : List Kind) (val
     → AllZip IsColumn kinds values
     → values_from t (length front) kinds (front ++ map column_text values) ≡ Ok values
 unfolding values_from
-values_read t front [] [] fit = refl
-values_read t front [] (v ∷ values) fit = absurd fit
-values_read t front (k ∷ kinds) [] fit = absurd fit
-values_read t front (k ∷ kinds) (v ∷ values) fit =
-    let there : get_or (front ++ column_text v ∷ map column_text values) (length front) [] ≡ column_text v =
-    get_or-append_seam front (column_text v) (map column_text values) [] in
-    let later : values_from t (length front + 1) kinds (front ++ column_text v ∷ map column_text values) ≡ Ok values
-    = ap (λ n. values_from t n kinds (front ++ column_text v ∷ map column_text values))
-    (sym (length-append front (column_text v ∷ [])))
-    ∙ (ap (values_from t (length (front ++ column_text v ∷ [])) kinds)
-    (sym (append_assoc front (column_text v ∷ []) (map column_text values)))
-    ∙ values_read t (front ++ column_text v ∷ []) kinds values fit.1) in
-    rw (there, value-read (record { table = t; place = length front + 1 }) k v fit.0, later) refl
+values_read t front [] [] fit = grind arith
+values_read t front [] (v ∷ values) fit = grind arith
+values_read t front (k ∷ kinds) [] fit = grind arith
+values_read t front (k ∷ kinds) (v ∷ values) fit = grind (arith, get_or-append_seam, length-append, append_assoc, value-read, values_read t (front ++ column_text v ∷ []) kinds values fit.1)
 
 -- what the schema takes is read back
 matches : Kind → Value → Bool
@@ -79,20 +70,11 @@ or-right true b e = absurd cc
 
 number-fits : (column : Column) (least most n : ℕ) → column_fault column (kind.Number least most) (Number n) ≡ None
     → n ≤ most
-number-fits column least most n none = elim (cases_Bool (nat_lt n least || nat_lt most n)) [
-  | inl outside ↦ absurd (none-some _ (sym (rw outside at none)))
-  | inr within ↦ ltb-false most n (or-right (nat_lt n least) (nat_lt most n) within)
-]
+number-fits column least most n none = grind (arith, cases_Bool, nat_lt, none-some, ltb-false, or-right)
 
 text-fits : (column : Column) (bytes : List ℕ) → column_fault column kind.Text (Text bytes) ≡ None
     → is_plain bytes ≡ true
-text-fits column bytes none = elim (cases_Bool (is_plain bytes)) [
-  | inl plain ↦ plain
-  | inr other ↦ elim (cases_Bool (nat_lt 64 (length bytes))) [
-    | inl long ↦ absurd (none-some _ (sym (rw long at none)))
-    | inr short ↦ absurd (none-some _ (sym (rw (short, other) at none)))
-  ]
-]
+text-fits column bytes none = grind (arith, cases_Bool, nat_lt, none-some)
 
 false-true : false ≡ true → ⊥
 false-true e = cc
@@ -100,12 +82,10 @@ false-true e = cc
 column-fits : (column : Column) (k : Kind) (v : Value) → matches k v ≡ true → IsColumnText v
     → column_fault column k v ≡ None → IsColumn k v
 unfolding matches
-column-fits column (kind.Number least most) (Number n) match text none =
-    let within : n ≤ most = number-fits column least most n none in
-    (within, omega (arith, within, ltb-true most (2 ^ 64) match))
-column-fits column kind.Text (Text bytes) match text none = (text-fits column bytes none, text)
-column-fits column (kind.Number least most) (Text bytes) match text none = absurd (false-true match)
-column-fits column kind.Text (Number n) match text none = absurd (false-true match)
+column-fits column (kind.Number least most) (Number n) match text none = grind (arith, number-fits, ltb-true)
+column-fits column kind.Text (Text bytes) match text none = grind (arith, text-fits)
+column-fits column (kind.Number least most) (Text bytes) match text none = grind (arith, false-true)
+column-fits column kind.Text (Number n) match text none = grind (arith, false-true)
 
 no-first : (f other : Option SchemaFault) → or_else f other ≡ None → f ≡ None
 no-first None other e = refl

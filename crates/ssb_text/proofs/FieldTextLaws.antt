@@ -37,28 +37,18 @@ ends-later b c rest =
     ap (λ n. pointwise nat_eq (32 ∷ []) (drop n (b ∷ c ∷ rest))) count
 
 some-other : (b : ℕ) (rest : List ℕ) → ends_in_space (b ∷ rest) ≡ false → list_all is_space (b ∷ rest) ≡ false
-some-other b [] end = elim (cases_Bool (b == 32)) [
-  | inl same ↦ absurd (let space : b ≡ 32 = eqb-true b 32 same in let bad :
-      ends_in_space (32 ∷ []) ≡ false = subst (λ c. ends_in_space (c ∷ []) ≡ false) space end in cc)
-  | inr other ↦ rw other refl
-]
-some-other b (c ∷ rest) end =
-    let later : list_all is_space (c ∷ rest) ≡ false = some-other c rest (sym (ends-later b c rest) ∙ end) in
-    ap (λ t. is_space b && t) later ∙ and-false (is_space b)
+some-other b [] end = grind (arith, cases_Bool, eqb-true)
+some-other b (c ∷ rest) end = grind (arith, ends-later, and-false, some-other c rest (sym (ends-later b c rest) ∙ end))
 
 kept-text : (bytes : List ℕ) → ends_in_space bytes ≡ false → without_spaces bytes ≡ bytes
 unfolding without_spaces
-kept-text [] end = refl
-kept-text (b ∷ []) end = not-all-spaces b [] (some-other b [] end) refl
-kept-text (b ∷ c ∷ rest) end = not-all-spaces b (c ∷ rest) (some-other b (c ∷ rest) end)
-    (kept-text (c ∷ rest) (sym (ends-later b c rest) ∙ end))
+kept-text [] end = grind arith
+kept-text (b ∷ []) end = grind (arith, not-all-spaces, some-other)
+kept-text (b ∷ c ∷ rest) end = grind (arith, not-all-spaces, some-other, ends-later, kept-text (c ∷ rest) (sym (ends-later b c rest) ∙ end))
 
 -- a text that a table file can hold is kept
 pub text_kept : (bytes : List ℕ) → is_plain bytes ≡ true → IsKept bytes
-text_kept bytes plain = record {
-  plain = and-left (list_all is_plain_byte bytes) (not (ends_in_space bytes)) plain;
-  kept = kept-text bytes (not-false _ (and-right (list_all is_plain_byte bytes) (not (ends_in_space bytes)) plain));
-}
+text_kept bytes plain = grind (arith, and-left, kept-text, not-false, and-right)
 
 -- and is text where it is UTF-8
 pub text_read : (bytes : List ℕ) → IsUtf8 bytes → text_of bytes ≡ Some bytes

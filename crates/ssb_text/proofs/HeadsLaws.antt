@@ -16,11 +16,9 @@ use Rattle.ssb_text.proofs.ChecksumLaws.{all-push}
 -- a read that gave no bytes found no more
 pub none_left : (old new : Option (List ℕ)) (bytes : List ℕ) (count : ℕ) → count ≡ 0
     → Consumes old new (take count bytes) → IsAtEnd new → IsAtEnd old
-none_left None new bytes count zero consumed ended = tt
-none_left (Some all) None bytes count zero consumed ended = absurd consumed
-none_left (Some all) (Some rest) bytes count zero consumed ended =
-    let none : take count bytes ≡ [] = rw zero refl in
-    consumed ∙ rw (none, ended) refl
+none_left None new bytes count zero consumed ended = grind arith
+none_left (Some all) None bytes count zero consumed ended = grind arith
+none_left (Some all) (Some rest) bytes count zero consumed ended = grind arith
 
 -- a read into one byte that gave some gave that
 pub one_byte : (bytes : List ℕ) (count : ℕ) → length bytes ≡ 1 → count ≤ length bytes → count ≢ 0
@@ -36,21 +34,17 @@ HasNoFeed line = AllByRecursion (λ b. b ≢ 10) line
 -- so a line that a feed ends is no shorter
 feed_behind : (bytes rest line rows : List ℕ) → HasNoFeed bytes → bytes ++ rest ≡ line ++ 10 ∷ rows
     → length line < length bytes → ⊥
-feed_behind [] rest line rows none same long = absurd (omega (arith, long))
-feed_behind (x ∷ bytes) rest [] rows none same long = none.0 (ap (λ (l : List ℕ). get_or l 0 0) same)
-feed_behind (x ∷ bytes) rest (b ∷ line) rows none same long =
-    feed_behind bytes rest line rows none.1 (ap (λ (l : List ℕ). drop 1 l) same) (omega (arith, long))
+feed_behind [] rest line rows none same long = grind arith
+feed_behind (x ∷ bytes) rest [] rows none same long = grind arith
+feed_behind (x ∷ bytes) rest (b ∷ line) rows none same long = grind (arith, feed_behind bytes rest line rows none.1 (ap (λ (l : List ℕ). drop 1 l) same) (omega (arith, long)))
 
 -- the first line of a file is one
 same_line : (one other rest rows : List ℕ) → HasNoFeed one → HasNoFeed other → one ++ 10 ∷ rest ≡ other ++ 10 ∷ rows
     → one ≡ other
-same_line [] [] rest rows here there same = refl
-same_line [] (y ∷ other) rest rows here there same =
-    absurd (there.0 (sym (ap (λ (l : List ℕ). get_or l 0 0) same)))
-same_line (x ∷ one) [] rest rows here there same = absurd (here.0 (ap (λ (l : List ℕ). get_or l 0 0) same))
-same_line (x ∷ one) (y ∷ other) rest rows here there same =
-    ap (λ (b : ℕ). b ∷ one) (ap (λ (l : List ℕ). get_or l 0 0) same)
-    ∙ ap (λ (l : List ℕ). y ∷ l) (same_line one other rest rows here.1 there.1 (ap (λ (l : List ℕ). drop 1 l) same))
+same_line [] [] rest rows here there same = grind arith
+same_line [] (y ∷ other) rest rows here there same = grind arith
+same_line (x ∷ one) [] rest rows here there same = grind arith
+same_line (x ∷ one) (y ∷ other) rest rows here there same = grind (arith, same_line one other rest rows here.1 there.1 (ap (λ (l : List ℕ). drop 1 l) same))
 
 -- so many bytes were read, none of which is a line feed, and so many of which part fields
 pub record ReadsLine (delimiter : Delimiter) (old new : Option (List ℕ)) (long count : ℕ) : Type 0 where
@@ -61,13 +55,7 @@ pub record ReadsLine (delimiter : Delimiter) (old new : Option (List ℕ)) (long
   pub known : (file : List ℕ) → old ≡ Some file → (rest : List ℕ) × (new ≡ Some rest) × (file ≡ line ++ rest)
 
 pub line_begun : (delimiter : Delimiter) (known : Option (List ℕ)) → ReadsLine delimiter known known 0 0
-line_begun delimiter known = record {
-  line = [];
-  no_feed = tt;
-  many = refl;
-  counted = refl;
-  known = λ file is. (file, is, refl);
-}
+line_begun delimiter known = grind arith
 
 -- one byte more
 pub line_more : (delimiter : Delimiter) (old mid new : Option (List ℕ)) (long count more b : ℕ)
@@ -92,16 +80,7 @@ line_more delimiter old mid new long count more b so_far consumed no_feed counts
 pub line_ended : (delimiter : Delimiter) (old mid new : Option (List ℕ)) (long count : ℕ)
     → ReadsLine delimiter old mid long count → long < most_heads → Consumes mid new (10 ∷ [])
     → EndsLine delimiter old new count
-line_ended delimiter old mid new long count so_far short consumed file is =
-    let here = so_far.known file is in
-    let next = consumes_known mid new here.0 (10 ∷ []) here.1 consumed in (
-      so_far.line,
-      next.0,
-      next.1,
-      here.2 ∙ ap (λ (rest : List ℕ). so_far.line ++ rest) next.2,
-      (so_far.no_feed, omega (arith, so_far.many, short)),
-      so_far.counted,
-    )
+line_ended delimiter old mid new long count so_far short consumed file is = grind (arith, consumes_known)
 
 -- no more bytes are there
 pub no_line_left : (delimiter : Delimiter) (old mid : Option (List ℕ)) (long count : ℕ)
@@ -142,13 +121,7 @@ heads_are delimiter old new found count ends enough file is =
 pub other_heads : (delimiter : Delimiter) (old new : Option (List ℕ)) (found count : ℕ)
     → EndsLine delimiter old new found → found + 1 ≢ count → found ≢ count
     → (file rows : List ℕ) → old ≡ Some file → HasHeads delimiter count file rows → ⊥
-other_heads delimiter old new found count ends not_fewer not_as_many file rows is has =
-    let e = ends file is in
-    let same : has.heads ≡ e.0 =
-    same_line has.heads e.0 rows e.1 has.one_line e.4.0 (sym has.parted ∙ e.3) in
-    let counted : count_by (parts delimiter) has.heads ≡ found = ap (count_by (parts delimiter)) same ∙ e.5 in
-    ⊎_elim (λ fewer. not_fewer (ap (λ (n : ℕ). n + 1) (sym counted) ∙ fewer))
-    (λ as_many. not_as_many (sym counted ∙ as_many)) has.fields
+other_heads delimiter old new found count ends not_fewer not_as_many file rows is has = grind (arith, same_line, ⊎_elim)
 
 -- no line was read
 pub no_heads : (delimiter : Delimiter) (old : Option (List ℕ)) (count : ℕ) → HasNoLine old
@@ -159,9 +132,4 @@ no_heads delimiter old count none file rows is has =
 -- the rows below the heads of a file are one text
 pub one_rows : (delimiter : Delimiter) (count : ℕ) (file one other : List ℕ) → HasHeads delimiter count file one
     → HasHeads delimiter count file other → one ≡ other
-one_rows delimiter count file one other has also =
-    let same : has.heads ≡ also.heads =
-    same_line has.heads also.heads one other has.one_line also.one_line (sym has.parted ∙ also.parted) in
-    let both : also.heads ++ 10 ∷ one ≡ also.heads ++ 10 ∷ other =
-    ap (λ (l : List ℕ). l ++ 10 ∷ one) (sym same) ∙ sym has.parted ∙ also.parted in
-    ap (λ (l : List ℕ). drop 1 l) (append_cancel_left also.heads (10 ∷ one) (10 ∷ other) both)
+one_rows delimiter count file one other has also = grind (arith, same_line, append_cancel_left)

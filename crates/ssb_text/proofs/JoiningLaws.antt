@@ -57,14 +57,7 @@ too_many_at : (limit : ℕ) (text : List ℕ) (before : List (List (List ℕ))) 
     (rows : List (List Value))
     → BeginsWith text (before ++ fields ∷ []) → SpellRows before rows → length before ≡ limit
     → IsFirstFault table.Lineorder limit text (errors.Row table.Lineorder (limit + 1) (schema.TooManyRows table.Lineorder))
-too_many_at limit text before fields rows begins spelled full = record {
-  before = before;
-  fields = fields;
-  begins = begins;
-  rows = rows;
-  spelled = spelled;
-  has_fault = rw full (inl (refl, refl));
-}
+too_many_at limit text before fields rows begins spelled full = grind arith
 
 too_many_of : (limit : ℕ) (text : List ℕ) (records : List (List (List ℕ))) (rows : List (List Value))
     → BeginsWith text records → SpellRows records rows → limit < length records
@@ -101,16 +94,7 @@ OneBlock R x done rest blocks = (block : List ℕ) × (joined blocks ≡ block) 
 in_text : {X : Type 0} (R : List ℕ → X → Type 0) (x : X) (done rest : List ℕ) (blocks : List (List ℕ))
     → Follows done (joined blocks ++ rest) → AreCut blocks rest → AllZip R blocks (x ∷ [])
     → OneBlock R x done rest blocks
-in_text R x done rest blocks follows cut zipped =
-    let one = one_block R x blocks zipped in
-    let same : joined blocks ≡ one.0 = ap joined one.1 ∙ append-nil one.0 in
-    let lines = rw one.1 at cut in (
-      one.0,
-      same,
-      one.2,
-      follows_block done one.0 rest (rw same at follows),
-      line_follows (done ++ one.0) rest lines.0,
-    )
+in_text R x done rest blocks follows cut zipped = grind (arith, one_block, append-nil, follows_block, line_follows)
 
 pub joins_one : {X : Type 0} (R : List ℕ → X → Type 0) (x : X) (old more : List (List Value))
     → ((block : List ℕ) → R block x → SpellsAll block more) → Joins R (x ∷ []) old (old ++ more)

@@ -21,18 +21,15 @@ bar_kept : (delimiter : Delimiter) (b : ℕ) → delimiter.byte ≡ 124 → as_b
 bar_kept delimiter b bar = either_way (b == delimiter.byte) 124 b (λ is. sym (eqb-true b delimiter.byte is ∙ bar))
 
 pub bars_kept : (delimiter : Delimiter) (bytes : List ℕ) → delimiter.byte ≡ 124 → bytes ≡ with_bars delimiter bytes
-bars_kept delimiter [] bar = refl
-bars_kept delimiter (b ∷ bytes) bar =
-    ap (λ (x : ℕ). x ∷ bytes) (sym (bar_kept delimiter b bar))
-    ∙ ap (λ (l : List ℕ). as_bar delimiter b ∷ l) (bars_kept delimiter bytes bar)
+bars_kept delimiter [] bar = grind arith
+bars_kept delimiter (b ∷ bytes) bar = grind (arith, bar_kept, bars_kept delimiter bytes bar)
 
 -- what was read of known bytes, and what is left
 pub barred_consumed : (delimiter : Delimiter) (old new : Option (List ℕ)) (bytes : List ℕ) → Consumes old new bytes
     → Consumes (option_map (with_bars delimiter) old) (option_map (with_bars delimiter) new) (with_bars delimiter bytes)
-barred_consumed delimiter None new bytes consumed = tt
-barred_consumed delimiter (Some all) None bytes consumed = absurd consumed
-barred_consumed delimiter (Some all) (Some rest) bytes consumed =
-    ap (with_bars delimiter) consumed ∙ map-append (as_bar delimiter) bytes rest
+barred_consumed delimiter None new bytes consumed = grind arith
+barred_consumed delimiter (Some all) None bytes consumed = grind arith
+barred_consumed delimiter (Some all) (Some rest) bytes consumed = grind (arith, map-append)
 
 pub barred_end : (delimiter : Delimiter) (known : Option (List ℕ)) → IsAtEnd known
     → IsAtEnd (option_map (with_bars delimiter) known)
@@ -59,30 +56,12 @@ pub barred_read : (delimiter : Delimiter) (old new : Option (List ℕ)) (bytes :
     (take count (with_bars delimiter (take count bytes) ++ drop count bytes))
     × (count ≡ 0 → 0 < length (with_bars delimiter (take count bytes) ++ drop count bytes)
     → IsAtEnd (option_map (with_bars delimiter) new))
-barred_read delimiter old new bytes count few consumed ended =
-    let front = with_bars delimiter (take count bytes) in
-    let long : length (front ++ drop count bytes) ≡ length bytes =
-    omega (
-      arith,
-      length-append front (drop count bytes),
-      length-map (take count bytes) (as_bar delimiter),
-      length-take-le count bytes few,
-      length-drop count bytes,
-    ) in (
-      rw (front_barred delimiter bytes count few) (barred_consumed delimiter old new (take count bytes) consumed),
-      λ zero some. barred_end delimiter new (ended zero (omega (arith, some, long))),
-    )
+barred_read delimiter old new bytes count few consumed ended = grind (arith, length-append, length-map, length-take-le, length-drop, front_barred, barred_consumed, barred_end)
 
 -- files as the benchmark's generator writes them have the texts of their rows
 pub benchmark_rows : (t : Table) (known : Option (List ℕ)) (text : List ℕ) → known ≡ Some text
     → IsRowsText benchmark_layout t known text
-benchmark_rows t known text is = record {
-  file = text;
-  is = is;
-  rows = text;
-  below = refl;
-  barred = bars_kept benchmark_layout.delimiter text refl;
-}
+benchmark_rows t known text is = grind (arith, bars_kept)
 
 -- what stands below the heads is what was left when they were read
 pub below_heads : (layout : TableLayout) (t : Table) (known left : Option (List ℕ)) (text : List ℕ)
@@ -103,11 +82,7 @@ below_heads layout t known left text has read is =
 pub below_none : (layout : TableLayout) (t : Table) (known : Option (List ℕ)) (text : List ℕ)
     → layout.has_heads ≡ false → IsRowsText layout t known text
     → option_map (with_bars layout.delimiter) known ≡ Some text
-below_none layout t known text none is =
-    let all : is.rows ≡ is.file =
-    subst (λ (b : Bool). AreBelow b layout.delimiter (length (kinds_of t)) is.file is.rows) none is.below in
-    ap (option_map (with_bars layout.delimiter)) is.is
-    ∙ ap Some (ap (with_bars layout.delimiter) (sym all) ∙ sym is.barred)
+below_none layout t known text none is = grind arith
 
 -- where no line of heads is, there are no rows
 pub no_rows : (layout : TableLayout) (t : Table) (known : Option (List ℕ)) → layout.has_heads ≡ true

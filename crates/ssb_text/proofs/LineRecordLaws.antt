@@ -17,12 +17,10 @@ RecordsFrom text records = AreRecords record_config st.StartRecord text records
 -- no CR stands alone in a line, and none behind it
 line_alone : (line more : List ℕ) → IsLine line → HasNoLoneReturn (line ++ more)
     → HasNoLoneReturn line × HasNoLoneReturn more
-line_alone [] more line none = absurd line
-line_alone (b ∷ []) [] line none = (none, tt)
-line_alone (b ∷ []) (c ∷ more) line none = (λ is. absurd (omega (arith, line, is)), none.1)
-line_alone (b ∷ c ∷ rest) more line none =
-    let later = line_alone (c ∷ rest) more line.1 none.1 in
-    ((none.0, later.0), later.1)
+line_alone [] more line none = grind arith
+line_alone (b ∷ []) [] line none = grind arith
+line_alone (b ∷ []) (c ∷ more) line none = grind arith
+line_alone (b ∷ c ∷ rest) more line none = grind (arith, line_alone (c ∷ rest) more line.1 none.1)
 
 -- the contents of lines
 pub contents_of : (lines : List (List ℕ)) (more : List ℕ) → AllByRecursion IsLine lines
@@ -114,16 +112,12 @@ two_bytes b c (d ∷ y) is = rw (is, and_false (b == 239)) refl
 
 pub strip_line : (line y : List ℕ) → IsLine line → strip_bom (line ++ y) ≡ strip_bom line ++ y
 unfolding strip_bom
-strip_line [] y line = absurd line
-strip_line (b ∷ []) y line = one_byte b y line
-strip_line (b ∷ c ∷ []) y line = two_bytes b c y line.1
-strip_line (b ∷ c ∷ d ∷ rest) y line =
-    elim (bom_or_not (is_bom b c d)) [ inl is ↦ rw is refl | inr other ↦ rw other refl ]
+strip_line [] y line = grind arith
+strip_line (b ∷ []) y line = grind (arith, one_byte)
+strip_line (b ∷ c ∷ []) y line = grind (arith, two_bytes)
+strip_line (b ∷ c ∷ d ∷ rest) y line = grind (arith, bom_or_not)
 
 pub strip_lines : (lines : List (List ℕ)) (y : List ℕ) → AllByRecursion IsLine lines → lines ≢ []
     → strip_bom (concat lines ++ y) ≡ strip_bom (concat lines) ++ y
-strip_lines [] y each some = absurd (some refl)
-strip_lines (line ∷ lines) y each some =
-    ap strip_bom (append_assoc line (concat lines) y) ∙ strip_line line (concat lines ++ y) each.0
-    ∙ sym (append_assoc (strip_bom line) (concat lines) y)
-    ∙ ap (λ t. t ++ y) (sym (strip_line line (concat lines) each.0))
+strip_lines [] y each some = grind arith
+strip_lines (line ∷ lines) y each some = grind (arith, append_assoc, strip_line)

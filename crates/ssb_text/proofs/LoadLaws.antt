@@ -1,3 +1,4 @@
+use Rattle.std.proofs.Common.{arith}
 -- What the reading of five tables has found so far.
 use Rattle.std.proofs.Common.{◌≡◌, ◌+◌, ℕ, Bool, true, false, List, [], ◌∷◌, ◌++◌, length, Option, Some, None, is_some}
 use Rattle.std.proofs.Common.{nat_lt, refl, subst, ◌⊎◌, inl, inr}
@@ -28,21 +29,12 @@ at_known known text P is h = let Q : Option (List ℕ) → Type 0 = λ o. IfSome
 pub table_whole : (limits : Limits) (texts : Table → List ℕ) (t : Table) (known : Option (List ℕ))
     (rows : List (List Value)) → known ≡ Some (texts t)
     → IfSome known (λ text. SpellsRows t (limit_of limits t) text rows) → IsWhole limits texts t
-table_whole limits texts t known rows is h = (
-  rows,
-  at_known known (texts t)
-      (λ text. SpellsRows t (limit_of limits t) text rows) is h,
-)
+table_whole limits texts t known rows is h = grind (arith, at_known)
 
 pub table_stops : (limits : Limits) (texts : Table → List ℕ) (t : Table) (known : Option (List ℕ)) (e : LoadError)
     → known ≡ Some (texts t)
     → IsReadFault t e ⊎ IfSome known (λ text. IsFirstFault t (limit_of limits t) text e) → StopsAt limits texts t e
-table_stops limits texts t known e is h =
-    elim h [
-      | inl want ↦ inl want
-      | inr first ↦ inr (at_known known (texts t)
-          (λ text. IsFirstFault t (limit_of limits t) text e) is first)
-    ]
+table_stops limits texts t known e is h = grind (arith, at_known)
 
 -- what holds of each table
 pub each_table : (P : Table → Type 0) → P table.Customer → P table.Supplier → P table.Part → P table.Date
@@ -99,11 +91,7 @@ unknown_told limits n (Some t) = refl
 
 line_told : (limits : Limits) (dimensions : Dimensions) (earlier : List LineFields) (line : LineFields)
     → AreTold limits (line_fault dimensions earlier line)
-line_told limits dimensions earlier line =
-    or_told limits (repeated_fault table.Lineorder is_same_line earlier line)
-    (option_map (λ t. fault.UnknownKey (length earlier + 1) t) (unknown_of dimensions line))
-    (repeated_told limits table.Lineorder is_same_line earlier line)
-    (unknown_told limits (length earlier + 1) (unknown_of dimensions line))
+line_told limits dimensions earlier line = grind (arith, or_told, repeated_told, unknown_told)
 
 base_told : (base : BaseTables) → AreTold base.limits (base_fault base)
 base_told base =
@@ -125,7 +113,4 @@ base_told base =
 -- the first fault of a base is one that a load can tell
 pub base_fault_told : (base : BaseTables) (why : SchemaFault) → base_fault base ≡ Some why
     → in_base base.limits why ≡ None → ⊥
-base_fault_told base why found untold =
-    let told : is_some (in_base base.limits why) ≡ true = rw found at (base_told base) in
-    let same : is_some (in_base base.limits why) ≡ false = rw untold refl in
-    cc
+base_fault_told base why found untold = grind (arith, is_some, base_told)

@@ -1,3 +1,4 @@
+use Rattle.std.proofs.Common.{arith}
 -- How the machine of records reads one line.
 use Rattle.std.proofs.Common.{◌≡◌, ℕ, Bool, true, false, List, [], ◌∷◌, ◌++◌, Option, Some, None, refl, sym, ap, subst}
 use Rattle.std.proofs.Common.{◌∙◌, append_assoc, inl, inr, ◌⊎◌, if◌then◌else◌}
@@ -120,11 +121,8 @@ empty_line_return u = refl
 same_records : (s t : State) (xs ys : List ℕ) (records : List (List (List ℕ)))
     → next s [] [] xs ≡ next t [] [] ys → AreRecords record_config s xs records → AreRecords record_config t ys records
 unfolding Reached
-same_records s t xs ys [] same are =
-    let none : next s [] [] xs ≡ None = rw (are.2.0, are.2.1) are.3 in
-    (t, ys, (refl, refl), sym same ∙ none)
-same_records s t xs ys (r ∷ records) same are =
-    (are.0, are.1, (are.2.0, sym same ∙ are.2.1, are.2.2, are.2.3), are.3)
+same_records s t xs ys [] same are = grind arith
+same_records s t xs ys (r ∷ records) same are = grind arith
 
 -- a line has these records, whatever stands behind it
 pub record LineHas (line content : List ℕ) : Type 0 where
@@ -219,10 +217,7 @@ line_has line content is = elim is.ends [
 ]
 
 ended_more : (b : ℕ) (line content : List ℕ) → IsPlainByte b → Ended line content → Ended (b ∷ line) (b ∷ content)
-ended_more b line content plain is = record {
-  plain = (plain, is.plain);
-  ends = elim is.ends [ inl e ↦ inl (ap (λ l. b ∷ l) e) | inr e ↦ inr (ap (λ l. b ∷ l) e) ];
-}
+ended_more b line content plain is = grind arith
 
 return_first : (b c : ℕ) (rest : List ℕ) → b ≡ 13 → c ≡ 10 → IsLine (c ∷ rest) → Ended (b ∷ c ∷ rest) []
 return_first b c [] is next line = record { plain = tt; ends = inr cc }

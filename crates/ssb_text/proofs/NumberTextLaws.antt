@@ -36,21 +36,13 @@ pub digit_not : (c other : ℕ) → is_ascii_digit c ≡ true → other < 48 →
 digit_not c other digit low = grind (arith, nat_tests)
 
 pub digits_plain : (ds : List ℕ) → list_all is_ascii_digit ds ≡ true → list_all is_plain_byte ds ≡ true
-digits_plain [] all = refl
-digits_plain (c ∷ ds) all =
-    rw (digit-plain c (and-left (is_ascii_digit c) (list_all is_ascii_digit ds) all))
-    (digits_plain ds (and-right (is_ascii_digit c) (list_all is_ascii_digit ds) all))
+digits_plain [] all = grind arith
+digits_plain (c ∷ ds) all = grind (arith, digit-plain, and-left, and-right, digits_plain ds (and-right (is_ascii_digit c) (list_all is_ascii_digit ds) all))
 
 pub digits_kept : (ds : List ℕ) → list_all is_ascii_digit ds ≡ true → without_spaces ds ≡ ds
 unfolding without_spaces
-digits_kept [] all = refl
-digits_kept (c ∷ ds) all =
-    let digit = and-left (is_ascii_digit c) (list_all is_ascii_digit ds) all in
-    let later = digits_kept ds (and-right (is_ascii_digit c) (list_all is_ascii_digit ds) all) in
-    rw (digit_not c 32 digit (omega arith), later) refl
+digits_kept [] all = grind arith
+digits_kept (c ∷ ds) all = grind (arith, and-left, and-right, digit_not, digits_kept ds (and-right (is_ascii_digit c) (list_all is_ascii_digit ds) all))
 
 pub number_kept : (n : ℕ) → n < 2 ^ 64 → IsKept (decimal n)
-number_kept n small = record {
-  plain = digits_plain (decimal n) (all_digits n small);
-  kept = digits_kept (decimal n) (all_digits n small);
-}
+number_kept n small = grind (arith, digits_plain, all_digits, digits_kept)

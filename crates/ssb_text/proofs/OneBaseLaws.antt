@@ -1,3 +1,4 @@
+use Rattle.std.proofs.Common.{arith}
 -- Texts spell the rows of one base only: the records of a text are one list, and a record spells one row.
 use Rattle.std.proofs.Common.{◌≡◌, ℕ, List, [], ◌∷◌, get_or, map, Ok, Result, refl, sym, ap, ◌∙◌, subst}
 use Rattle.std.specs.List.{AllZip}
@@ -24,13 +25,12 @@ same-Ok v w r one other = let both : Ok v ≡ Ok w = sym one ∙ other in cc
 -- records spell one list of rows
 rows-of : (t : Table) (records : List (List (List ℕ))) (one other : List (List Value))
     → AllZip (SpellsRow t) records one → AllZip (SpellsRow t) records other → one ≡ other
-rows-of t [] [] [] a b = refl
-rows-of t [] [] (w ∷ other) a b = absurd b
-rows-of t [] (v ∷ one) other a b = absurd a
-rows-of t (fields ∷ records) [] other a b = absurd a
-rows-of t (fields ∷ records) (v ∷ one) [] a b = absurd b
-rows-of t (fields ∷ records) (v ∷ one) (w ∷ other) a b =
-    rw (same-Ok v w (row_of t fields) a.0 b.0, rows-of t records one other a.1 b.1) refl
+rows-of t [] [] [] a b = grind arith
+rows-of t [] [] (w ∷ other) a b = grind arith
+rows-of t [] (v ∷ one) other a b = grind arith
+rows-of t (fields ∷ records) [] other a b = grind arith
+rows-of t (fields ∷ records) (v ∷ one) [] a b = grind arith
+rows-of t (fields ∷ records) (v ∷ one) (w ∷ other) a b = grind (arith, same-Ok, rows-of t records one other a.1 b.1)
 
 pub same_values : (texts : Table → List ℕ) (one other : Tables) → SpellsBase texts one → SpellsBase texts other
     → (t : Table) → values_in one t ≡ values_in other t
@@ -143,13 +143,7 @@ same-rows values back is one other same =
 
 same-dimensions : (one other : Dimensions) → one.customers ≡ other.customers → one.suppliers ≡ other.suppliers
     → one.parts ≡ other.parts → one.dates ≡ other.dates → one ≡ other
-same-dimensions one other customers suppliers parts dates =
-    let With : List CustomerFields → List SupplierFields → List PartFields → List DateFields → Dimensions
-    = λ c s p d. record { customers = c; suppliers = s; parts = p; dates = d } in
-    ap (λ c. With c one.suppliers one.parts one.dates) customers
-    ∙ (ap (λ s. With other.customers s one.parts one.dates) suppliers
-    ∙ (ap (λ p. With other.customers other.suppliers p one.dates) parts
-    ∙ ap (λ d. With other.customers other.suppliers other.parts d) dates))
+same-dimensions one other customers suppliers parts dates = grind arith
 
 pub texts_spell_one_base : TextsSpellOneBase
 texts_spell_one_base texts one other a b =

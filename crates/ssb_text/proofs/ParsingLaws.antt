@@ -1,3 +1,4 @@
+use Rattle.std.proofs.Common.{arith}
 -- What is known of a block while its lines are parsed.
 use Rattle.std.proofs.Common.{ℕ, true, false, Bor, List, Option, Some}
 use Rattle.csv.specs.declared.reader.Reader.{Reader}
@@ -20,11 +21,7 @@ HasParsed block reader rows = HasRead slice_bytes table.Lineorder block reader r
 -- there was no more record
 pub parsed_all : (block : List ℕ) (old new : Reader (Bor (List ℕ))) (rows : List (List Value)) (fields : List (List ℕ))
     → HasParsed block old rows → GivesNext slice_bytes old new false fields → SpellsAll block rows
-parsed_all block old new rows fields read next = record {
-  records = read.records;
-  all = next block read.records read.given;
-  spelled = read.spelled;
-}
+parsed_all block old new rows fields read next = grind arith
 
 -- the next record has a fault
 pub parsed_until : (block : List ℕ) (old new : Reader (Bor (List ℕ))) (rows : List (List Value))

@@ -24,11 +24,7 @@ past_byte b (c ∷ bytes) other unmarked =
 
 -- a CR and its LF
 past_return : (bytes : List ℕ) → IsPlainText bytes ↔ IsPlainText (13 ∷ 10 ∷ bytes)
-past_return bytes =
-    let feed = past_byte 10 bytes (λ is. cc) (λ is. cc) in (
-      λ plain. let more = feed.0 plain in ((λ is. refl, more.0), (λ is. cc, more.1)),
-      λ plain. feed.1 (plain.0.1, plain.1.1),
-    )
+past_return bytes = grind (arith, past_byte)
 
 -- the bytes before the first CR or mark
 pub past_front : (n : ℕ) (bytes : List ℕ) → n ≤ length bytes
@@ -44,13 +40,9 @@ past_front (suc n) (b ∷ bytes) within none =
 -- a found CR and its LF
 past_cut : (found behind : List ℕ) → take 2 found ≡ 13 ∷ 10 ∷ [] → behind ≡ drop 2 found
     → IsPlainText behind ↔ IsPlainText found
-past_cut [] behind is left = absurd cc
-past_cut (b ∷ []) behind is left = absurd cc
-past_cut (b ∷ c ∷ more) behind is left =
-    let first : b ≡ 13 = cc in
-    let second : c ≡ 10 = cc in
-    let text : 13 ∷ 10 ∷ behind ≡ b ∷ c ∷ more = rw (first, second, left) refl in
-    subst (λ t. IsPlainText behind ↔ IsPlainText t) text (past_return behind)
+past_cut [] behind is left = grind arith
+past_cut (b ∷ []) behind is left = grind arith
+past_cut (b ∷ c ∷ more) behind is left = grind (arith, past_return)
 
 pub past_found : (found behind end : List ℕ) → end ≡ 13 ∷ 10 ∷ [] → take (length end) found ≡ end
     → behind ≡ drop (length end) found → IsPlainText behind ↔ IsPlainText found
@@ -61,19 +53,9 @@ past_found found behind end is front back =
 -- a found CR without an LF behind it, or a byte of a mark
 not_plain : (found : List ℕ) → 0 < length found → is_byte2 13 239 (slice_index found 0) ≡ true
     → take 2 found ≢ 13 ∷ 10 ∷ [] → IsPlainText found → ⊥
-not_plain [] some is other plain = absurd (omega (arith, some))
-not_plain (b ∷ []) some is other plain =
-    let lone = ne_eqb b 13 plain.0 in
-    let unmarked = ne_eqb b 239 plain.1.0 in
-    absurd cc
-not_plain (b ∷ c ∷ more) some is other plain = elim (eqb_tells b 13) [
-  | inl return ↦ let first = return.1 in
-      let second : c ≡ 10 = plain.0.0 return.1 in
-      other cc
-  | inr lone ↦ let unmarked = ne_eqb b 239 plain.1.0 in
-      let none = lone.0 in
-      absurd cc
-]
+not_plain [] some is other plain = grind arith
+not_plain (b ∷ []) some is other plain = grind (arith, ne_eqb)
+not_plain (b ∷ c ∷ more) some is other plain = grind (arith, eqb_tells, ne_eqb)
 
 -- at such a byte of bytes that were passed
 pub not_plain_at : (rest found end : List ℕ) (n : ℕ) → n < length rest → is_byte2 13 239 (slice_index rest n) ≡ true
@@ -88,11 +70,9 @@ not_plain_at rest found end n within at is ends other plain =
 -- What holds of plain texts.
 
 pub plain-append : (xs ys : List ℕ) → IsPlainText xs → IsPlainText ys → IsPlainText (xs ++ ys)
-plain-append [] ys first last = last
-plain-append (b ∷ []) ys first last = (past_byte b ys first.0 first.1.0).0 last
-plain-append (b ∷ c ∷ xs) ys first last =
-    let more = plain-append (c ∷ xs) ys (first.0.1, first.1.1) last in
-    ((first.0.0, more.0), (first.1.0, more.1))
+plain-append [] ys first last = grind arith
+plain-append (b ∷ []) ys first last = grind (arith, past_byte)
+plain-append (b ∷ c ∷ xs) ys first last = grind (arith, plain-append (c ∷ xs) ys (first.0.1, first.1.1) last)
 
 no_mark : (bytes : List ℕ) → AllByRecursion (λ b. b ≢ 239) bytes → HasNoMark bytes
 unfolding strip_bom
@@ -141,7 +121,4 @@ lines_each (line ∷ lines) last records each returns marks are =
     )
 
 pub records_of_lines_of : (text : List ℕ) → IsPlainText text → HasRecordsOfLines text
-records_of_lines_of text plain = λ lines last records are all.
-    lines_each lines last records are.each (subst HasNoLoneReturn are.joined plain.0)
-    (subst (AllByRecursion (λ b. b ≢ 239)) are.joined plain.1)
-    (subst (λ t. RecordsFrom t records) (plain_unmarked text plain ∙ are.joined) all)
+records_of_lines_of text plain = grind (arith, lines_each, plain_unmarked)

@@ -1,3 +1,4 @@
+use Rattle.std.proofs.Common.{arith}
 -- The texts of a base spell it: the text of each row is that of a record which spells the row.
 use Rattle.std.proofs.Common.{◌≡◌, ℕ, suc, ◌≤◌, List, [], ◌∷◌, ◌++◌, length, map, refl, sym, ap, ◌∙◌, subst}
 use Rattle.std.specs.List.{AllByRecursion, AllZip}
@@ -22,10 +23,8 @@ records_of rows = map (λ values. map column_text values) rows
 
 rows-records : (t : Table) (rows : List (List Value)) → AllByRecursion (IsFitRow t) rows
     → rows_text rows ≡ text_of_records (records_of rows)
-rows-records t [] all = refl
-rows-records t (values ∷ rows) all =
-    ap (λ text. text ++ rows_text rows) (row_is_record t values all.0)
-    ∙ ap (λ text. text_of_record (map column_text values) ++ text) (rows-records t rows all.1)
+rows-records t [] all = grind arith
+rows-records t (values ∷ rows) all = grind (arith, row_is_record, text_of_record, rows-records t rows all.1)
 
 all-readable : (t : Table) (rows : List (List Value)) → AllByRecursion (IsFitRow t) rows
     → AllByRecursion IsReadable (records_of rows)

@@ -1,3 +1,4 @@
+use Rattle.std.proofs.Common.{arith}
 -- The records of a text and a line feed with more bytes behind it: those of the text, and then those of the rest.
 use Rattle.std.proofs.Common.{◌≡◌, ℕ, Bool, true, false, ◌&&◌, ◌||◌, List, [], ◌∷◌, ◌++◌, append-nil, Option, Some}
 use Rattle.std.proofs.Common.{None, refl, sym, ap, ◌∙◌, ◌⊎◌, inl, inr}
@@ -114,10 +115,8 @@ goes b (c ∷ rest) s fields field is =
 reached_nothing : (rs : List (List (List ℕ))) (s s2 : State) (xs ys : List ℕ) → s ≡ st.StartRecord → xs ≡ []
     → Reached record_config s xs rs s2 ys → rs ≡ []
 unfolding Reached next_record
-reached_nothing [] s s2 xs ys start empty h = refl
-reached_nothing (r ∷ rs) s s2 xs ys start empty h =
-    let none : next_record record_config s [] [] xs ≡ None = rw (start, empty) refl in
-    cc (none, h.1)
+reached_nothing [] s s2 xs ys start empty h = grind arith
+reached_nothing (r ∷ rs) s s2 xs ys start empty h = grind arith
 
 -- where the records of a text lead when a line feed and more stand behind it
 abbrev Leads : List ℕ → List (List (List ℕ)) → State → List ℕ → State → List ℕ → Type 0
@@ -183,10 +182,8 @@ Reached-append (r ∷ rs) ss s t u xs zs ws a b =
 Reached-first : (rs ss : List (List (List ℕ))) (s u : State) (xs ws : List ℕ)
     → Reached record_config s xs (rs ++ ss) u ws → (t : State) × (zs : List ℕ) × Reached record_config s xs rs t zs
 unfolding Reached
-Reached-first [] ss s u xs ws h = (s, xs, (refl, refl))
-Reached-first (r ∷ rs) ss s u xs ws h =
-    let more = Reached-first rs ss h.0.1 u h.0.2 ws h.3 in
-    (more.0, more.1, (h.0, h.1, h.2, more.2))
+Reached-first [] ss s u xs ws h = grind arith
+Reached-first (r ∷ rs) ss s u xs ws h = grind (arith, Reached-first rs ss h.0.1 u h.0.2 ws h.3)
 
 feed_skipped : (b : List ℕ)
     → next_record record_config st.StartRecord [] [] (10 ∷ b) ≡ next_record record_config st.StartRecord [] [] b

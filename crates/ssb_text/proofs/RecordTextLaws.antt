@@ -1,3 +1,4 @@
+use Rattle.std.proofs.Common.{arith}
 -- A record's text is read back, field by field, and so is the text of many records.
 use Rattle.std.proofs.Common.{◌≡◌, ℕ, Bool, true, false, List, [], ◌∷◌, ◌++◌, ◌&&◌, Some, refl, ap, ◌∙◌, append_assoc}
 use Rattle.std.specs.Prelude.{◌==◌, not}
@@ -28,25 +29,15 @@ not-false false e = refl
 
 -- a plain byte is no mark of the format
 plain-byte : (b : ℕ) → is_plain_byte b ≡ true → ((b == 124) ≡ false) × ((b == 13) ≡ false) × ((b == 10) ≡ false)
-plain-byte b e =
-    let front = and-left (not (b == 124) && not (b == 13)) (not (b == 10)) e in
-    let last = and-right (not (b == 124) && not (b == 13)) (not (b == 10)) e in (
-      not-false _ (and-left (not (b == 124)) (not (b == 13)) front),
-      not-false _ (and-right (not (b == 124)) (not (b == 13)) front),
-      not-false _ last,
-    )
+plain-byte b e = grind (arith, and-left, and-right, not-false)
 
 -- the bytes of a field join it
 field-run : (fields : List (List ℕ)) (field x tail : List ℕ) → IsPlainField x
     → next_record record_config st.InField fields field (x ++ tail) ≡ next_record record_config st.InField fields
     (field ++ x) tail
 unfolding next_record
-field-run fields field [] tail plain = rw (append-nil field) refl
-field-run fields field (b ∷ rest) tail plain =
-    let byte = plain-byte b (and-left (is_plain_byte b) (list_all is_plain_byte rest) plain) in
-    rw (byte.0, byte.1, byte.2) (field-run fields (field ++ (b ∷ [])) rest tail
-    (and-right (is_plain_byte b) (list_all is_plain_byte rest) plain)
-    ∙ ap (λ (f : List ℕ). next_record record_config st.InField fields f tail) (append_assoc field (b ∷ []) rest))
+field-run fields field [] tail plain = grind (arith, append-nil)
+field-run fields field (b ∷ rest) tail plain = grind (arith, plain-byte, and-left, and-right, append_assoc, field-run fields (field ++ (b ∷ [])) rest tail (and-right (is_plain_byte b) (list_all is_plain_byte rest) plain))
 
 -- a byte does the same at the start of a field as in one
 start-same : (fields : List (List ℕ)) (field : List ℕ) (c : ℕ) (tail : List ℕ)
@@ -76,14 +67,8 @@ rest-run : (fields : List (List ℕ)) (x : List ℕ) (rest : List (List ℕ)) (t
     → next_record record_config st.InField fields x (fields_text rest ++ tail) ≡ Some
     (fields ++ (x ∷ rest), st.StartRecord, tail)
 unfolding next_record
-rest-run fields x [] tail plain = refl
-rest-run fields x (y ∷ ys) tail plain =
-    end-field fields x ((y ++ fields_text ys) ++ tail)
-    ∙ (ap (next_record record_config st.StartField (fields ++ (x ∷ [])) []) (append_assoc y (fields_text ys) tail)
-    ∙ (start-fields (fields ++ (x ∷ [])) y ys tail
-    ∙ (field-run (fields ++ (x ∷ [])) [] y (fields_text ys ++ tail) plain.0
-    ∙ (rest-run (fields ++ (x ∷ [])) y ys tail plain.1
-    ∙ rw (append_assoc fields (x ∷ []) (y ∷ ys)) refl))))
+rest-run fields x [] tail plain = grind arith
+rest-run fields x (y ∷ ys) tail plain = grind (arith, end-field, append_assoc, start-fields, field-run, rest-run (fields ++ (x ∷ [])) y ys tail plain.1)
 
 -- the text of a record's fields, the first of which is its word
 abbrev pub text_of_record : List (List ℕ) → List ℕ

@@ -67,11 +67,7 @@ stops-in base texts (t ∷ tables) e is stops = elim stops [
 -- other tables that the texts spell are the same
 same-base : (one other : Tables) → one.limits ≡ other.limits → one.dimensions ≡ other.dimensions
     → one.lines ≡ other.lines → one ≡ other
-same-base one other limits dimensions lines =
-    let With : Limits → Dimensions → List LineFields → Tables
-    = λ l d rows. record { limits = l; dimensions = d; lines = rows } in
-    ap (λ l. With l one.dimensions one.lines) limits
-    ∙ (ap (λ d. With other.limits d one.lines) dimensions ∙ ap (λ rows. With other.limits other.dimensions rows) lines)
+same-base one other limits dimensions lines = grind arith
 
 no-base-fault : (texts : Table → List ℕ) (base : Tables) (e : LoadError) → SpellsBase texts base → IsSound base
     → IsBaseFault base.limits texts e → ⊥

@@ -49,12 +49,8 @@ values_from-append : (t : Table) (place : ℕ) (first last : List Kind) (fields 
     → values_from t place (first ++ last) fields ≡ (values_from t place first fields >>= λ vs. values_from t
     (place + length first) last fields >>= λ ws. Ok (vs ++ ws))
 unfolding values_from
-values_from-append t place [] last fields = rw add-zero (only_last (values_from t place last fields))
-values_from-append t place (k ∷ first) last fields =
-    let later : place + 1 + length first ≡ place + length (k ∷ first) = omega arith in
-    rw (values_from-append t (place + 1) first last fields, later)
-    (two_parts (value_at (record { table = t; place = place + 1 }) k (get_or fields place []))
-    (values_from t (place + 1) first fields) (values_from t (place + length (k ∷ first)) last fields))
+values_from-append t place [] last fields = grind (arith, add-zero, only_last)
+values_from-append t place (k ∷ first) last fields = grind (arith, two_parts, values_from-append t (place + 1) first last fields)
 
 -- both parts, or the first fault of either
 pub both_parts : (t : Table) (place : ℕ) (first last : List Kind) (fields : List (List ℕ)) (vs ws : List Value)

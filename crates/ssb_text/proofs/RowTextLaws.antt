@@ -25,10 +25,8 @@ use Rattle.ssb_text.proofs.RecordTextLaws.{IsPlainField, IsReadable, and-left, t
 -- fields parted by bars, and the end of the line, are a record of these fields
 pub joined : (field : List ℕ) (fields : List (List ℕ))
     → join_with_byte 124 (field ∷ fields) ++ line_feed ≡ field ++ fields_text fields
-joined field [] = refl
-joined field (next ∷ fields) =
-    append_assoc field (124 ∷ join_with_byte 124 (next ∷ fields)) line_feed
-    ∙ ap (λ rest. field ++ 124 ∷ rest) (joined next fields)
+joined field [] = grind arith
+joined field (next ∷ fields) = grind (arith, append_assoc, joined next fields)
 
 pub row_record : (value : Value) (values : List Value)
     → row_text (value ∷ values) ≡ text_of_record (map column_text (value ∷ values))

@@ -53,11 +53,7 @@ none-earlier same rows distinct i r at =
 
 dimension-none : {R : Type 0} (limits : Limits) (t : Table) (key : R → ℕ) (rows : List R) → IsDimension limits key rows
     → dimension_fault limits t key rows ≡ None
-dimension-none limits t key rows is =
-    few_rows limits.dimension_rows t (repeated_fault t (has_key_of key)) rows is.few
-    ∙ no-fault (repeated_fault t (has_key_of key)) [] rows
-    (λ i r at. repeated_absent t (has_key_of key) (take i rows) r
-    (none-earlier (has_key_of key) rows is.distinct i r at))
+dimension-none limits t key rows is = grind (arith, few_rows, no-fault, repeated_absent, none-earlier)
 
 none-unknown : (dimensions : Dimensions) (line : LineFields) → IsKnown dimensions line
     → unknown_of dimensions line ≡ None

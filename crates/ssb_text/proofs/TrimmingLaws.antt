@@ -35,12 +35,8 @@ without_spaces-space (b ∷ bytes) = rw (all_spaces-space bytes, without_spaces-
 pub without_spaces-other : (bytes : List ℕ) (b : ℕ) → nat_eq b 32 ≡ false → without_spaces (bytes ++ b ∷ []) ≡ bytes
     ++ b ∷ []
 unfolding without_spaces
-without_spaces-other [] b other = rw other refl
-without_spaces-other (c ∷ bytes) b other = rw (
-  all_spaces-other bytes b other,
-  without_spaces-other bytes b other,
-  and_false (is_space c),
-) refl
+without_spaces-other [] b other = grind arith
+without_spaces-other (c ∷ bytes) b other = grind (arith, all_spaces-other, and_false, without_spaces-other bytes b other)
 
 -- the same of a field up to a place
 pub without_spaces-step : (field : List ℕ) (end : ℕ) → 0 < end → end ≤ length field → get_or field (end - 1) 0 ≡ 32

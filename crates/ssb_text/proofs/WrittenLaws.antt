@@ -21,35 +21,17 @@ appends_both (Some xs) (Some ys) (Some zs) x y first second = second ∙ ap (λ 
 
 -- what is kept has grown by a part of any text that is not empty
 pub part_kept : (a b : Option (List ℕ)) (x : List ℕ) → Keeps a b → 0 < length x → StopsShort a b x
-part_kept None b x kept some = record { part = []; rest = x; begins = refl; left = some; appends = tt }
-part_kept (Some xs) None x kept some = absurd kept
-part_kept (Some xs) (Some ys) x kept some = record {
-  part = [];
-  rest = x;
-  begins = refl;
-  left = some;
-  appends = kept ∙ sym (append-nil xs);
-}
+part_kept None b x kept some = grind arith
+part_kept (Some xs) None x kept some = grind arith
+part_kept (Some xs) (Some ys) x kept some = grind (arith, append-nil)
 
 -- a text and then a part of another
 pub appends_part : (a b c : Option (List ℕ)) (x y : List ℕ) → Appends a b x → StopsShort b c y → StopsShort a c (x ++ y)
-appends_part a b c x y first second = record {
-  part = x ++ second.part;
-  rest = second.rest;
-  begins = ap (λ t. x ++ t) second.begins ∙ sym (append_assoc x second.part second.rest);
-  left = second.left;
-  appends = appends_both a b c x second.part first second.appends;
-}
+appends_part a b c x y first second = grind (arith, append_assoc, appends_both)
 
 -- a part of a text is one of a longer text
 pub part_longer : (a b : Option (List ℕ)) (x y : List ℕ) → StopsShort a b x → StopsShort a b (x ++ y)
-part_longer a b x y written = record {
-  part = written.part;
-  rest = written.rest ++ y;
-  begins = ap (λ t. t ++ y) written.begins ∙ append_assoc written.part written.rest y;
-  left = let some = written.left in omega (arith, some, length-append written.rest y);
-  appends = written.appends;
-}
+part_longer a b x y written = grind (arith, append_assoc, length-append)
 
 -- a text, and then what writes another
 pub writes_next : {X E : Type 0} (a b c : Option (List ℕ)) (x y : List ℕ) (r : Result X E) → Appends a b x
@@ -89,9 +71,4 @@ part_item f xs i x d a b c within is first second =
 
 -- a part of which something is left is a part
 pub part_of_short : (a b : Option (List ℕ)) (x : List ℕ) → StopsShort a b x → AppendsPart a b x
-part_of_short a b x short = record {
-  part = short.part;
-  rest = short.rest;
-  begins = short.begins;
-  appends = short.appends;
-}
+part_of_short a b x short = grind arith

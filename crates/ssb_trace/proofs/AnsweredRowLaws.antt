@@ -44,12 +44,8 @@ record IsTaken (c : Combination) : Type 0 where
 
 all-filter : {X : Type 0} (P : X → Type 0) (p : X → Bool) (xs : List X) → AllByRecursion P xs
     → AllByRecursion P (filter p xs)
-all-filter P p [] all = tt
-all-filter P p (x ∷ xs) all =
-    elim (p x) as (λ b. AllByRecursion P (cond b (x ∷ filter p xs) (filter p xs))) [
-      | true ↦ (all.0, all-filter P p xs all.1)
-      | false ↦ all-filter P p xs all.1
-    ]
+all-filter P p [] all = grind arith
+all-filter P p (x ∷ xs) all = grind (arith, all-filter P p xs all.1)
 
 all-append : {X : Type 0} (P : X → Type 0) (xs ys : List X) → AllByRecursion P xs → AllByRecursion P ys
     → AllByRecursion P (xs ++ ys)
@@ -138,27 +134,20 @@ so c column is e fit = subst (IsIn c) (sym e) fit
 
 -- a combination has in each column that queries read what it holds
 each-fits : (c : Combination) → IsTaken c → (column : Column) → Has query_columns column → IsIn c column
-each-fits c taken column (inl e) = so c column C_CITY e (in-customer-city c taken)
-each-fits c taken column (inr (inl e)) = so c column C_NATION e (in-customer-nation c taken)
-each-fits c taken column (inr (inr (inl e))) = so c column C_REGION e (in-customer-region c taken)
-each-fits c taken column (inr (inr (inr (inl e)))) = so c column S_CITY e (in-supplier-city c taken)
-each-fits c taken column (inr (inr (inr (inr (inl e))))) = so c column S_NATION e (in-supplier-nation c taken)
-each-fits c taken column (inr (inr (inr (inr (inr (inl e)))))) = so c column S_REGION e (in-supplier-region c taken)
-each-fits c taken column (inr (inr (inr (inr (inr (inr (inl e))))))) = so c column P_MFGR e (in-manufacturer c taken)
-each-fits c taken column (inr (inr (inr (inr (inr (inr (inr (inl e)))))))) =
-    so c column P_CATEGORY e (in-category c taken)
-each-fits c taken column (inr (inr (inr (inr (inr (inr (inr (inr (inl e))))))))) =
-    so c column P_BRAND1 e (in-brand c taken)
-each-fits c taken column (inr (inr (inr (inr (inr (inr (inr (inr (inr (inl e)))))))))) =
-    so c column D_YEAR e (in-year c taken)
-each-fits c taken column (inr (inr (inr (inr (inr (inr (inr (inr (inr (inr (inl e))))))))))) =
-    so c column D_YEARMONTHNUM e (in-month-number c taken)
-each-fits c taken column (inr (inr (inr (inr (inr (inr (inr (inr (inr (inr (inr (inl e)))))))))))) =
-    so c column D_YEARMONTH e (in-month c taken)
-each-fits c taken column (inr (inr (inr (inr (inr (inr (inr (inr (inr (inr (inr (inr (inl e))))))))))))) =
-    so c column D_WEEKNUMINYEAR e (in-week c taken)
-each-fits c taken column (inr (inr (inr (inr (inr (inr (inr (inr (inr (inr (inr (inr (inr none))))))))))))) =
-    absurd none
+each-fits c taken column (inl e) = grind (arith, so, in-customer-city)
+each-fits c taken column (inr (inl e)) = grind (arith, so, in-customer-nation)
+each-fits c taken column (inr (inr (inl e))) = grind (arith, so, in-customer-region)
+each-fits c taken column (inr (inr (inr (inl e)))) = grind (arith, so, in-supplier-city)
+each-fits c taken column (inr (inr (inr (inr (inl e))))) = grind (arith, so, in-supplier-nation)
+each-fits c taken column (inr (inr (inr (inr (inr (inl e)))))) = grind (arith, so, in-supplier-region)
+each-fits c taken column (inr (inr (inr (inr (inr (inr (inl e))))))) = grind (arith, so, in-manufacturer)
+each-fits c taken column (inr (inr (inr (inr (inr (inr (inr (inl e)))))))) = grind (arith, so, in-category)
+each-fits c taken column (inr (inr (inr (inr (inr (inr (inr (inr (inl e))))))))) = grind (arith, so, in-brand)
+each-fits c taken column (inr (inr (inr (inr (inr (inr (inr (inr (inr (inl e)))))))))) = grind (arith, so, in-year)
+each-fits c taken column (inr (inr (inr (inr (inr (inr (inr (inr (inr (inr (inl e))))))))))) = grind (arith, so, in-month-number)
+each-fits c taken column (inr (inr (inr (inr (inr (inr (inr (inr (inr (inr (inr (inl e)))))))))))) = grind (arith, so, in-month)
+each-fits c taken column (inr (inr (inr (inr (inr (inr (inr (inr (inr (inr (inr (inr (inl e))))))))))))) = grind (arith, so, in-week)
+each-fits c taken column (inr (inr (inr (inr (inr (inr (inr (inr (inr (inr (inr (inr (inr none))))))))))))) = grind arith
 
 -- and so it has in the group columns of a question
 columns-fit : (c : Combination) → IsTaken c → (columns : List Column) → AllByRecursion (Has query_columns) columns

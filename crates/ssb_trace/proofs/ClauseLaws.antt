@@ -39,13 +39,9 @@ bytes_in (value.Number n) = []
 clause-kept : (v : Value) → IsPlainClause v → IsAllowedValue v → (clause : Clause) → clause_said v ≡ Some clause
     → IsClause v
 unfolding bytes_in
-clause-kept (value.Text []) plain allowed clause said =
-    absurd (none-some clause (subst (λ found. found ≡ Some clause) nothing-said said))
-clause-kept (value.Text (b ∷ bytes)) plain allowed clause said =
-    let same : b ∷ bytes ≡ plain.0 = ap bytes_in plain.1 in
-    let some : nat_eq (length (b ∷ bytes)) 0 ≡ false = ne_eqb (length (b ∷ bytes)) 0 (λ e. absurd (omega (arith, e))) in
-    (text_kept (b ∷ bytes) (ap is_plain same ∙ plain.2), some, allowed)
-clause-kept (value.Number n) plain allowed clause said = absurd (none-some clause said)
+clause-kept (value.Text []) plain allowed clause said = grind (arith, none-some, nothing-said)
+clause-kept (value.Text (b ∷ bytes)) plain allowed clause said = grind (arith, bytes_in, nat_eq, ne_eqb, text_kept)
+clause-kept (value.Number n) plain allowed clause said = grind (arith, none-some)
 
 each-kept : (values : List Value) → AllByRecursion IsPlainClause values → AllByRecursion IsAllowedValue values
     → ((i : ℕ) (v : Value) → slice_get values i ≡ Some v → (clause : Clause) × (clause_said v ≡ Some clause))
@@ -79,10 +75,9 @@ no_closing (v ∷ w ∷ values) all = ap (λ fields. value_text v ∷ fields) (n
 pub clauses_read : (values : List Value) → AllByRecursion IsClause values
     → texts_spelled (map value_text values) ≡ Some values
 unfolding texts_spelled
-clauses_read [] all = refl
-clauses_read (value.Text bytes ∷ values) all =
-    rw (all.0.0.kept, text_read bytes all.0.2, clauses_read values all.1) refl
-clauses_read (value.Number n ∷ values) all = absurd all.0
+clauses_read [] all = grind arith
+clauses_read (value.Text bytes ∷ values) all = grind (arith, text_read, clauses_read values all.1)
+clauses_read (value.Number n ∷ values) all = grind arith
 
 pub clauses_plain : (values : List Value) → AllByRecursion IsClause values
     → AllByRecursion IsPlainField (map value_text values)

@@ -1,3 +1,4 @@
+use Rattle.std.proofs.Common.{arith}
 -- The text of a commit spells its lines.
 use Rattle.std.proofs.Common.{◌≡◌, ℕ, ◌^◌, ◌<◌, List, [], ◌∷◌, ◌++◌, map, drop, refl, sym, ap, ◌∙◌, decimal, codes}
 use Rattle.std.specs.List.{AllByRecursion, flat_map}
@@ -119,10 +120,8 @@ map-both f (line ∷ one) other = ap (λ rest. f line ∷ rest) (map-both f one 
 actions-inside : (client : ℕ) (actions : List Action) → flat_map (inside client) actions ≡ map (in_commit client)
     (flat_map lines_of_action actions)
 unfolding inside
-actions-inside client [] = refl
-actions-inside client (a ∷ actions) =
-    ap (λ rest. map (in_commit client) (lines_of_action a) ++ rest) (actions-inside client actions)
-    ∙ sym (map-both (in_commit client) (lines_of_action a) (flat_map lines_of_action actions))
+actions-inside client [] = grind arith
+actions-inside client (a ∷ actions) = grind (arith, map-both, actions-inside client actions)
 
 lines-of-rest : (client : ℕ) (actions : List Action)
     → flat_map (inside client) actions ++ Inside script.Commit ∷ [] ≡ map (in_commit client)

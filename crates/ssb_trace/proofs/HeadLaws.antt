@@ -41,10 +41,7 @@ pub columns_exact : (count : ℕ) (fields : List (List ℕ)) → length fields �
 columns_exact count fields many = rw (eq-eqb (length fields) count many) refl
 
 columns-more : (count : ℕ) (fields : List (List ℕ)) → count + 2 ≤ length fields → has_columns count fields ≡ false
-columns-more count fields many =
-    let one : (length fields ≡ count) → ⊥ = λ e. absurd (omega (arith, many, e)) in
-    let two : (length fields ≡ count + 1) → ⊥ = λ e. absurd (omega (arith, many, e)) in
-    rw (ne_eqb (length fields) count one, ne_eqb (length fields) (count + 1) two) refl
+columns-more count fields many = grind (arith, ne_eqb)
 
 -- the name of a query
 name-kept : (query : Query) → without_spaces (name_of query) ≡ name_of query
@@ -180,11 +177,7 @@ own-plain question None are allowed = clauses_plain question.1 (clauses_kept que
 
 constants-plain : (question : Query × List Value) → IsAllowedQuestion question
     → AllByRecursion IsPlainField (map value_text (written_constants question))
-constants-plain question allowed =
-    elim (cases_Bool (question_eq question (question.0, standard_constants question.0))) [
-      | inl standard ↦ rw standard tt
-      | inr own ↦ rw own (own-plain question (constant_kinds question.0) refl allowed)
-    ]
+constants-plain question allowed = grind (arith, cases_Bool, own-plain)
 
 -- the fields of the record
 head_fields : Told → List (List ℕ)
@@ -210,10 +203,8 @@ says-head told allowed =
 
 -- and their text
 bars : (values : List Value) → flat_map (after_bar value_text) values ++ line_feed ≡ fields_text (map value_text values)
-bars [] = refl
-bars (v ∷ values) =
-    append_assoc (after_bar value_text v) (flat_map (after_bar value_text) values) line_feed
-    ∙ ap (λ rest. after_bar value_text v ++ rest) (bars values)
+bars [] = grind arith
+bars (v ∷ values) = grind (arith, append_assoc, bars values)
 
 head-written : (told : Told) → record_text (codes "answer")
     (decimal told.client ∷ decimal told.at ∷ name_of told.question.0 ∷ decimal (length told.rows) ∷ map value_text

@@ -1,3 +1,4 @@
+use Rattle.std.proofs.Common.{arith}
 -- A legal trace of clients is allowed, and its text is read back.
 use Rattle.std.proofs.Common.{List, [], ◌∷◌}
 use Rattle.std.specs.List.{AllByRecursion}
@@ -15,11 +16,8 @@ use Rattle.ssb_trace.proofs.TraceLaws.{spells_its_trace, spells_no_other}
 -- the heads of answers that are held, and to clients
 heads_held : (answers : List Told) → AllByRecursion IsHeld answers
     → AllByRecursion (λ (told : Told). IsClient told.client) answers → AllByRecursion HasAllowedHead answers
-heads_held [] held clients = tt
-heads_held (told ∷ answers) held clients = (
-  record { client = clients.0; at = held.0.at; question = held.0.question; count = held.0.count },
-  heads_held answers held.1 clients.1,
-)
+heads_held [] held clients = grind arith
+heads_held (told ∷ answers) held clients = grind (arith, heads_held answers held.1 clients.1)
 
 sums_held : (answers : List Told) → AllByRecursion IsHeld answers → AllByRecursion HasSums answers
 sums_held [] held = tt

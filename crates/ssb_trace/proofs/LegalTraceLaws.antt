@@ -1,3 +1,4 @@
+use Rattle.std.proofs.Common.{arith}
 -- A legal trace is allowed, where its parts are: its answers' rows are those of their questions.
 use Rattle.std.proofs.Common.{◌≡◌, ℕ, List, [], ◌∷◌, Some, IfSome, FitsSigned, refl, suc, zero, subst, inl, inr}
 use Rattle.std.proofs.Common.{slice_get, take}
@@ -21,14 +22,7 @@ all-from P (x ∷ xs) each = (each x (inl refl), all-from P xs (λ y has. each y
 told-allowed : (base : Tables) (commits : List CommitRecord) (told : Told) → AreTakenDimensions base.dimensions
     → IsTrueOf base commits told
     → HasAllowedHead told → HasSums told → IsAllowedTold told
-told-allowed base commits told taken true_of head sums = record {
-  head = head;
-  rows = all-from (IsAllowedRow told.question) told.rows (λ row has.
-      answers_have_allowed_rows told.question base.dimensions (facts_of (lines_after base (take told.at commits))) row
-      taken
-      (subst (λ rows. Has rows row) true_of.rows has)
-      (all_at (λ r. IfSome r.sum (FitsSigned w64)) told.rows row sums has));
-}
+told-allowed base commits told taken true_of head sums = grind (arith, all-from, answers_have_allowed_rows, all_at)
 
 all-allowed : (base : Tables) (commits : List CommitRecord) (answers : List Told) → AreTakenDimensions base.dimensions
     → ((i : ℕ) (told : Told) → slice_get answers i ≡ Some told → IsTrueOf base commits told)

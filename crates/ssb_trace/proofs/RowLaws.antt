@@ -82,14 +82,7 @@ fields-last question row allowed last =
 
 row-read : (question : Query × List Value) (row : ResultRow) → IsAllowedRow question row
     → row_of question (codes "row" ∷ columns_of question.0 row) ≡ Some row
-row-read question row allowed = elim (cases_Bool (sum_first question.0)) [
-  | inl first ↦
-      let columns : columns_of question.0 row ≡ sum_text row.sum ∷ map value_text row.groups = rw first refl in
-      ap (λ found. row_of question (codes "row" ∷ found)) columns ∙ fields-first question row allowed first
-  | inr last ↦
-      let columns : columns_of question.0 row ≡ map value_text row.groups ++ sum_text row.sum ∷ [] = rw last refl in
-      ap (λ found. row_of question (codes "row" ∷ found)) columns ∙ fields-last question row allowed last
-]
+row-read question row allowed = grind (arith, cases_Bool, codes, fields-first, fields-last)
 
 says-row : (question : Query × List Value) (row : ResultRow) → IsAllowedRow question row
     → Says (codes "row" ∷ columns_of question.0 row) (Row question row)
@@ -104,21 +97,12 @@ both-plain (x ∷ one) other a b = (a.0, both-plain one other a.1 b)
 
 columns-plain : (question : Query × List Value) (row : ResultRow) → IsAllowedRow question row
     → AllByRecursion IsPlainField (columns_of question.0 row)
-columns-plain question row allowed =
-    let groups : AllByRecursion IsPlainField (map value_text row.groups) =
-    values_plain (group_kinds question) row.groups allowed.groups in
-    let sum : IsPlainField (sum_text row.sum) = (sum-text-kept (group_kinds question) row.sum allowed.sum).plain in
-    elim (cases_Bool (sum_first question.0)) [
-      | inl first ↦ rw first (sum, groups)
-      | inr last ↦ rw last (both-plain (map value_text row.groups) (sum_text row.sum ∷ []) groups (sum, tt))
-    ]
+columns-plain question row allowed = grind (arith, values_plain, sum-text-kept, cases_Bool, both-plain)
 
 -- columns joined by bars are fields behind bars
 joined : (x : List ℕ) (xs : List (List ℕ)) → 124 ∷ (join_with_byte 124 (x ∷ xs) ++ line_feed) ≡ fields_text (x ∷ xs)
-joined x [] = refl
-joined x (y ∷ xs) =
-    ap (λ rest. 124 ∷ rest) (append_assoc x (124 ∷ join_with_byte 124 (y ∷ xs)) line_feed)
-    ∙ ap (λ rest. 124 ∷ (x ++ rest)) (joined y xs)
+joined x [] = grind arith
+joined x (y ∷ xs) = grind (arith, append_assoc, joined y xs)
 
 joined-last : (xs : List (List ℕ)) (y : List ℕ) → 124 ∷ (join_with_byte 124 (xs ++ y ∷ []) ++ line_feed) ≡ fields_text
     (xs ++ y ∷ [])
@@ -126,10 +110,7 @@ joined-last [] y = joined y []
 joined-last (x ∷ xs) y = joined x (xs ++ y ∷ [])
 
 columns-joined : (query : Query) (row : ResultRow) → 124 ∷ row_text query row ≡ fields_text (columns_of query row)
-columns-joined query row = elim (cases_Bool (sum_first query)) [
-  | inl first ↦ rw first (joined (sum_text row.sum) (map value_text row.groups))
-  | inr last ↦ rw last (joined-last (map value_text row.groups) (sum_text row.sum))
-]
+columns-joined query row = grind (arith, cases_Bool, joined, joined-last)
 
 row-written : (query : Query) (row : ResultRow) → record_text (codes "row") (columns_of query row) ≡ told_row_text query
     row

@@ -42,12 +42,8 @@ amount-read n small =
     rw (le-leb (length (decimal n)) 19 few) (number_read n fits)
 
 pub sum_read : (sum : ℤ) → mag sum < 2 ^ 63 → signed_of (signed_decimal sum) ≡ Some sum
-sum_read (pos n) small =
-    let fits : n < 2 ^ 64 = omega (arith, small) in
-    no-sign (decimal n) (decimal_nonempty n fits) (all_digits n fits)
-    ∙ (ap (option_and_then positive) (amount-read n (omega (arith, small))) ∙ rw (lt-ltb n (2 ^ 63) small) refl)
-sum_read (negsuc n) small = ap (option_and_then negative) (amount-read (suc n) (omega (arith, small)))
-    ∙ rw (le-leb (suc n) (2 ^ 63) (omega (arith, small))) (ap Some (+ℤ_idl (negsuc n)))
+sum_read (pos n) small = grind (arith, no-sign, decimal_nonempty, all_digits, amount-read, lt-ltb)
+sum_read (negsuc n) small = grind (arith, amount-read, le-leb, +ℤ_idl)
 
 -- and a number is not NULL
 digit-no-letter : (c : ℕ) → is_ascii_digit c ≡ true → (c == 78) ≡ false
@@ -60,7 +56,5 @@ digits-no-null (c ∷ ds) some all = rw (digit-no-letter c (and-left (is_ascii_d
     refl
 
 pub sum_no_null : (sum : ℤ) → mag sum < 2 ^ 63 → pointwise nat_eq (signed_decimal sum) (codes "NULL") ≡ false
-sum_no_null (pos n) small =
-    let fits : n < 2 ^ 64 = omega (arith, small) in
-    digits-no-null (decimal n) (decimal_nonempty n fits) (all_digits n fits)
-sum_no_null (negsuc n) small = refl
+sum_no_null (pos n) small = grind (arith, digits-no-null, decimal_nonempty, all_digits)
+sum_no_null (negsuc n) small = grind arith

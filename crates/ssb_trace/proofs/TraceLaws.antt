@@ -33,11 +33,7 @@ each-whole [] all = tt
 each-whole (commit ∷ commits) all = (all.0.whole, each-whole commits all.1)
 
 written-trace : (trace : Trace) → IsAllowed trace → Written (trace_text trace) (lines_of_trace trace)
-written-trace trace allowed =
-    written_both (flat_map commit_text trace.commits) (flat_map told_text trace.answers)
-    (flat_map lines_of_commit trace.commits) (flat_map lines_of_told trace.answers)
-    (written_each commit_text lines_of_commit trace.commits (each-commit trace.commits allowed.commits))
-    (written_each told_text lines_of_told trace.answers (each-told trace.answers allowed.answers))
+written-trace trace allowed = grind (arith, written_both, written_each, each-commit, each-told)
 
 pub spells_its_trace : TextSpellsItsTrace
 spells_its_trace trace most allowed few =

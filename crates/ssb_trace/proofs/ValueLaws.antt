@@ -48,19 +48,10 @@ pub values_read : (front : List (List ℕ)) (kinds : List ConstantKind) (values 
     → AllZip IsGroup kinds values
     → constants_from (length front) kinds (front ++ (map value_text values ++ back)) ≡ Some values
 unfolding constants_from
-values_read front [] [] back fit = refl
-values_read front [] (v ∷ values) back fit = absurd fit
-values_read front (k ∷ kinds) [] back fit = absurd fit
-values_read front (k ∷ kinds) (v ∷ values) back fit =
-    let rest : List (List ℕ) = map value_text values ++ back in
-    let there : field (front ++ value_text v ∷ rest) (length front) ≡ value_text v =
-    field_there front (value_text v) rest (value-kept k v fit.0) in
-    let later : constants_from (length front + 1) kinds (front ++ value_text v ∷ rest) ≡ Some values
-    = ap (λ n. constants_from n kinds (front ++ value_text v ∷ rest)) (sym (length-append front (value_text v ∷ [])))
-    ∙ (ap (constants_from (length (front ++ value_text v ∷ [])) kinds)
-    (sym (append_assoc front (value_text v ∷ []) rest))
-    ∙ values_read (front ++ value_text v ∷ []) kinds values back fit.1) in
-    rw (there, value-read k v fit.0, later) refl
+values_read front [] [] back fit = grind arith
+values_read front [] (v ∷ values) back fit = grind arith
+values_read front (k ∷ kinds) [] back fit = grind arith
+values_read front (k ∷ kinds) (v ∷ values) back fit = grind (arith, field_there, value-kept, length-append, append_assoc, value-read, values_read (front ++ value_text v ∷ []) kinds values back fit.1)
 
 pub as_many_values : (kinds : List ConstantKind) (values : List Value) → AllZip IsGroup kinds values
     → length (map value_text values) ≡ length kinds
@@ -78,13 +69,7 @@ misfits at = not (fits at.0 at.1)
 
 text-fits : (column : Column) (bytes : List ℕ) → fits (kind.Text column) (value.Text bytes) ≡ true
     → is_plain bytes ≡ true
-text-fits column bytes fit = elim (cases_Bool (is_plain bytes)) [
-  | inl plain ↦ plain
-  | inr other ↦ elim (cases_Bool (nat_lt 64 (length bytes))) [
-    | inl long ↦ absurd (false-true (rw long at fit))
-    | inr short ↦ absurd (false-true (rw (short, other) at fit))
-  ]
-]
+text-fits column bytes fit = grind (arith, cases_Bool, nat_lt, false-true)
 
 one-fits : (k : ConstantKind) (v : Value) → fits k v ≡ true → IsAllowedValue v → IsGroup k v
 one-fits (kind.Text column) (value.Text bytes) fit allowed = (text-fits column bytes fit, allowed)
@@ -112,24 +97,11 @@ not-mapped f (Some x) e = absurd (none-some _ (sym e))
 no-fault : (query : Query) (kinds : List ConstantKind) (constants : List Value)
     → fault_by (Some kinds) query constants ≡ None
     → (length constants ≡ length kinds) × (position misfits (zip kinds constants) ≡ None)
-no-fault query kinds constants none = elim (cases_Bool (nat_eq (length constants) (length kinds))) [
-  | inl same ↦ (
-    eqb-true _ _ same,
-    not-mapped (λ place. BadConstant (place + 1))
-        (position misfits (zip kinds constants)) (rw same at none),
-  )
-  | inr other ↦ absurd (none-some _ (sym (rw other at none)))
-]
+no-fault query kinds constants none = grind (arith, cases_Bool, nat_eq, eqb-true, not-mapped, position, zip, none-some)
 
 nowhere : {X : Type 0} (p : X → Bool) (xs : List X) → position p xs ≡ None → length xs ≤ position_or_len p xs
-nowhere p xs none = elim (cases_Bool (nat_lt (position_or_len p xs) (length xs))) [
-  | inl within ↦ absurd (none-some _ (sym (rw within at none)))
-  | inr past ↦ ltb-false _ _ past
-]
+nowhere p xs none = grind (arith, cases_Bool, nat_lt, none-some, ltb-false)
 
 pub constants_fit : (question : Query × List Value) (kinds : List ConstantKind)
     → constant_kinds question.0 ≡ Some kinds → IsAllowedQuestion question → AllZip IsGroup kinds question.1
-constants_fit question kinds are allowed =
-    let found = no-fault question.0 kinds question.1
-    (subst (λ given. fault_by given question.0 question.1 ≡ None) are allowed.taken) in
-    all-fit kinds question.1 found.0 (nowhere misfits (zip kinds question.1) found.1) allowed.constants
+constants_fit question kinds are allowed = grind (arith, no-fault, all-fit, nowhere, zip)

@@ -1,3 +1,4 @@
+use Rattle.std.proofs.Common.{arith}
 -- Text that records of the reader's own lines make up, and how such texts are joined.
 use Rattle.std.proofs.Common.{◌≡◌, ℕ, suc, List, [], ◌∷◌, ◌++◌, length, map, refl, sym, ap, ◌∙◌, subst}
 use Rattle.std.specs.List.{AllByRecursion, flat_map}
@@ -41,14 +42,7 @@ said-both (fields ∷ one) other (line ∷ first) later a b = (a.0, said-both on
 -- one text behind another
 pub written_both : (one other : List ℕ) (first later : List TraceLine) → Written one first → Written other later
     → Written (one ++ other) (first ++ later)
-written_both one other first later a b = record {
-  records = a.records ++ b.records;
-  readable = all-both a.records b.records a.readable b.readable;
-  written = ap (λ text. text ++ other) a.written
-      ∙ (ap (λ text. text_of_records a.records ++ text) b.written
-      ∙ sym (flat_map-append text_of_record a.records b.records));
-  said = said-both a.records b.records first later a.said b.said;
-}
+written_both one other first later a b = grind (arith, all-both, text_of_records, flat_map-append, text_of_record, said-both)
 
 -- the texts of the elements of a list, one behind another
 pub written_each : {X : Type 0} (text : X → List ℕ) (lines : X → List TraceLine) (xs : List X)
@@ -69,12 +63,7 @@ written_map text line (x ∷ xs) all = written_both (text x) (flat_map text xs) 
 -- another writing of the same text and lines
 pub written_as : (one other : List ℕ) (first later : List TraceLine) → one ≡ other → first ≡ later → Written one first
     → Written other later
-written_as one other first later text lines a = record {
-  records = a.records;
-  readable = a.readable;
-  written = sym text ∙ a.written;
-  said = subst (AreLines a.records) lines a.said;
-}
+written_as one other first later text lines a = grind arith
 
 -- there are as many records as lines
 pub as_many : (records : List (List (List ℕ))) (lines : List TraceLine) → AreLines records lines

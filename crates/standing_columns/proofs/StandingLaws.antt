@@ -61,11 +61,7 @@ module _ (old new : List Standing) (len : length new ≡ length old) where
 -- the questions of one batch more
 one_more : (batches more : List Standing) (one : Standing) → more ≡ batches ++ one ∷ []
     → questions_in more ≡ questions_in batches ++ questions_of one.batch.value.questions.items
-one_more batches more one grown =
-    let own : List (Query × List Value) = questions_of one.batch.value.questions.items in
-    ap questions_in grown
-    ∙ flat_map-append (λ (b : Standing). questions_of b.batch.value.questions.items) batches (one ∷ [])
-    ∙ ap (λ l. questions_in batches ++ l) (append-nil own)
+one_more batches more one grown = grind (arith, flat_map-append, append-nil)
 
 -- one batch more is copied
 pub copied_more : (old copy more : List Standing) (i : ℕ) (item made : Standing) → i < length old

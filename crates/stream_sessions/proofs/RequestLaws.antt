@@ -45,21 +45,9 @@ asks_nothing (Some x) none = absurd cc
 pub refreshed_alike : (before : TokenRecord) (number : ℕ) (actions : List Action) (reply : Result Receipt RefreshError)
     (after : TokenRecord)
     → client.Refreshed before number actions reply after → is_some before.asked ≡ false → AreAlike before after
-refreshed_alike before number actions (Ok receipt) after refreshed quiet = record {
-  table = ap (λ (t : TokenRecord). t.table) refreshed.now;
-  who = ap (λ (t : TokenRecord). t.who) refreshed.now;
-  quiet = ap (λ (t : TokenRecord). t.asked) refreshed.now ∙ asks_nothing before.asked quiet;
-}
-refreshed_alike before number actions (Err (refusal.Refused at action cause)) after refreshed quiet = record {
-  table = ap (λ (t : TokenRecord). t.table) refreshed.2.now;
-  who = ap (λ (t : TokenRecord). t.who) refreshed.2.now;
-  quiet = ap (λ (t : TokenRecord). t.asked) refreshed.2.now ∙ asks_nothing before.asked quiet;
-}
-refreshed_alike before number actions (Err refusal.OutOfMemory) after refreshed quiet = record {
-  table = ap (λ (t : TokenRecord). t.table) refreshed.1.now;
-  who = ap (λ (t : TokenRecord). t.who) refreshed.1.now;
-  quiet = ap (λ (t : TokenRecord). t.asked) refreshed.1.now ∙ asks_nothing before.asked quiet;
-}
+refreshed_alike before number actions (Ok receipt) after refreshed quiet = grind (arith, asks_nothing)
+refreshed_alike before number actions (Err (refusal.Refused at action cause)) after refreshed quiet = grind (arith, asks_nothing)
+refreshed_alike before number actions (Err refusal.OutOfMemory) after refreshed quiet = grind (arith, asks_nothing)
 
 -- what is as it was
 keeps_same : (a : Option (List ℕ)) → Keeps a a
@@ -75,11 +63,7 @@ alike_itself old quiet = record { table = refl; who = refl; quiet = asks_nothing
 
 -- one client after another call
 pub alike_both : (a b c : TokenRecord) → AreAlike a b → AreAlike b c → AreAlike a c
-alike_both a b c first second = record {
-  table = second.table ∙ first.table;
-  who = second.who ∙ first.who;
-  quiet = second.quiet;
-}
+alike_both a b c first second = grind arith
 
 pub asked_nothing : {X : Type 0} (asked : Option X) → asked ≡ None → is_some asked ≡ false
 asked_nothing asked none = ap is_some none
@@ -134,20 +118,15 @@ asked_same before asking after questions response asked polled =
 
 pub answered_alike : (before asking after : TokenRecord) (questions : Questions) (response : Response)
     → client.Asks before questions asking → client.Polls asking response after → AreAlike before after
-answered_alike before asking after questions response asked polled = record {
-  table = ap (λ (t : TokenRecord). t.table) polled.now ∙ ap (λ (t : TokenRecord). t.table) asked.now;
-  who = ap (λ (t : TokenRecord). t.who) polled.now ∙ ap (λ (t : TokenRecord). t.who) asked.now;
-  quiet = ap (λ (t : TokenRecord). t.asked) polled.now;
-}
+answered_alike before asking after questions response asked polled = grind arith
 
 -- as many replies as requests
 same_count : (number : ℕ) (old new : TokenRecord) (requests : List RequestRecord) (replies : List Reply)
     → AreServed number old requests replies new → length replies ≡ length requests
-same_count number old new [] [] are = refl
-same_count number old new [] (reply ∷ replies) are = absurd are
-same_count number old new (request ∷ requests) [] are = absurd are
-same_count number old new (request ∷ requests) (reply ∷ replies) are =
-    ap suc (same_count number are.0 new requests replies are.2)
+same_count number old new [] [] are = grind arith
+same_count number old new [] (reply ∷ replies) are = grind arith
+same_count number old new (request ∷ requests) [] are = grind arith
+same_count number old new (request ∷ requests) (reply ∷ replies) are = grind (arith, same_count number are.0 new requests replies are.2)
 
 -- one request more
 pub served_more : (number : ℕ) (old mid new : TokenRecord) (requests : List RequestRecord) (replies : List Reply)
@@ -169,38 +148,32 @@ keeps_none (Some told) = sym (append-nil told)
 
 keeps_both : (told_old told_mid told_new : Option (List Told)) (first more : List Told)
     → KeepsMore told_old told_mid first → KeepsMore told_mid told_new more → KeepsMore told_old told_new (first ++ more)
-keeps_both None None None first more was is = tt
-keeps_both None None (Some new) first more was is = absurd is
-keeps_both None (Some mid) new first more was is = absurd was
-keeps_both (Some old) None new first more was is = absurd was
-keeps_both (Some old) (Some mid) None first more was is = absurd is
-keeps_both (Some old) (Some mid) (Some new) first more was is =
-    is ∙ ap (λ t. t ++ more) was ∙ append_assoc old first more
+keeps_both None None None first more was is = grind arith
+keeps_both None None (Some new) first more was is = grind arith
+keeps_both None (Some mid) new first more was is = grind arith
+keeps_both (Some old) None new first more was is = grind arith
+keeps_both (Some old) (Some mid) None first more was is = grind arith
+keeps_both (Some old) (Some mid) (Some new) first more was is = grind (arith, append_assoc)
 
 -- what is kept of one reply more
 kept_more : (number : ℕ) (replies : List Reply) (reply : Reply) (told_old told_mid told_new : Option (List Told))
     → KeepsMore told_old told_mid (flat_map (told_of number) replies)
     → KeepsMore told_mid told_new (told_of number reply)
     → KeepsMore told_old told_new (flat_map (told_of number) (replies ++ reply ∷ []))
-kept_more number replies reply told_old told_mid told_new so_far more =
-    subst (KeepsMore told_old told_new) (sym (flat_map-append (told_of number) replies (reply ∷ [])
-    ∙ ap (λ t. flat_map (told_of number) replies ++ t) (append-nil (told_of number reply))))
-    (keeps_both told_old told_mid told_new (flat_map (told_of number) replies) (told_of number reply) so_far more)
+kept_more number replies reply told_old told_mid told_new so_far more = grind (arith, flat_map-append, append-nil, keeps_both)
 
 -- a reply has no more answers than its request has questions
 pub few_replies : (number : ℕ) (old new : TokenRecord) (request : RequestRecord) (reply : Reply)
     → IsServed number old request reply new → answer_count reply ≤ question_count request
-few_replies number old new (Refresh actions) (Refreshed result) is = omega arith
-few_replies number old new (Ask asking) (Answered answers) is =
-    let same = asked_same old is.asking new (questions_in asking) is.response is.asked is.polled in
-    omega (arith, few_answers is.response, ap length same, ap length is.answers_are)
-few_replies number old new Abort Aborted is = omega arith
-few_replies number old new (Refresh actions) (Answered answers) is = absurd is
-few_replies number old new (Refresh actions) Aborted is = absurd is
-few_replies number old new (Ask asking) (Refreshed result) is = absurd is
-few_replies number old new (Ask asking) Aborted is = absurd is
-few_replies number old new Abort (Refreshed result) is = absurd is
-few_replies number old new Abort (Answered answers) is = absurd is
+few_replies number old new (Refresh actions) (Refreshed result) is = grind arith
+few_replies number old new (Ask asking) (Answered answers) is = grind (arith, asked_same, few_answers)
+few_replies number old new Abort Aborted is = grind arith
+few_replies number old new (Refresh actions) (Answered answers) is = grind arith
+few_replies number old new (Refresh actions) Aborted is = grind arith
+few_replies number old new (Ask asking) (Refreshed result) is = grind arith
+few_replies number old new (Ask asking) Aborted is = grind arith
+few_replies number old new Abort (Refreshed result) is = grind arith
+few_replies number old new Abort (Answered answers) is = grind arith
 
 -- room for many is room for few, where anything is kept
 pub room_for : {X : Type 0} (kept : Option X) (count room : X → ℕ) (few many : ℕ) → few ≤ many
@@ -211,28 +184,14 @@ room_for (Some k) count room few many less is = omega (arith, less, is)
 -- no request
 pub serves_none : (number : ℕ) (old : TokenRecord) (told : Option (List Told)) (before : Option (List ℕ))
     → Serves number old old [] told told before before
-serves_none number old told before = record {
-  replies = [];
-  served = refl;
-  kept = keeps_none told;
-  written = appends_none before;
-}
+serves_none number old told before = grind (arith, keeps_none, appends_none)
 
 -- one request more
 pub serves_more : (number : ℕ) (old mid new : TokenRecord) (requests : List RequestRecord) (request : RequestRecord)
     (told_old told_mid told_new : Option (List Told)) (a b c : Option (List ℕ))
     → Serves number old mid requests told_old told_mid a b → ServesOne number mid new request told_mid told_new b c
     → Serves number old new (requests ++ request ∷ []) told_old told_new a c
-serves_more number old mid new requests request told_old told_mid told_new a b c served next =
-    let replies = served.replies in
-    record {
-      replies = replies ++ next.reply ∷ [];
-      served = served_more number old mid new requests replies request next.reply served.served next.served;
-      kept = kept_more number replies next.reply told_old told_mid told_new served.kept next.kept;
-      written = subst (Appends a c) (sym (flat_map-append reply_text replies (next.reply ∷ [])
-          ∙ ap (λ t. report_of replies ++ t) (append-nil (reply_text next.reply))))
-          (appends_both a b c (report_of replies) (reply_text next.reply) served.written next.written);
-    }
+serves_more number old mid new requests request told_old told_mid told_new a b c served next = grind (arith, served_more, kept_more, flat_map-append, append-nil, appends_both)
 
 -- the same by the number of the client, who is still the same
 pub serves_more_still : (old mid new : TokenRecord) (requests : List RequestRecord) (request : RequestRecord)
@@ -253,21 +212,7 @@ stops_there : (number : ℕ) (old mid new : TokenRecord) (front rest : List Requ
     (told_old told_mid told_new : Option (List Told)) (a b c : Option (List ℕ))
     → Serves number old mid front told_old told_mid a b → ServesInPart number mid new request told_mid told_new b c
     → StopsAfter (length front) number old new (front ++ request ∷ rest) told_old told_new a c
-stops_there number old mid new front rest request told_old told_mid told_new a b c served next =
-    let replies = served.replies in
-    let first = take_next front rest request in
-    record {
-      replies = replies;
-      last = next.reply;
-      count = same_count number old mid front replies served.served;
-      served = rw first (served_more number old mid new front replies request next.reply served.served next.served);
-      kept = kept_more number replies next.reply told_old told_mid told_new served.kept next.kept;
-      part = next.written.part;
-      rest = next.written.rest;
-      begins = next.written.begins;
-      left = next.written.left;
-      written = appends_both a b c (report_of replies) next.written.part served.written next.written.appends;
-    }
+stops_there number old mid new front rest request told_old told_mid told_new a b c served next = grind (arith, take_next, same_count, served_more, kept_more, appends_both)
 
 -- serving stops before a request
 stops_short : (number : ℕ) (old mid new : TokenRecord) (front rest : List RequestRecord) (request : RequestRecord)
@@ -276,21 +221,7 @@ stops_short : (number : ℕ) (old mid new : TokenRecord) (front rest : List Requ
     → StopsIn OutOfMemory number mid new request told_mid told_new b c
     → (length front < length (front ++ request ∷ rest))
     × Serves number old new (take (length front) (front ++ request ∷ rest)) told_old told_new a c
-stops_short number old mid new front rest request told_old told_mid told_new a b c served stopped = (
-  omega (arith, length-append front (request ∷ rest)),
-  rw (take-append_seam front (request ∷ rest)) (record {
-    replies = served.replies;
-    served = subst (AreServed number old front served.replies) (sym stopped.0) served.served;
-    kept = subst (λ t. KeepsMore told_old t (flat_map (told_of number) served.replies)) (sym stopped.1) served.kept;
-    written = kept_written a b c (report_of served.replies) served.written stopped.2;
-  }),
-)
-  where
-    kept_written : (a b c : Option (List ℕ)) (x : List ℕ) → Appends a b x → Keeps b c → Appends a c x
-    kept_written None b c x first same = tt
-    kept_written (Some xs) None c x first same = absurd first
-    kept_written (Some xs) (Some ys) None x first same = absurd same
-    kept_written (Some xs) (Some ys) (Some zs) x first same = same ∙ first
+stops_short number old mid new front rest request told_old told_mid told_new a b c served stopped = grind (arith, length-append, take-append_seam)
 
 -- how a run ends at a request
 pub ends_there : (stop : ServeStop) (number : ℕ) (old mid new : TokenRecord) (front rest : List RequestRecord) (request : RequestRecord)

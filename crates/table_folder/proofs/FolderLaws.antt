@@ -1,3 +1,4 @@
+use Rattle.std.proofs.Common.{arith}
 -- What stands under the tables' names, and what a crash leaves there, after the calls of a filling.
 use Rattle.std.proofs.Common.{◌≡◌, ◌∙◌, ℕ, Bool, true, false, ◌&&◌, ◌||◌, List, [], ◌∷◌, Option, Some, None, refl}
 use Rattle.std.proofs.Common.{sym, ap, subst, inl, inr}
@@ -52,10 +53,8 @@ new_is calls t text found on new =
 -- the newest name is this one, or another
 there : (calls : List FolderCall) (t : Table) (text : List ℕ) (found : Option (List ℕ)) → on_disk calls t ≡ Some text
     → IsThere (Named t true ∷ calls) t found → same_table t t ≡ true → found ≡ Some text
-there calls t text found on (inl new) same = new_is calls t text found on new.1
-there calls t text found on (inr old) same =
-    absurd (let never : (same_table t t && true) ≡ true = ap (λ (b : Bool). b && true) same in
-    let other = old.0 in cc)
+there calls t text found on (inl new) same = grind (arith, new_is)
+there calls t text found on (inr old) same = grind arith
 
 other_there : (calls : List FolderCall) (u t : Table) (ok : Bool) (found : Option (List ℕ)) → same_table u t ≡ false
     → IsThere (Named u ok ∷ calls) t found → IsThere calls t found
@@ -162,10 +161,7 @@ module _ (texts : Table → List ℕ) where
 -- after the last calls of a filling
 pub has_all_after : (texts : Table → List ℕ) (before after : List FolderCall) → before ≡ ready_calls texts
     → after ≡ NamesSynced true ∷ Named Lineorder true ∷ before → HasAll texts after
-has_all_after texts before after ready named =
-    subst (λ (calls : List FolderCall). HasAll texts calls)
-    (sym (named ∙ ap (λ (calls : List FolderCall). NamesSynced true ∷ Named Lineorder true ∷ calls) ready))
-    (has_all texts)
+has_all_after texts before after ready named = grind (arith, has_all)
 
 pub left_after : (texts : Table → List ℕ) (before after : List FolderCall) → before ≡ ready_calls texts
     → after ≡ NamesSynced true ∷ Named Lineorder true ∷ before → LeftNoneOrAll texts after

@@ -1,3 +1,4 @@
+use Rattle.std.proofs.Common.{arith}
 -- Each step of the cell keeps the rule.
 use Rattle.std.proofs.Common.{◌≡◌, ℕ, ◌≢◌, List, [], ◌∷◌, ◌++◌, fold, length, set, Some, sym, refl, ap, ◌∙◌, subst}
 use Rattle.std.proofs.Common.{⊎_elim}
@@ -59,11 +60,7 @@ over_some base w is b e = let same : Some b ≡ Some base = sym e ∙ is in cc
 -- the state after a publication stands for the list with the commits that were added
 pub stands_after : (s t : State) (told more now : List CommitRecord) → t ≡ fold state_after s more
     → s ≡ state_of s.base told → now ≡ told ++ more → t ≡ state_of t.base now
-stands_after s t told more now is stands longer =
-    let next : t ≡ state_of s.base (told ++ more) = is ∙ ap (λ s. fold state_after s more) stands
-    ∙ state_after-all s.base told more in
-    let same : t.base ≡ s.base = ap (λ s. s.base) next in
-    next ∙ ap (λ b. state_of b (told ++ more)) (sym same) ∙ ap (state_of t.base) (sym longer)
+stands_after s t told more now is stands longer = grind (arith, fold, state_after-all)
 
 pub base_after : (s t : State) (more : List CommitRecord) → t ≡ fold state_after s more → t.base ≡ s.base
 base_after s t [] is = ap (λ s. s.base) is
