@@ -1,46 +1,26 @@
 -- The classes of rows, from their codes.
 use Rattle.std.proofs.Common.{◌≡◌, ℕ, ◌+◌, ◌<◌, Bool, true, false, cond, List, [], ◌∷◌, ◌++◌, length, map, get_or}
-use Rattle.std.proofs.Common.{Option, Some, None, zero, suc, sym, refl, ap, ◌∙◌, arith, unwrap_or, take}
-use Rattle.std.specs.Prelude.{nat_eq, ◌&&◌, if◌then◌else◌}
+use Rattle.std.proofs.Common.{Some, None, zero, suc, sym, refl, ap, ◌∙◌, arith, unwrap_or, take}
+use Rattle.std.specs.Prelude.{◌&&◌, if◌then◌else◌}
 use Rattle.std.specs.List.{position, position_from, range_with_len}
 use Rattle.std.specs.Option.{option_or}
-use Rattle.std.proofs.lemmas.Bool.{eqb-true, eq-eqb}
+use Rattle.std.proofs.lemmas.Bool.{eq-eqb}
 use Rattle.std.proofs.lemmas.List.{length-map, length-take-le, take_more}
 use Rattle.std.proofs.lemmas.List.FromFn.{length-map-range_with_len}
 use Rattle.std.proofs.lemmas.Iterator.Adapters.{position_from-zero}
-use Rattle.ssb_base.specs.Base.{Dimensions, Tables, customer_key, supplier_key, part_key, date_key}
+use Rattle.ssb_base.specs.Base.{Dimensions, Tables}
 use Rattle.ssb_schema.specs.declared.table.Table.{Table}
 use Rattle.ssb_schema.specs.declared.table.Table.TheVariants as table
 use Rattle.ssb_questions.specs.declared.value.Value.{Value}
 use Rattle.ssb_questions.specs.declared.value.Value.TheVariants.{Number}
-use Rattle.ssb_answers.specs.RowValues.{customer_value, supplier_value, part_value, date_value}
 use Rattle.dimension_index.specs.Codes.{codes_of, is_same}
 use Rattle.dimension_index.specs.Keys.{keys_of}
 use Rattle.dimension_index.specs.Classes.{are_alike, class_at, classes_by, classes_of, telling_columns, read_columns}
 use Rattle.dimension_index.specs.Classes.{rows_in}
 use Rattle.dimension_index.specs.Values.{values_of}
 use Rattle.ssb_schema.specs.declared.column.Column.{Column}
-use Rattle.dimension_index.specs.Told.{RowCodes, same_told, told_at, told_rows, first_in, noted}
+use Rattle.dimension_index.specs.Told.{RowCodes, same_told, told_at, told_rows, first_in}
 use Rattle.dimension_index.proofs.CodeLaws.{same_codes}
-
-both : (a b : Bool) → (a && b) ≡ true → (a ≡ true) × (b ≡ true)
-both true b e = (refl, e)
-both false b e = absurd (cc)
-
--- the same codes are equal
-told_equal : (x y : RowCodes) → same_told x y ≡ true → x ≡ y
-told_equal x y same = grind (arith, both, eqb-true)
-
--- codes that were seen are not noted again
-pub seen_before : (places : RowCodes → Option ℕ) (told : RowCodes) (place at : ℕ) (other : RowCodes)
-    → places told ≡ Some place → places other ≡ noted places told at other
-seen_before places told place at other seen = grind (arith, told_equal)
-
--- codes that are new are noted
-pub seen_now : (places later : RowCodes → Option ℕ) (told : RowCodes) (at : ℕ) (other : RowCodes) → places told ≡ None
-    → later other ≡ cond (same_told told other) (Some at) (places other)
-    → later other ≡ noted places told at other
-seen_now places later told at other new is = grind (arith, told_equal)
 
 -- the first place in a list with one element more
 position_push : {X : Type 0} (test : X → Bool) (a : ℕ) (xs : List X) (y : X)

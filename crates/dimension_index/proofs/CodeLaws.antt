@@ -1,5 +1,5 @@
 -- The distinct values of a list, and their codes.
-use Rattle.std.proofs.Common.{◌≡◌, ℕ, ◌+◌, ◌<◌, ◌≤◌, Bool, true, false, cond, not, List, [], ◌∷◌, ◌++◌, length, map}
+use Rattle.std.proofs.Common.{◌≡◌, ℕ, ◌+◌, ◌<◌, ◌≤◌, Bool, true, false, cond, List, [], ◌∷◌, ◌++◌, length, map}
 use Rattle.std.proofs.Common.{take, get_or, Some, None, zero, suc, sym, refl, ap, ◌∙◌, arith, subst, unwrap_or}
 use Rattle.std.proofs.Common.{length-append}
 use Rattle.std.specs.Prelude.{◌||◌, nat_lt, nat_eq}
@@ -9,7 +9,6 @@ use Rattle.std.proofs.lemmas.List.Elements.{filter-append, All-filter, All-push}
 use Rattle.std.proofs.lemmas.List.Sums.{position_or_len_is}
 use Rattle.std.proofs.lemmas.Bool.{lt-ltb, eq-eqb, ne_eqb}
 use Rattle.std.proofs.lemmas.Iterator.Adapters.{position_from-zero}
-use Rattle.std.proofs.Math.Seq.{take-length}
 use Rattle.std.proofs.lemmas.Option.{get_or_from_slice_get, slice_get_within}
 use Rattle.std.proofs.lemmas.Grind.{same_number_lists}
 use Rattle.indexmap.specs.IndexSet.{insert_key}
@@ -34,9 +33,6 @@ any_kept : (v : Value) (test : Value → Bool) (values : List Value)
     → list_any (is_same v) (filter test values) ≡ list_any (is_same v) values
 any_kept v test [] passes = grind arith
 any_kept v test (first ∷ values) passes = grind (arith, any_kept v test values passes)
-
-abbrev differs : Value → Value → Bool
-differs value other = not (is_same value other)
 
 -- one value more: it is entered where it is new
 pub distinct_push : (values : List Value) (v : Value) → distinct (values ++ v ∷ []) ≡ insert_key is_same
@@ -162,13 +158,6 @@ coded_more values i d v old new codes code inside is entered found so_far =
           (λ k e lt. omega (arith, so_far.within k e lt, lengths, new_len)) (slice_get_within new code v found);
       few = omega (arith, lengths, new_len, so_far.few);
     }
-
--- after all rows
-pub coded_all : (values dictionary : List Value) (codes : List ℕ) → CodedUpTo values (length values) dictionary codes
-    → IsCoded dictionary codes × (values_in dictionary codes ≡ values)
-coded_all values dictionary codes all =
-    let read : values_in dictionary codes ≡ values = all.read ∙ take-length values in
-    (record { within = all.within; seen = all.seen ∙ ap distinct (take-length values ∙ sym read) }, read)
 
 -- a value of the list is among the distinct ones
 among_distinct : (values : List Value) (p : ℕ) (d : Value) → p < length values

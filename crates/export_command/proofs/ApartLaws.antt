@@ -1,5 +1,5 @@
 -- Lists of which no two elements are the same, by recursion.
-use Rattle.std.proofs.Common.{◌≡◌, ℕ, zero, suc, Bool, true, false, cond, List, [], ◌∷◌, ◌++◌, filter, Some, slice_get}
+use Rattle.std.proofs.Common.{◌≡◌, ℕ, zero, suc, Bool, false, List, [], ◌∷◌, ◌++◌, filter, Some, slice_get}
 use Rattle.std.proofs.Common.{refl, subst, arith}
 use Rattle.std.specs.List.{AllByRecursion}
 use Rattle.ssb_schema.specs.FirstFault.{AreDistinct}

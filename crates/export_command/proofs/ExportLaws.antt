@@ -1,5 +1,5 @@
 -- What an export leaves, of what was loaded, kept and written.
-use Rattle.std.proofs.Common.{◌≡◌, ◌∙◌, ℕ, List, [], length, Option, Result, Ok, Err, OnOk, ap, subst, sym, refl, arith}
+use Rattle.std.proofs.Common.{◌≡◌, ◌∙◌, ℕ, List, [], length, Option, Result, Ok, Err, OnOk, ap, subst, refl, arith}
 use Rattle.std.proofs.Common.{inl, inr}
 use Rattle.std.specs.Prelude.{IfErr}
 use Rattle.ssb_base.specs.Base.{IsSound, Tables}

@@ -1,9 +1,9 @@
 use Rattle.std.proofs.Common.{arith}
 -- The tables after a legal history keep what those of a base keep.
-use Rattle.std.proofs.Common.{◌≡◌, ℕ, ◌+◌, Bool, true, false, not, cond, ◌&&◌, ◌||◌, nat_eq, List, [], ◌∷◌, ◌++◌}
+use Rattle.std.proofs.Common.{◌≡◌, ℕ, ◌+◌, Bool, true, false, not, ◌&&◌, ◌||◌, nat_eq, List, [], ◌∷◌, ◌++◌}
 use Rattle.std.proofs.Common.{length, take, Option, Some, None, slice_get, refl, sym, ap, ◌∙◌, subst, append_assoc}
 use Rattle.std.proofs.Common.{append-nil}
-use Rattle.std.specs.Prelude.{nat_le, if◌then◌else◌}
+use Rattle.std.specs.Prelude.{if◌then◌else◌}
 use Rattle.std.specs.List.{AllByRecursion, list_any}
 use Rattle.std.specs.Option.{option_map, option_or}
 use Rattle.std.proofs.lemmas.List.Elements.{All-from_recursion, recursion_from_All}
@@ -11,14 +11,14 @@ use Rattle.row_store.specs.History.{CommitRecord, lines_after}
 use Rattle.row_store.specs.Legal.{IsLegal}
 use Rattle.row_store.specs.Lines.{is_of, is_present, lines_after_action, lines_after_refresh, lines_without}
 use Rattle.row_store.specs.Refusals.{cause_of, first_refusal, lacks_customer, lacks_date, lacks_part, lacks_supplier}
-use Rattle.row_store.specs.Refusals.{lines_full, order_cause, refusal_of, unknown_key}
+use Rattle.row_store.specs.Refusals.{order_cause, refusal_of}
 use Rattle.row_store.specs.declared.refusal.Cause.{Cause}
 use Rattle.row_store.specs.declared.refusal.Cause.TheVariants as cause
 use Rattle.row_store.proofs.FewLaws.{legal_histories_are_few}
 use Rattle.row_store.proofs.StateLaws.{lines_after-push}
 use Rattle.ssb_base.specs.Base.{Dimensions, IsKnown, Tables, customer_key, date_key, has_key, is_same_line, part_key}
 use Rattle.ssb_base.specs.Base.{supplier_key}
-use Rattle.ssb_schema.specs.Orders.{IsOrder, has_number_of, order_key}
+use Rattle.ssb_schema.specs.Orders.{IsOrder, order_key}
 use Rattle.ssb_schema.specs.declared.line.LineFields.{LineFields}
 use Rattle.ssb_schema.specs.declared.refresh.Action.{Action}
 use Rattle.ssb_schema.specs.declared.refresh.Action.TheVariants.{Add, Amend, Withdraw}

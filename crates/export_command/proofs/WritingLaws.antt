@@ -6,7 +6,7 @@ use Rattle.std.specs.Io.KnownBytes.{Appends}
 use Rattle.std.specs.List.{AllByRecursion}
 use Rattle.std.proofs.lemmas.List.Concat.{flat_map-append}
 use Rattle.ssb_text.specs.Written.{StopsShort}
-use Rattle.ssb_text.proofs.WrittenLaws.{appends_both, appends_none, appends_part, part_longer}
+use Rattle.ssb_text.proofs.WrittenLaws.{appends_both, appends_part, part_longer}
 use Rattle.ssb_schema.specs.Rows.{line_values}
 use Rattle.ssb_schema.specs.declared.line.LineFields.{LineFields}
 use Rattle.ssb_schema.specs.declared.table.Table.TheVariants as table
@@ -40,9 +40,6 @@ rows_both one other a b =
     subst (AllByRecursion (IsTableRow table.Lineorder)) (sym (map-both one other))
     (all_append (IsTableRow table.Lineorder) (map line_values one) (map line_values other) a b)
 
-pub nothing_written : (old : Option (List ℕ)) → HasWritten old old []
-nothing_written old = record { text = appends_none old; rows = tt }
-
 pub written_both : (old mid new : Option (List ℕ)) (one other : List LineFields) → HasWritten old mid one
     → HasWritten mid new other → HasWritten old new (one ++ other)
 written_both old mid new one other a b = grind (arith, text_both, appends_both, rows_both)
@@ -68,10 +65,6 @@ stopped_behind old mid new one other a part =
 pub all_written : {X E : Type 0} (old new : Option (List ℕ)) (v : X) (lines : List LineFields)
     → WritesLines {X = X} {E = E} old new (Ok v) lines → HasWritten old new lines
 all_written old new v lines written = record { text = written.text; rows = written.rows }
-
-pub part_written : {X E : Type 0} (old new : Option (List ℕ)) (e : E) (lines : List LineFields)
-    → WritesLines {X = X} {E = E} old new (Err e) lines → StopsShort old new (lines_text lines)
-part_written old new e lines written = written.text
 
 pub writes_all : {X E : Type 0} (old new : Option (List ℕ)) (v : X) (lines : List LineFields)
     → HasWritten old new lines → WritesLines {X = X} {E = E} old new (Ok v) lines

@@ -1,7 +1,6 @@
 -- Lines in codes: one line more, the first ones and the others, and the key of an order's places.
-use Rattle.std.proofs.Common.{◌≡◌, ℕ, ◌<◌, ◌≤◌, ◌-◌, true, List, [], ◌∷◌, ◌++◌, length, map, fold, take, drop, get_or}
+use Rattle.std.proofs.Common.{◌≡◌, ℕ, ◌<◌, ◌≤◌, ◌-◌, true, List, [], ◌∷◌, ◌++◌, length, map, take, drop, get_or}
 use Rattle.std.proofs.Common.{zero, suc, sym, refl, ap, ◌∙◌, subst, arith, ◌+◌, append_assoc, append-nil, Result, Ok}
-use Rattle.std.proofs.Common.{IfOk}
 use Rattle.std.specs.List.{All, AllZip, flat_map}
 use Rattle.std.specs.declared.alloc.AllocError.{AllocError}
 use Rattle.std.proofs.lemmas.List.Concat.{flat_map-append, flat_map-cons}
@@ -15,12 +14,11 @@ use Rattle.ssb_schema.specs.declared.line.LineFields.{LineFields}
 use Rattle.ssb_schema.specs.declared.refresh.Action.{Action}
 use Rattle.ssb_schema.specs.Facts.{fact_of, facts_of}
 use Rattle.row_store.specs.Lines.{added_by}
-use Rattle.row_store.specs.State.{Counts, with_fact}
 use Rattle.fact_columns.specs.declared.place.Place.{Place}
 use Rattle.fact_columns.specs.Places.{fact_at, is_live}
 use Rattle.fact_columns.specs.Classed.{IsPlaceOf}
 use Rattle.fact_columns.specs.Columns.{Held}
-use Rattle.fact_columns.specs.Coded.{AreCodesOf, IsCodeOf, IsCoded, with_places}
+use Rattle.fact_columns.specs.Coded.{AreCodesOf, IsCodeOf, IsCoded}
 
 pub some_row : {R : Type 0} (rows : List R) → 0 < length rows → R
 some_row [] some = absurd (omega (arith, some))
@@ -57,12 +55,6 @@ codes_own dimensions order lines key codes alike = each order lines codes.read a
         rest : {a b : Fact} {xs ys : List Fact} → a ∷ xs ≡ b ∷ ys → xs ≡ ys
         rest e = cc
 
--- counting places is counting the facts that they read as
-pub with_read : (dimensions : Dimensions) (counts : Counts) (lines : List Place)
-    → with_places dimensions counts lines ≡ fold with_fact counts (map (fact_at dimensions) lines)
-with_read dimensions counts [] = refl
-with_read dimensions counts (line ∷ lines) = with_read dimensions (with_fact counts (fact_at dimensions line)) lines
-
 -- as many places as facts
 pub codes_length : (dimensions : Dimensions) (facts : List Fact) (places : List Place)
     → AreCodesOf dimensions facts places → length places ≡ length facts
@@ -87,12 +79,6 @@ codes_drop dimensions facts more places codes = record {
   lives = All-drop (λ p. is_live p ≡ true) (length facts) places codes.lives;
   inside = All-drop (IsPlaceOf dimensions) (length facts) places codes.inside;
 }
-
--- counting the places of facts is counting the facts
-pub with_codes : (dimensions : Dimensions) (counts : Counts) (facts : List Fact) (places : List Place)
-    → AreCodesOf dimensions facts places → with_places dimensions counts places ≡ fold with_fact counts facts
-with_codes dimensions counts facts places codes = with_read dimensions counts places
-    ∙ ap (fold with_fact counts) codes.read
 
 -- the next action's lines are cut off the front of those that are left
 pub codes_cut : (dimensions : Dimensions) (actions : List Action) (i : ℕ) (action : Action)

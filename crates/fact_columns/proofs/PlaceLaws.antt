@@ -43,9 +43,6 @@ pub if_live-true : (line : Place) → is_live line ≡ true → if_live line ≡
 if_live-true line live = ap (λ b. cond b (Some line) None) live
 
 module _ (dimensions : Dimensions) where
-  counted : Counts → List Place → Counts
-  counted counts lines = fold with_fact counts (map (fact_at dimensions) lines)
-
   after_front : (o : Option Place) (counts : Counts) (later lines : List Place) (line : Place)
       → ((m : Counts) → fold with_fact m (map (fact_at dimensions) later) ≡ with_fact
       (fold with_fact m (map (fact_at dimensions) lines)) (fact_at dimensions line))
@@ -116,10 +113,6 @@ cond_length false line lines n few = omega (arith, few)
 pub live_few : (places : List Place) → live_count places ≤ length places
 live_few [] = omega arith
 live_few (first ∷ places) = cond_length (is_live first) first (live_places places) (length places) (live_few places)
-
--- a freed place
-freed_dead : (line : Place) → if_live (freed line) ≡ None
-freed_dead line = refl
 
 pub count_freed : (places : List Place) (place : ℕ) (d line : Place) → live_at places place ≡ Some line
     → live_count places ≡ live_count (set places place (freed (get_or places place d))) + 1
@@ -267,12 +260,6 @@ pub ruleset putting = (
   live_at_written,
   live_at_set_other,
 )
-
--- nothing is live past the end
-pub live_at_past : (places : List Place) (place : ℕ) → length places ≤ place → live_at places place ≡ None
-live_at_past [] place past = refl
-live_at_past (first ∷ places) zero past = absurd (omega (arith, past))
-live_at_past (first ∷ places) (suc place) past = live_at_past places place (omega (arith, past))
 
 -- and a live line is within
 pub live_within : (places : List Place) (place : ℕ) (line : Place) → live_at places place ≡ Some line

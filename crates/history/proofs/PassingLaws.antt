@@ -1,11 +1,10 @@
 -- What a token keeps over each call, and what its record then is.
 use Rattle.std.proofs.Common.{◌≡◌, ◌≢◌, ℕ, ◌+◌, ◌<◌, ◌≤◌, Bool, true, false, List, [], ◌∷◌, ◌++◌, map, length, drop}
-use Rattle.std.proofs.Common.{Option, Some, None, refl, ap, sym, subst, ◌∙◌, ⊎_elim, arith, length-append}
+use Rattle.std.proofs.Common.{Some, None, refl, ap, sym, subst, ◌∙◌, ⊎_elim, arith, length-append}
 use Rattle.std.proofs.lemmas.Bool.Decides.{nat_tests}
 use Rattle.std.proofs.lemmas.List.{append-nil}
 use Rattle.std.proofs.Math.Seq.{drop-append_seam}
-use Rattle.std.specs.Prelude.{nat_lt, MatchOption, All}
-use Rattle.std.proofs.lemmas.List.Elements.{All-cons}
+use Rattle.std.specs.Prelude.{nat_lt, All}
 use Rattle.atomic_table.specs.Seated.{TableId}
 use Rattle.atomic_table.specs.Table.{rest, turned}
 use Rattle.arrayvec.specs.ArrayVec.{ArrayVec}
@@ -20,13 +19,13 @@ use Rattle.history.specs.declared.request.PostedRequest.{PostedRequest}
 use Rattle.history.specs.declared.view.Held.{Held}
 use Rattle.history.specs.declared.view.View.{View}
 use Rattle.history.specs.declared.token.Token.TheInside.{Inside as Token}
-use Rattle.history.specs.Words.{store, IsAccepted, request, IsRight}
+use Rattle.history.specs.Words.{store, IsAccepted, request}
 use Rattle.history.specs.Members.{marks, commits}
-use Rattle.history.specs.Rule.{Slot, IsElsewhere}
-use Rattle.history.specs.Plays.{Learns, with_rows, looked, gave_log, put_by, gave_back, posted, held, request_at}
-use Rattle.history.specs.Plays.{without_at, grabbed, served, served_as, collected, with_writer, without_writer}
+use Rattle.history.specs.Rule.{Slot}
+use Rattle.history.specs.Plays.{Learns, with_rows, looked, gave_log, put_by, gave_back, posted, request_at}
+use Rattle.history.specs.Plays.{without_at, grabbed, served, served_as, with_writer, without_writer}
 use Rattle.history.specs.Seats.{Place, Adds}
-use Rattle.history.specs.Tokens.{TokenRecord, IsClient, IsDispatcher, IsSound, Saw, Took, MayPut, Put, Grabs, Collected}
+use Rattle.history.specs.Tokens.{TokenRecord, IsClient, IsDispatcher, IsSound, Saw, Took, MayPut, Put, Grabs}
 use Rattle.history.specs.Tokens as public
 use Rattle.history.specs.TokenParts.{shown_token, token_of_view, hands, own_box, grabbed_boxes, boxes, IsSeated}
 use Rattle.history.proofs.MemberLaws.{who_back, who_behind, owns_more}
@@ -39,13 +38,6 @@ module _ {W : Type 0} where
   boxes_behind : (v : View) (place : ℕ) → v.terms.clients ≤ place → boxes {W = W} v place ≡ grabbed_boxes v.grabbed
   boxes_behind v place far = let high : nat_lt place v.terms.clients ≡ false = grind (arith, nat_tests) in rw high refl
 
-  -- the slots of a client that has asked something, and of one that has not
-  pub asking_carries : (p : Token W) (asked : PostedRequest) → IsSeated p → p.place < p.seat.me.0.terms.clients
-      → p.seat.me.0.asked ≡ Some asked → p.seat.me.1 ≡ hands 0 p.seat.me.0.holds_rows []
-  asking_carries p asked is near has = let v : View = p.seat.me.0 in
-      is.carried ∙ ((λ i. hands 0 v.holds_rows (hands 1 ((is.in_hand.0 near).2 i) (boxes v p.place)))
-      ∙ ap (hands 0 v.holds_rows) (boxes_client v p.place near ∙ ap (own_box p.place) has))
-
   quiet_carries : (p : Token W) → IsSeated p → p.place < p.seat.me.0.terms.clients → p.seat.me.0.asked ≡ None
       → p.seat.me.1 ≡ hands 0 p.seat.me.0.holds_rows ((2 + p.place, None) ∷ [])
   quiet_carries p is near has = let v : View = p.seat.me.0 in
@@ -55,10 +47,6 @@ module _ {W : Type 0} where
   turned_hands : (b : Bool) (x : ℕ × Slot W) → turned (hands 0 b (x ∷ [])) ≡ x ∷ hands 0 b []
   turned_hands true x = refl
   turned_hands false x = refl
-
-  turned_back : (b : Bool) (x : ℕ × Slot W) → turned (x ∷ hands 0 b []) ≡ hands 0 b (x ∷ [])
-  turned_back true x = refl
-  turned_back false x = refl
 
   -- a turn brings a client's mailbox to the front
   pub box_in_front : (p : Token W) → IsSeated p → p.place < p.seat.me.0.terms.clients → p.seat.me.0.asked ≡ None
@@ -99,27 +87,6 @@ module _ {W : Type 0} where
       → after.table_id ≡ p.seat.table_id → after.me ≡ (v, carried)
       → shown_token (passed p hand after seen_len) ≡ token_of_view p.seat.table_id v
   token_is p hand after seen_len v carried table now = λ i. token_of_view (table i) (now i).0
-
-  pub same_seated : (p : Token W) (after : Place W) → IsSeated p → after.me ≡ (p.seat.me.0, p.seat.me.1)
-      → IsSeated (passed p p.hand after p.seen_len)
-  same_seated p after is now = by_view p p.hand after p.seen_len p.seat.me.0 p.seat.me.1 now record {
-    role = is.role;
-    who = is.who;
-    member = is.member;
-    seen_len = is.seen_len;
-    hand = is.hand;
-    carried = is.carried;
-    in_hand = is.in_hand;
-    few = is.few;
-    near = is.near;
-    apart = is.apart;
-    gathered = is.gathered;
-    sound = record { legal = is.sound.legal; named = is.sound.named; owns = is.sound.owns };
-  }
-
-  pub same_token : (p : Token W) (after : Place W) → after.table_id ≡ p.seat.table_id
-      → after.me ≡ (p.seat.me.0, p.seat.me.1) → shown_token (passed p p.hand after p.seen_len) ≡ shown_token p
-  same_token p after table now = token_is p p.hand after p.seen_len p.seat.me.0 p.seat.me.1 table now
 
   pub took_seated : (p : Token W) (after : Place W) (history : List CommitRecord) (seen_len : ℕ) → IsSeated p
       → p.seat.me.0.holds_rows ≡ false → seen_len ≡ length history → Learns p.seat.me.0 history
@@ -207,30 +174,6 @@ module _ {W : Type 0} where
       token_is p p.hand after p.seen_len (posted p.seat.me.0 (request questions p.seen_len)) carried table now
       ∙ ap (λ n. token_of_view p.seat.table_id (posted p.seat.me.0 (request questions n))) is.seen_len
 
-  pub grabbed_seated : (p : Token W) (hand : ArrayVec ℕ) (after : Place W) (client : ℕ) (asked : PostedRequest) → IsSeated p
-      → p.seat.me.0.terms.clients ≤ p.place → p.seat.me.0.holds_rows ≡ false → p.seat.me.0.holds_writer ≡ false
-      → client < p.seat.me.0.terms.clients
-      → hand.items ≡ client ∷ p.hand.items → IsElsewhere client p.seat.me.0.grabbed
-      → after.me ≡ (grabbed p.seat.me.0 client asked, (2 + client, None) ∷ p.seat.me.1)
-      → IsSeated (passed p hand after p.seen_len)
-  grabbed_seated p hand after client asked is far free free' near more elsewhere now = let v : View = p.seat.me.0 in
-      by_view p hand after p.seen_len (grabbed v client asked) ((2 + client, None) ∷ p.seat.me.1) now record {
-        role = is.role;
-        who = is.who;
-        member = is.member;
-        seen_len = is.seen_len;
-        hand = more ∙ ap (λ places. client ∷ places) is.hand;
-        carried = ap (λ cs. (2 + client, None) ∷ cs) (dispatcher_carries p is far free free')
-            ∙ sym ((λ i. hands 0 (free i) (hands 1 (free' i) (boxes (grabbed v client asked) p.place)))
-            ∙ boxes_behind (grabbed v client asked) p.place far);
-        in_hand = ((λ low. absurd (omega arith)), is.in_hand.1);
-        few = is.few;
-        near = All-cons (λ (h : Held). h.place < v.terms.clients) (held client asked) v.grabbed near is.near;
-        apart = (elsewhere, is.apart);
-        gathered = is.gathered;
-        sound = record { legal = is.sound.legal; named = is.sound.named; owns = is.sound.owns };
-      }
-
   pub grabbed_token : (p : Token W) (hand : ArrayVec ℕ) (after : Place W) (place client : ℕ) (asked : PostedRequest)
       (carried : List (ℕ × Slot W)) → place + 1 ≡ client → after.table_id ≡ p.seat.table_id
       → after.me ≡ (grabbed p.seat.me.0 place asked, carried)
@@ -265,41 +208,6 @@ module _ {W : Type 0} where
         gathered = is.gathered;
         sound = record { legal = is.sound.legal; named = is.sound.named; owns = is.sound.owns };
       }
-
-  pub collected_seated : (p : Token W) (after : Place W) (history : List CommitRecord) (reply : Response) (asked : PostedRequest)
-      → IsSeated p → p.place < p.seat.me.0.terms.clients → p.seat.me.0.asked ≡ Some asked
-      → after.me ≡ (collected p.seat.me.0 history reply, turned ((2 + p.place, None) ∷ p.seat.me.1))
-      → IsSeated (passed p p.hand after p.seen_len)
-  collected_seated p after history reply asked is near has now = let v : View = p.seat.me.0 in
-      by_view p p.hand after p.seen_len (collected v history reply) (turned ((2 + p.place, None) ∷ p.seat.me.1)) now
-      record {
-        role = is.role;
-        who = is.who;
-        member = is.member;
-        seen_len = is.seen_len;
-        hand = is.hand;
-        carried = ap (λ cs. turned ((2 + p.place, None) ∷ cs)) (asking_carries p asked is near has)
-            ∙ (turned_back v.holds_rows (2 + p.place, None)
-            ∙ sym ((λ i. hands 0 v.holds_rows (hands 1 ((is.in_hand.0 near).2 i)
-            (boxes (collected v history reply) p.place)))
-            ∙ ap (hands 0 v.holds_rows) (boxes_client (collected v history reply) p.place near)));
-        in_hand = (is.in_hand.0, λ far. absurd (omega arith));
-        few = is.few;
-        near = is.near;
-        apart = is.apart;
-        gathered = is.gathered;
-        sound = record { legal = is.sound.legal; named = is.sound.named; owns = is.sound.owns };
-      }
-
-  pub collected_token : (p : Token W) (after : Place W) (history : List CommitRecord) (reply : Response) (asked : PostedRequest)
-      (carried : List (ℕ × Slot W)) → p.seat.me.0.asked ≡ Some asked
-      → IsRight p.seat.me.0.terms.base history asked reply → after.table_id ≡ p.seat.table_id
-      → after.me ≡ (collected p.seat.me.0 history reply, carried)
-      → Collected (shown_token p) reply (shown_token (passed p p.hand after p.seen_len))
-  collected_token p after history reply asked carried was right table now =
-      subst (Collected (shown_token p) reply) (sym (token_is p p.hand after p.seen_len (collected p.seat.me.0 history reply)
-      carried table now))
-      record { asked = asked; was = was; history = history; right = right; now = refl }
 
   pub writer_taken_seated : (p : Token W) (after : Place W) (list : List CommitRecord) → IsSeated p
       → p.seat.me.0.terms.clients ≤ p.place → p.seat.me.0.holds_rows ≡ false → p.seat.me.0.holds_writer ≡ false
@@ -444,9 +352,3 @@ module _ {W : Type 0} where
       let long = ap length more.3 ∙ length-append p.seat.me.0.member.seen (more.0 ∷ []) in let was = is.seen_len in
       absurd (omega arith))
       may.1
-
--- what both cases of an answer or none lead to
-pub of_match : {A : Type 0} {P R : Type 0} {Q : A → Type 0} (o : Option A) → MatchOption o P Q → (P → R)
-    → ((x : A) → Q x → R) → R
-of_match None p f g = f p
-of_match (Some x) q f g = g x q

@@ -400,13 +400,6 @@ in_front x xs carried e = e ∙ ap (λ cs. x ∷ rest cs) (sym e)
 pub same_front : {A : Type 0} (k : ℕ) (a b : A) (xs ys : List (ℕ × A)) → (k, a) ∷ xs ≡ (k, b) ∷ ys → a ≡ b
 same_front {A} k a b xs ys e = grind arith
 
-pub replicate_more : {A : Type 0} (n : ℕ) (a : A) → replicate n a ++ a ∷ [] ≡ replicate (n + 1) a
-replicate_more {A} n a = go n ∙ (let e : suc n ≡ n + 1 = omega arith in ap (λ k. replicate k a) e)
-  where
-    go : (k : ℕ) → replicate k a ++ a ∷ [] ≡ replicate (suc k) a
-    go zero = refl
-    go (suc k) = ap (λ l. a ∷ l) (go k)
-
 pub zero_words : (n i z : ℕ) → get_or (replicate n z) i z ≡ z
 zero_words zero i z = refl
 zero_words (suc n) zero z = refl

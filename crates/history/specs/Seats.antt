@@ -42,9 +42,6 @@ module _ {W : Type 0} where
   abbrev pub IsToken : Place W → Type 0
   IsToken seat = (place : ℕ) × (seat.me.0.role ≡ Token place)
 
-  abbrev pub IsTokenAt : Place W → ℕ → Type 0
-  IsTokenAt seat place = seat.me.0.role ≡ Token place
-
   -- the seat of a client's token, or of a dispatcher's
   abbrev pub IsClientAt : Place W → ℕ → Type 0
   IsClientAt seat place = (seat.me.0.role ≡ Token place) × (place < seat.me.0.terms.clients)

@@ -39,18 +39,6 @@ module _ (w : World) where
       go None at e = absurd (cc e)
       go (Some c) at e = box c at c.mailbox e
 
-  pub posts_not : (client : ℕ) (questions : Questions) (o : Option ClientState) → None ≡ floor_of o
-      → posting w client questions (mailbox_of o) ≡ (w, NotEnabled)
-  posts_not client questions None e = refl
-  posts_not client questions (Some c) e = box c.mailbox e
-    where
-      box : (m : Mailbox) → None ≡ floor_at (length c.seen) m → posting w client questions (Some m) ≡ (w, NotEnabled)
-      box empty e = absurd (cc e)
-      box (asked q f) e = refl
-      box (in_hand d q f) e = refl
-      box (answered q a r) e = refl
-      box (unserved q u) e = refl
-
   pub collects : (client : ℕ)
       → collecting w client (mailbox_of (numbered w.clients client)) ≡ (
         with_client w client (λ c. record c { mailbox = left_in c.mailbox }),

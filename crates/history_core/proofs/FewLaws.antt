@@ -1,5 +1,5 @@
 -- The lines after a beginning of a legal history are few enough to be summed.
-use Rattle.std.proofs.Common.{◌≡◌, ℕ, ◌≤◌, List, length, take, ap, ◌∙◌, arith}
+use Rattle.std.proofs.Common.{◌≡◌, ℕ, ◌≤◌, List, length, take, ◌∙◌, arith}
 use Rattle.ssb_schema.specs.declared.line.LineFields.{LineFields}
 use Rattle.ssb_base.specs.Base.{Tables, IsSound}
 use Rattle.row_store.specs.History.{CommitRecord, Warehouse, lines_after}

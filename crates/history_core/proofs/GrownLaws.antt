@@ -1,6 +1,6 @@
 -- The world that the fields show when the row store has one commit more.
 use Rattle.std.proofs.Common.{◌≡◌, ◌≢◌, ℕ, zero, suc, ◌+◌, ◌≤◌, List, [], ◌∷◌, ◌++◌, length, Vec, Global}
-use Rattle.std.proofs.Common.{Option, Some, None, refl, ap, sym, subst, ◌∙◌, arith, length-append}
+use Rattle.std.proofs.Common.{Option, Some, None, refl, ap, sym, ◌∙◌, arith, length-append}
 use Rattle.std.proofs.lemmas.List.{take-append-le}
 use Rattle.std.specs.Prelude.{map, slice_get}
 use Rattle.ssb_schema.specs.declared.refresh.Action.{Action}
@@ -11,9 +11,9 @@ use Rattle.history_core.specs.declared.dispatcher.WorldDispatcher.{WorldDispatch
 use Rattle.history_core.specs.declared.event.EventReply.TheVariants.{Committed}
 use Rattle.history_core.specs.declared.world.World.TheInside.{Inside}
 use Rattle.history_core.specs.Numbered.{revised, numbered, renewed}
-use Rattle.history_core.specs.World.{World, commit_by}
+use Rattle.history_core.specs.World.{commit_by}
 use Rattle.history_core.specs.View.{client_in, dispatcher_in, world_in, IsWithin, ClientsFit, DispatchersFit, IsWorld}
-use Rattle.history_core.specs.Applying.{applying, applied}
+use Rattle.history_core.specs.Applying.{applied}
 use Rattle.history_core.proofs.HistoryLaws.{own_push, others_push}
 
 module _ {A B : Type 0} (now before : A → B) where

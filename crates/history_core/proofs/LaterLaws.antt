@@ -1,14 +1,14 @@
 -- What an observer may conclude from a true run: a client's answers never go back.
 use Rattle.std.proofs.Common.{◌≡◌, ℕ, zero, suc, ◌<◌, ◌≤◌, Bool, true, false, List, []}
-use Rattle.std.proofs.Common.{◌∷◌, length, take, refl, ap, sym, subst, ◌∙◌, arith, zero-le}
+use Rattle.std.proofs.Common.{◌∷◌, length, take, refl, subst, ◌∙◌, arith, zero-le}
 use Rattle.std.proofs.lemmas.Bool.Decides.{nat_tests}
-use Rattle.std.specs.Prelude.{filter, nat_lt, slice_get}
+use Rattle.std.specs.Prelude.{filter}
 use Rattle.ssb_base.specs.Base.{Tables}
 use Rattle.ssb_answers.specs.declared.answer.ResultRow.{ResultRow}
 use Rattle.row_store.specs.History.{CommitRecord}
 use Rattle.history_core.specs.declared.event.EventReply.{EventReply}
 use Rattle.history_core.specs.declared.event.EventReply.TheVariants.{Rows}
-use Rattle.history_core.specs.Events.{Questions, Event, Grab, Collect}
+use Rattle.history_core.specs.Events.{Questions, Event, Collect}
 use Rattle.history_core.specs.TrueRun.{Happens, is_committed, Outstanding, IsTrueRun}
 use Rattle.history_core.proofs.HistoryLaws.{some_injective}
 

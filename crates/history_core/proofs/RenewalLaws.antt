@@ -1,11 +1,11 @@
 -- Lists with the element of one number changed.
 use Rattle.std.proofs.Common.{◌≡◌, ℕ, zero, suc, ◌<◌, ◌≤◌, Bool, true, false, List, [], ◌∷◌}
-use Rattle.std.proofs.Common.{◌++◌, length, Some, None, refl, ap, sym, subst, ◌∙◌, ⊎_elim, arith}
+use Rattle.std.proofs.Common.{◌++◌, length, Some, None, refl, ap, sym, ◌∙◌, ⊎_elim, arith}
 use Rattle.std.specs.Prelude.{map, slice_get, slice_set, slice_index_or, nat_lt}
 use Rattle.std.specs.Option.{option_map}
 use Rattle.history_core.specs.Numbered.{revised, numbered, renewed, place_within}
 use Rattle.std.proofs.lemmas.Bool.Decides.{nat_tests}
-use Rattle.history_core.proofs.HistoryLaws.{some_injective, at_end}
+use Rattle.history_core.proofs.HistoryLaws.{some_injective}
 
 module _ {A : Type 0} where
   pub revised_at : (l : List A) (place : ℕ) (f : A → A) (d : A)
@@ -93,15 +93,6 @@ module _ {A : Type 0} where
       go true e = let t : None ≡ Some first = is ∙ rw e refl in absurd (cc t)
       go false e = let long : length l ≤ first = let h : count ≤ first =
           grind (arith, nat_tests) in omega arith in get_past l first long
-
-  -- one element more
-  pub each_pushed : (P : ℕ → A → Type 0) (l : List A) (x : A)
-      → ((place : ℕ) (y : A) → slice_get l place ≡ Some y → P place y) → P (length l) x → (place : ℕ) (y : A)
-      → slice_get (l ++ x ∷ []) place ≡ Some y → P place y
-  each_pushed P l x all last place y at =
-      ⊎_elim (λ (t : (place < length l) × (slice_get l place ≡ Some y)). all place y t.1)
-      (λ (t : (place ≡ length l) × (x ≡ y)). subst (λ (p : ℕ × A). P p.0 p.1) (λ i. (sym t.0 i, t.1 i)) last)
-      (at_end l x y place at)
 
   -- no element has the number, or it is as it should be already
   pub renewed_missing : (l : List A) (number : ℕ) (f : A → A) → numbered l number ≡ None → renewed l number f ≡ l

@@ -256,6 +256,3 @@ taken file group len some is =
 
 pub none_taken : (file : List ℕ) → None ≡ whole_length file → recovered file ≡ []
 none_taken file none = recovered-none file (none_whole file none)
-
-pub taken_long : (file : List ℕ) (len : ℕ) → Some len ≡ whole_length file → 18 + len ≤ length file
-taken_long file len some = let w = some_whole file len some in omega (arith, (whole_parts file w.0).long, w.1)

@@ -1,11 +1,10 @@
 -- What is known of a board while it is read.
 use Rattle.std.proofs.Common.{◌≡◌, ◌∙◌, ◌⊎◌, ◌≤◌, ◌<◌, ◌+◌, ◌++◌, ◌∷◌, ℕ, [], List, Option, Some, length, map, drop}
-use Rattle.std.proofs.Common.{append_assoc, append-nil, Bor, true, false, refl, sym, ap, arith, subst, inl}
+use Rattle.std.proofs.Common.{append_assoc, append-nil, Bor, true, false, refl, sym, ap, arith, inl}
 use Rattle.std.proofs.lemmas.List.{length_push, length-drop, map-append, drop_more, nil_from_length}
 use Rattle.csv.specs.declared.reader.Reader.{Reader}
-use Rattle.query_command.specs.Asked.{AskNothing}
-use Rattle.query_command.specs.Board.{AreLines, IsBoard, IsBoardFault, IsLine, IsLineFault, IsQuestionFault, IsRefusal}
-use Rattle.query_command.specs.Board.{fault_of_read, most_reports, words_of}
+use Rattle.query_command.specs.Board.{AreLines, IsBoard, IsBoardFault, IsLine, IsLineFault, IsRefusal}
+use Rattle.query_command.specs.Board.{most_reports}
 use Rattle.query_command.specs.declared.board.BoardFault.{BoardFault}
 use Rattle.query_command.specs.declared.board.BoardFault.TheVariants as board
 use Rattle.query_command.specs.declared.board.BoardLineFault.{BoardLineFault}
@@ -14,7 +13,6 @@ use Rattle.ssb_questions.specs.declared.query.Query.{Query}
 use Rattle.ssb_questions.specs.declared.value.Value.{Value}
 use Rattle.ssb_text.specs.Records.{GivesNext, HasGiven, HasRecords}
 use Rattle.ssb_text.specs.Spelling.{field, without_spaces}
-use Rattle.ssb_text.specs.declared.records.ReadError.{ReadError}
 use Rattle.ssb_text.specs.declared.records.ReadError.TheVariants as read
 
 -- a line more
@@ -103,19 +101,6 @@ first_bad remaining text old new count titles questions fields why so_far next f
       fault = rw so_far.many fault;
     }
 
--- the fault of the question on a line is one of the line
-pub question_refused : (fields : List (List ℕ)) (name : List ℕ) (words : List (List ℕ)) (number : ℕ)
-    (fault : BoardFault) → name ≡ field fields 1 → words ≡ words_of fields
-    → IsRefusal (IsQuestionFault name words) number fault → IsRefusal (IsLineFault fields) number fault
-question_refused fields name words number (board.Line n (line.NoSuchQuery why)) named given refused = grind arith
-question_refused fields name words number (board.Line n (line.Constants why)) named given refused = grind arith
-question_refused fields name words number (board.Line n line.NoTitle) named given refused = grind arith
-question_refused fields name words number (board.Line n line.NotUtf8) named given refused = grind arith
-question_refused fields name words number (board.Line n line.TooManyReports) named given refused = grind arith
-question_refused fields name words number (board.NoReports why) named given refused = grind arith
-question_refused fields name words number board.Read named given refused = grind arith
-question_refused fields name words number board.OutOfMemory named given refused = grind arith
-
 -- a word more
 pub words_more : (fields : List (List ℕ)) (place : ℕ) (old new : List (Bor (List ℕ))) (word : Bor (List ℕ))
     (all : List (List ℕ)) → place < length fields → new ≡ old ++ word ∷ [] → word.now ≡ field fields place
@@ -144,8 +129,3 @@ refused_line remaining text old new count titles questions fields (board.NoRepor
     absurd refused
 refused_line remaining text old new count titles questions fields board.Read so_far next refused = absurd refused
 refused_line remaining text old new count titles questions fields board.OutOfMemory so_far next refused = tt
-
--- what an error of the reader tells
-pub read_fault : (text : List ℕ) (why : ReadError) → IsBoardFault text (fault_of_read why)
-read_fault text read.Read = tt
-read_fault text read.OutOfMemory = tt

@@ -1,7 +1,6 @@
 -- A commit's action on lines, told apart: the earlier lines that stay, and what comes behind them.
-use Rattle.std.proofs.Common.{◌≡◌, ℕ, Bool, true, false, cond, not, ◌||◌, eqb, List, [], ◌∷◌, ◌++◌, sym, refl, ap, ◌∙◌}
+use Rattle.std.proofs.Common.{◌≡◌, ℕ, not, ◌||◌, eqb, List, [], ◌∷◌, ◌++◌, sym, refl, ap, ◌∙◌}
 use Rattle.std.proofs.Common.{arith, flat_map, append_assoc, append-nil}
-use Rattle.std.specs.List.{list_any}
 use Rattle.std.proofs.lemmas.Bool.Decides.{nat_tests}
 use Rattle.std.proofs.lemmas.List.Elements.{filter-append}
 use Rattle.ssb_schema.specs.declared.line.LineFields.{LineFields}
@@ -13,10 +12,6 @@ use Rattle.row_store.specs.Absorbing.{gone_by, lines_without_all}
 
 flip : (a b : ℕ) → eqb a b ≡ eqb b a
 flip a b = grind (arith, nat_tests)
-
--- whether the line is of one of these orders
-abbrev is_of_any : List ℕ → LineFields → Bool
-is_of_any keys line = list_any (λ key. eqb key line.order_key) keys
 
 without_none : (lines : List LineFields) → lines_without_all [] lines ≡ lines
 without_none [] = refl

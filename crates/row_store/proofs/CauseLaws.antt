@@ -1,6 +1,6 @@
 -- When an action is refused, and the first refusal of the rest of a refresh.
 use Rattle.std.proofs.Common.{◌≡◌, ℕ, ◌+◌, ◌<◌, ◌≤◌, Bool, true, false, ltb, List, [], ◌∷◌, ◌++◌, length, Result, Ok}
-use Rattle.std.proofs.Common.{Err, MatchResult, take, drop, get_or, Option, Some, None, sym, refl, ap, ◌∙◌, arith, suc}
+use Rattle.std.proofs.Common.{Err, MatchResult, take, drop, get_or, Option, Some, None, sym, refl, ap, ◌∙◌, arith}
 use Rattle.std.proofs.Common.{add-one, length-append}
 use Rattle.std.proofs.Math.Seq.{drop-cons}
 use Rattle.std.specs.Option.{option_or, option_map}

@@ -1,5 +1,5 @@
 -- How often each fact counts: after one fact more, after a list of facts, and without an order.
-use Rattle.std.proofs.Common.{◌≡◌, ℕ, zero, suc, ◌+◌, ◌<◌, Bool, true, false, cond, not, eqb, List, [], ◌∷◌, fold}
+use Rattle.std.proofs.Common.{◌≡◌, ℕ, zero, suc, ◌+◌, ◌<◌, Bool, true, false, cond, eqb, List, [], ◌∷◌, fold}
 use Rattle.std.proofs.Common.{unwrap_or, Option, Some, None, sym, refl, ap, ◌∙◌, arith}
 use Rattle.std.specs.List.{count_by}
 use Rattle.std.specs.Ordering.{is_eq}

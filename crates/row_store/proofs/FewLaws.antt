@@ -1,21 +1,19 @@
 -- A legal history has no more commits than the limit, and leaves no more lines than the limit.
-use Rattle.std.proofs.Common.{◌≡◌, ℕ, zero, suc, ◌+◌, ◌<◌, ◌≤◌, Bool, true, false, List, [], ◌∷◌, ◌++◌, length, take}
+use Rattle.std.proofs.Common.{◌≡◌, ℕ, zero, suc, ◌+◌, ◌<◌, ◌≤◌, List, [], ◌∷◌, ◌++◌, length, take}
 use Rattle.std.proofs.Common.{Option, Some, None, refl, ap, sym, subst, ◌∙◌, arith, zero-le, length-append}
 use Rattle.std.proofs.lemmas.Bool.Decides.{nat_tests}
 use Rattle.std.proofs.lemmas.List.{take_all}
-use Rattle.std.specs.Prelude.{nat_lt, nat_le, if◌then◌else◌, slice_get}
+use Rattle.std.specs.Prelude.{if◌then◌else◌, slice_get}
 use Rattle.std.specs.Option.{option_or, option_map}
 use Rattle.ssb_schema.specs.declared.line.LineFields.{LineFields}
 use Rattle.ssb_schema.specs.declared.refresh.Action.{Action}
 use Rattle.ssb_schema.specs.declared.refresh.Action.TheVariants.{Add, Amend, Withdraw}
 use Rattle.ssb_base.specs.Base.{Tables}
-use Rattle.ssb_schema.specs.Orders.{order_key}
 use Rattle.row_store.specs.History.{CommitRecord, lines_after}
-use Rattle.row_store.specs.Lines.{is_present, lines_without, lines_after_action, lines_after_refresh}
-use Rattle.row_store.specs.Refusals.{unknown_key, lines_full, order_cause, cause_of, first_refusal, refusal_of}
+use Rattle.row_store.specs.Lines.{lines_after_action, lines_after_refresh}
+use Rattle.row_store.specs.Refusals.{order_cause, cause_of, first_refusal, refusal_of}
 use Rattle.row_store.specs.Legal.{IsLegal}
 use Rattle.row_store.specs.Laws.{LegalHistoriesAreFew}
-use Rattle.row_store.specs.declared.refusal.Cause.TheVariants.{LogFull, Present, LinesFull, AmendAbsent}
 use Rattle.row_store.proofs.CountedLaws.{length_kept}
 use Rattle.row_store.proofs.StateLaws.{lines_after-push}
 

@@ -1,6 +1,6 @@
 use Rattle.std.proofs.Common.{arith}
 -- What replies to refreshes tell.
-use Rattle.std.proofs.Common.{◌≡◌, inl, inr, List, length, Option, Some, None, Result, refl}
+use Rattle.std.proofs.Common.{◌≡◌, List, length, Option, Some, None, Result, refl}
 use Rattle.ssb_schema.specs.declared.refresh.Action.{Action}
 use Rattle.ssb_base.specs.Base.{Tables}
 use Rattle.row_store.specs.History.{CommitRecord}

@@ -27,7 +27,6 @@ use Rattle.history.proofs.HistoryLaws.{prefix_trans}
 use Rattle.ssb_script.specs.Requests.{RequestRecord, Refresh, Ask, Abort, questions_in}
 use Rattle.ssb_report.specs.Replies.{Reply, Refreshed, Answered, Aborted}
 use Rattle.ssb_audit.specs.declared.trace.Told.{Told}
-use Rattle.ssb_audit.specs.Traces.{rows_after}
 use Rattle.ssb_audit.specs.Legal.{IsTrueOf, NeverGoBack}
 use Rattle.ssb_clients.specs.Clients as client
 use Rattle.stream_sessions.specs.Served.{IsAnswered, IsServed, AreServed, told_by, told_of}

@@ -1,6 +1,6 @@
 -- A group's sum over places, one place more at a time, and one list of places after another.
-use Rattle.std.proofs.Common.{◌≡◌, ℕ, ◌+◌, ◌%◌, ◌^◌, ◌<◌, ◌≢◌, Bool, true, false, cond, List, [], ◌∷◌, ◌++◌, length}
-use Rattle.std.proofs.Common.{get_or, eqb, arith, refl, ap, sym, ◌∙◌, subst, ◌⊎◌, inl, inr, eq-eqb, add-zero, zero-add}
+use Rattle.std.proofs.Common.{◌≡◌, ℕ, ◌+◌, ◌%◌, ◌^◌, ◌<◌, ◌≢◌, Bool, cond, List, [], ◌∷◌, ◌++◌, length}
+use Rattle.std.proofs.Common.{get_or, eqb, arith, refl, ap, sym, ◌∙◌, subst, ◌⊎◌, eq-eqb, add-zero, zero-add}
 use Rattle.std.proofs.Common.{take, map}
 use Rattle.std.proofs.Math.Nat.{mod-mod, mod-add-mod, add-mod-mod}
 use Rattle.std.proofs.lemmas.Bool.Decides.{eqb_tells}

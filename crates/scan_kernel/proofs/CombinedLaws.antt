@@ -1,12 +1,11 @@
 use Rattle.std.proofs.Common.{arith}
 -- Over a sound base each line that names rows makes one combination.
-use Rattle.std.proofs.Common.{ℕ, ◌≡◌, List, [], ◌∷◌, ◌++◌, map, Bool, true, false, cond, refl, ap, ◌∙◌}
+use Rattle.std.proofs.Common.{ℕ, ◌≡◌, List, [], ◌∷◌, ◌++◌, map, Bool, true, false, refl, ap, ◌∙◌}
 use Rattle.std.specs.Prelude.{nat_eq, filter, unwrap_or}
 use Rattle.std.specs.List.{AllByRecursion}
 use Rattle.std.specs.Option.{option_to_list}
 use Rattle.std.proofs.lemmas.Option.{unwrap_or-slice_get}
-use Rattle.ssb_base.specs.Base.{Dimensions, Tables, IsSound, IsKnown, has_key, has_key_of, row_with, customer_key}
-use Rattle.ssb_base.specs.Base.{supplier_key, part_key, date_key}
+use Rattle.ssb_base.specs.Base.{Dimensions, Tables, IsSound, IsKnown, has_key, has_key_of, row_with}
 use Rattle.ssb_schema.specs.FirstFault.{AreDistinct}
 use Rattle.ssb_schema.specs.Facts.{fact_of, facts_of}
 use Rattle.ssb_schema.specs.declared.fact.Fact.{Fact}

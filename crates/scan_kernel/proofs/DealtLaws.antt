@@ -20,9 +20,6 @@ room_kept lists = record { all = refl; room = λ k list h. refl }
 pub room_both : (a b c : Lists) → KeepRoom a b → KeepRoom b c → KeepRoom a c
 room_both a b c first then = grind arith
 
-pub lists_kept : (count : ℕ) (old new : Lists) → KeepRoom old new → AreListsFor count old → AreListsFor count new
-lists_kept count old new kept are = grind arith
-
 pub lists_fewer : (count few : ℕ) (lists : Lists) → few ≤ count → AreListsFor count lists → AreListsFor few lists
 lists_fewer count few lists fewer are = grind arith
 
@@ -182,10 +179,3 @@ pub few_more : (place m n : ℕ) (old new : Lists) → GivesPlace place m old ne
     → ((k : ℕ) (list : Vec ℕ Global) → k < 16 → len_of old k list ≤ n)
     → (k : ℕ) (list : Vec ℕ Global) → k < 16 → len_of new k list ≤ n + 1
 few_more place m n old new gives few k list h = grind (arith, bit_tells, length-append)
-
--- there is room for one place more
-pub room_left : (count n : ℕ) (first lists : Lists) → AreListsFor count first → KeepRoom first lists → n < count
-    → ((k : ℕ) (list : Vec ℕ Global) → k < 16 → len_of lists k list ≤ n)
-    → (k : ℕ) (list : Vec ℕ Global) → k < 16 → len_of lists k list < room_of lists k list
-room_left count n first lists are kept below few k list h =
-    omega (arith, below, few k list h, are.room k list h, kept.room k list h)

@@ -10,7 +10,7 @@ use Rattle.ssb_questions.specs.declared.value.Value.TheVariants.{Number}
 use Rattle.std.proofs.lemmas.Option.{slice_get_within, get_or_from_slice_get}
 use Rattle.ssb_schema.specs.declared.column.Column.{Column}
 use Rattle.ssb_answers.specs.Combination.{Combination, value_at}
-use Rattle.scan_kernel.specs.Groups.{ListValues, code_in, group_codes, CodesNumberGroups, size_of, number_of}
+use Rattle.scan_kernel.specs.Groups.{ListValues, group_codes, CodesNumberGroups, size_of, number_of}
 use Rattle.scan_kernel.specs.Groups.{sum_of_parts, codes_of, AreCodes, NumbersAreCodes, values_of, counts_of}
 use Rattle.scan_kernel.specs.Groups.{group_values, AreApart}
 

@@ -1,5 +1,5 @@
 -- Counts and sums of combinations are those of their lines.
-use Rattle.std.proofs.Common.{ℕ, ◌≡◌, ◌+◌, ◌&&◌, List, [], ◌∷◌, length, map, Bool, true, false, cond, sym, refl, ap}
+use Rattle.std.proofs.Common.{ℕ, ◌≡◌, ◌+◌, ◌&&◌, List, [], ◌∷◌, length, map, Bool, sym, refl, ap}
 use Rattle.std.proofs.Common.{◌∙◌, subst, arith}
 use Rattle.std.specs.Prelude.{ℤ, pos, ◌+ℤ◌, ◌-ℤ◌, nat_eq, filter}
 use Rattle.std.specs.List.{fold, AllByRecursion, sum_by}

@@ -1,6 +1,6 @@
 use Rattle.std.proofs.Common.{arith}
 -- Counts and sums over the lines, by group number, are dense totals.
-use Rattle.std.proofs.Common.{ℕ, ◌≡◌, ◌<◌, List, length, sym, subst, ◌∙◌}
+use Rattle.std.proofs.Common.{ℕ, ◌≡◌, ◌<◌, List, length, subst, ◌∙◌}
 use Rattle.std.specs.Prelude.{ℤ}
 use Rattle.std.specs.List.{AllByRecursion}
 use Rattle.ssb_base.specs.Base.{Tables, IsSound, IsKnown}

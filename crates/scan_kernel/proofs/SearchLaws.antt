@@ -1,5 +1,5 @@
 -- Steps of the search, place by place.
-use Rattle.std.proofs.Common.{◌≡◌, ℕ, ◌+◌, ◌-◌, ◌<◌, ◌≤◌, Bool, true, false, cond, List, [], ◌∷◌, ◌++◌, length, take}
+use Rattle.std.proofs.Common.{◌≡◌, ℕ, ◌+◌, ◌-◌, ◌<◌, ◌≤◌, Bool, cond, List, [], ◌∷◌, ◌++◌, length, take}
 use Rattle.std.proofs.Common.{map, set, ltb, arith, refl}
 use Rattle.std.proofs.lemmas.List.{map-id, take_more_set, take-set, append-nil, map_push}
 use Rattle.std.proofs.lemmas.List.Elements.{filter-append}

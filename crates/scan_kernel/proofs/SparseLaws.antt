@@ -1,6 +1,6 @@
 -- The sums of the groups that lines have, one place more at a time.
-use Rattle.std.proofs.Common.{◌≡◌, ℕ, ◌+◌, ◌%◌, ◌^◌, ◌<◌, ◌≢◌, Bool, true, false, cond, List, [], ◌∷◌, ◌++◌, eqb, refl}
-use Rattle.std.proofs.Common.{ap, sym, ◌∙◌, subst, ◌⊎◌, inl, inr, add-zero, zero-add, Some, None, arith}
+use Rattle.std.proofs.Common.{◌≡◌, ℕ, ◌+◌, ◌%◌, ◌^◌, ◌<◌, ◌≢◌, true, false, List, [], ◌∷◌, ◌++◌, eqb, refl}
+use Rattle.std.proofs.Common.{ap, sym, ◌∙◌, subst, ◌⊎◌, inl, inr, add-zero, zero-add, Some, arith}
 use Rattle.std.specs.Prelude.{nat_eq, unwrap_or}
 use Rattle.std.specs.List.{filter, sum_by, range_with_len}
 use Rattle.std.proofs.Math.Nat.{mod-mod, mod-add-mod, mod-lt}
@@ -9,7 +9,7 @@ use Rattle.std.proofs.lemmas.List.{map-id, append-nil}
 use Rattle.std.proofs.lemmas.List.Elements.{filter-append}
 use Rattle.std.proofs.lemmas.List.Sums.{sum_by-cons}
 use Rattle.std.proofs.lemmas.List.FromFn.{map-range_with_len_more}
-use Rattle.indexmap.specs.IndexMap.{IndexMap, get, IsUnique}
+use Rattle.indexmap.specs.IndexMap.{IndexMap, get}
 use Rattle.ssb_questions.specs.declared.plan.Measure.{Measure}
 use Rattle.scan_kernel.specs.declared.columns.LineColumns.{LineColumns}
 use Rattle.scan_kernel.specs.declared.columns.GroupColumn.{GroupColumn}
@@ -54,22 +54,6 @@ sums_more : (amount group : ℕ → ℕ) (places : List ℕ) (x : ℕ) (was now 
 sums_more amount group places x was now h here others g = grind (arith, eqb_tells, sum_in-append, eqb, added_to, add-zero)
 
 module _ {S : Type 0} (lines : LineColumns) (measure : Measure) (columns : List GroupColumn) (size : ℕ) where
-  pub no_sums : (totals : IndexMap ℕ GroupSums S) → totals.entries ≡ [] → IsUnique nat_eq totals
-      → AreSparseTotals lines measure columns [] size totals
-  no_sums totals none unique = record {
-    counts_are = λ g. ap (λ (s : GroupSums). s.count % 2 ^ 64) (empty g);
-    gains_are = λ g. ap (λ (s : GroupSums). s.gain % 2 ^ 64) (empty g);
-    losses_are = λ g. ap (λ (s : GroupSums). s.loss % 2 ^ 64) (empty g);
-    below = λ g sums at. absurd (let no : None ≡ Some sums = sym (nowhere g) ∙ at in cc);
-    fits = λ g. subst Fit64 (sym (empty g)) (record { count = omega arith; gain = omega arith; loss = omega arith });
-    unique = unique;
-  } where
-    nowhere : (g : ℕ) → get nat_eq totals g ≡ None
-    nowhere g = rw none refl
-
-    empty : (g : ℕ) → sums_in totals g ≡ nothing
-    empty g = rw (nowhere g) refl
-
   pub line_added : (old new : IndexMap ℕ GroupSums S) (places : List ℕ) (x group gain loss : ℕ)
       → AreSparseTotals lines measure columns places size old → AddsLine old new group gain loss
       → group ≡ group_at columns x → gain ≡ gain_at lines measure x → loss ≡ loss_at lines measure x

@@ -1,6 +1,6 @@
 -- A loop that writes the elements of a list one after another.
-use Rattle.std.proofs.Common.{◌≡◌, ℕ, ◌+◌, ◌<◌, ◌≤◌, ◌≢◌, ◌⊎◌, inl, inr, true, false, List, length, get_or, set, eqb}
-use Rattle.std.proofs.Common.{arith, refl, sym, subst, ◌∙◌}
+use Rattle.std.proofs.Common.{◌≡◌, ℕ, ◌+◌, ◌<◌, ◌≤◌, ◌≢◌, ◌⊎◌, List, length, get_or, set, eqb}
+use Rattle.std.proofs.Common.{arith, ◌∙◌}
 use Rattle.std.proofs.lemmas.Bool.Decides.{eqb_tells}
 use Rattle.std.proofs.lemmas.List.{get_or-set_other, get_or_default}
 use Rattle.std.proofs.lemmas.Grind.{get_or-set_at}

@@ -1,21 +1,18 @@
 use Rattle.std.proofs.Common.{arith}
 -- An answer depends on rows through the columns that queries read alone.
-use Rattle.std.proofs.Common.{◌≡◌, ℕ, Bool, true, false, cond, List, [], ◌∷◌, map, refl, ap, ◌∙◌}
+use Rattle.std.proofs.Common.{◌≡◌, ℕ, Bool, List, [], ◌∷◌, map, refl, ap, ◌∙◌}
 use Rattle.std.specs.Prelude.{ℤ, pos, ◌+ℤ◌, ◌-ℤ◌, ◌*◌, ◌&&◌, Some}
 use Rattle.std.specs.List.{filter, fold}
-use Rattle.std.specs.Ordering.{is_eq}
 use Rattle.ssb_schema.specs.declared.column.Column.{Column}
 use Rattle.ssb_schema.specs.declared.table.Table.{Table}
 use Rattle.ssb_schema.specs.declared.table.Table.TheVariants as table
 use Rattle.ssb_questions.specs.declared.plan.Measure.{Measure}
 use Rattle.ssb_questions.specs.declared.plan.Measure.TheVariants.{PriceTimesDiscount, Revenue, Profit, Quantity, Lines}
 use Rattle.ssb_questions.specs.declared.plan.Plan.{Plan}
-use Rattle.ssb_questions.specs.declared.value.Value.{Value}
-use Rattle.ssb_answers.specs.RowValues.{customer_value, supplier_value, part_value, date_value, pass, is_within}
+use Rattle.ssb_answers.specs.RowValues.{customer_value, supplier_value, part_value, date_value}
 use Rattle.ssb_answers.specs.Combination.{Combination, value_in, passes}
-use Rattle.ssb_answers.specs.Answer.{groups_cmp, group_of, amount, sum_over, in_group, row_of, groups_among, row_cmp}
+use Rattle.ssb_answers.specs.Answer.{group_of, amount, sum_over, groups_among}
 use Rattle.ssb_answers.specs.Answer.{rows_over}
-use Rattle.ssb_answers.specs.Ordered.{in_order}
 
 -- the same numbers of the line, and rows with the same values in every column
 pub record Alike (c e : Combination) : Type 0 where

@@ -7,32 +7,19 @@ use Rattle.std.proofs.lemmas.Option.{slice_get-get_or}
 use Rattle.ssb_base.specs.Base.{Tables, IsSound}
 use Rattle.ssb_base.specs.Limits.{most_dimension_rows}
 use Rattle.ssb_schema.specs.declared.column.Column.{Column}
-use Rattle.ssb_schema.specs.declared.table.Table.{Table}
 use Rattle.ssb_schema.specs.declared.table.Table.TheVariants as table
 use Rattle.ssb_questions.specs.declared.query.Query.{Query}
 use Rattle.ssb_questions.specs.declared.query.Query.TheVariants.{Q1_1}
 use Rattle.ssb_questions.specs.declared.value.Value.{Value}
-use Rattle.ssb_answers.specs.RowValues.{customer_value, supplier_value, part_value, date_value}
-use Rattle.dimension_index.specs.Values.{values_of, values_at}
+use Rattle.dimension_index.specs.Values.{values_of}
 use Rattle.scan_kernel.specs.declared.masks.Masks.{Masks}
-use Rattle.shared_scan.specs.Prepared.{masks_in}
-use Rattle.shared_scan.specs.Masking.{CoverRows}
-use Rattle.shared_scan.specs.Numbering.{HasMasks}
-use Rattle.shared_scan.specs.Grouped.{HaveMasks}
 use Rattle.shared_scan.specs.Batch.{IsReady, AreReady, questions_of}
 use Rattle.shared_scan.specs.declared.ready.Ready.{Ready}
 use Rattle.shared_scan.proofs.EachLaws.{each_more, item_of}
 
--- no dimension has as many rows as there are numbers of 32 bits
-pub few_rows : (base : Tables) → IsSound base → (column : Column) → length (values_of base column) < 4294967295
-few_rows base sound column = grind (arith, length-map)
-
 -- no column of a dimension has more values than a dimension may have rows
 pub few_values : (base : Tables) → IsSound base → (column : Column) → length (values_of base column) ≤ most_dimension_rows
 few_values base sound column = grind (arith, length-map)
-
-pub have_masks : (base : Tables) (masks : Masks) → CoverRows base.dimensions masks → HaveMasks base masks
-have_masks base masks cover column p below = grind (arith, length-map)
 
 -- one question more
 pub ready_more : (base : Tables) (masks : Masks) (questions : List (Query × List Value)) (all : List Ready) (n : ℕ)

@@ -19,7 +19,7 @@ use Rattle.fact_columns.specs.declared.place.Place.{Place}
 use Rattle.fact_columns.specs.Places.{IsWithin, is_live, fact_at, live_facts}
 use Rattle.fact_columns.specs.Classed.{IsPlaceOf}
 use Rattle.fact_columns.specs.Columns.{AreColumnsOf}
-use Rattle.dimension_index.specs.Classes.{read_columns, classes_by, classes_of, extent_of, reduced}
+use Rattle.dimension_index.specs.Classes.{classes_by, classes_of, extent_of, reduced}
 use Rattle.dimension_index.proofs.AlikeLaws.{class_found, below_extent, same_customers, same_suppliers, same_parts}
 use Rattle.dimension_index.proofs.AlikeLaws.{same_dates}
 use Rattle.scan_kernel.proofs.FoundLaws.{all_mapped}

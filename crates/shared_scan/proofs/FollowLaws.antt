@@ -1,5 +1,5 @@
 -- Standing questions follow a line that comes, and one that goes.
-use Rattle.std.proofs.Common.{ℕ, ◌≡◌, Bool, true, false, List, length, get_or, refl, sym, ◌∙◌, subst, arith}
+use Rattle.std.proofs.Common.{ℕ, ◌≡◌, Bool, true, false, List, length, get_or, refl, ◌∙◌, arith}
 use Rattle.ssb_base.specs.Base.{Tables}
 use Rattle.dimension_index.specs.Classes.{reduced}
 use Rattle.fact_columns.specs.declared.scanned_line.ScannedLine.{ScannedLine}
@@ -7,10 +7,8 @@ use Rattle.fact_columns.specs.Watching.{IsOneMore}
 use Rattle.scan_kernel.specs.declared.masks.Masks.{Masks}
 use Rattle.scan_kernel.specs.declared.totals.Totals.{Totals}
 use Rattle.shared_scan.specs.declared.ready.Ready.{Ready}
-use Rattle.shared_scan.specs.declared.standing.ReadyBatch.{ReadyBatch}
 use Rattle.shared_scan.specs.declared.standing.Standing.{Standing}
-use Rattle.shared_scan.specs.Standing.{takes_line, ShiftsBatch, AreSumsOf, AreTotalsOver, HasNumbersOf, HaveNumbersOf}
-use Rattle.shared_scan.specs.Standing.{group_of_line, gain_in, loss_in, size_with}
+use Rattle.shared_scan.specs.Standing.{takes_line, ShiftsBatch, AreTotalsOver, HasNumbersOf, HaveNumbersOf}
 use Rattle.shared_scan.specs.Follows.{FollowWith, Follows, Changes}
 use Rattle.shared_scan.proofs.StandingLaws.{totals_come, totals_go}
 

@@ -1,6 +1,6 @@
 use Rattle.std.proofs.Common.{arith}
 -- Group columns as the loops read them, one after another, and what they are of what was made ready.
-use Rattle.std.proofs.Common.{ℕ, ◌*◌, List, [], ◌∷◌, ◌++◌, length, get_or, ap, ◌∙◌}
+use Rattle.std.proofs.Common.{ℕ, ◌*◌, List, [], ◌∷◌, ◌++◌, length, ◌∙◌}
 use Rattle.ssb_base.specs.Base.{Tables}
 use Rattle.ssb_schema.specs.declared.column.Column.{Column}
 use Rattle.ssb_questions.specs.declared.value.Value.{Value}

@@ -1,6 +1,6 @@
 use Rattle.std.proofs.Common.{arith}
 -- One group column more is made ready.
-use Rattle.std.proofs.Common.{ℕ, ◌≡◌, ◌*◌, List, [], ◌∷◌, ◌++◌, length, refl, sym, ap, ◌∙◌, subst}
+use Rattle.std.proofs.Common.{ℕ, ◌≡◌, ◌*◌, List, [], ◌∷◌, ◌++◌, length, sym, ◌∙◌, subst}
 use Rattle.std.proofs.Math.Nat.{mul_comm, mul_assoc, mul-one}
 use Rattle.ssb_base.specs.Base.{Tables}
 use Rattle.ssb_schema.specs.declared.column.Column.{Column}

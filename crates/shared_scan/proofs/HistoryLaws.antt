@@ -1,11 +1,10 @@
 use Rattle.std.proofs.Common.{arith}
 -- From the answers over places to those after a history.
-use Rattle.std.proofs.Common.{◌≡◌, ◌≤◌, List, [], ◌∷◌, length, refl, sym, ap, ◌∙◌, subst}
+use Rattle.std.proofs.Common.{◌≡◌, ◌≤◌, List, [], ◌∷◌, length, refl, ◌∙◌}
 use Rattle.std.specs.Prelude.{IsPermutation}
 use Rattle.ssb_base.specs.Base.{Dimensions}
 use Rattle.ssb_schema.specs.declared.fact.Fact.{Fact}
-use Rattle.ssb_schema.specs.Facts.{facts_of}
-use Rattle.row_store.specs.History.{CommitRecord, lines_after}
+use Rattle.row_store.specs.History.{CommitRecord}
 use Rattle.row_store.specs.State.{StandsFor}
 use Rattle.ssb_questions.specs.declared.query.Query.{Query}
 use Rattle.ssb_questions.specs.declared.value.Value.{Value}

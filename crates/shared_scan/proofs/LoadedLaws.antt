@@ -1,5 +1,5 @@
 -- Columns of the loaded lines of a base.
-use Rattle.std.proofs.Common.{◌≡◌, ◌∙◌, ℕ, ◌≤◌, [], length, sym, ap, subst, arith}
+use Rattle.std.proofs.Common.{◌≡◌, ◌∙◌, ℕ, ◌≤◌, [], sym, ap, arith}
 use Rattle.ssb_base.specs.Base.{Tables, IsSound}
 use Rattle.row_store.specs.State.{State, StandsFor, state_of}
 use Rattle.fact_columns.specs.Stored.{Stored, columns_state}

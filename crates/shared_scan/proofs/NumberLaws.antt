@@ -1,6 +1,6 @@
 -- The number of the group of the line at a place is that of its combination.
-use Rattle.std.proofs.Common.{ℕ, zero, suc, ◌≡◌, ◌+◌, ◌*◌, ◌<◌, ◌^◌, ◌/◌, ◌%◌, List, [], ◌∷◌, length, map, get_or, min}
-use Rattle.std.proofs.Common.{Some, bit_and, refl, sym, ap, ◌∙◌, arith}
+use Rattle.std.proofs.Common.{ℕ, zero, suc, ◌≡◌, ◌+◌, ◌*◌, ◌<◌, ◌^◌, ◌/◌, ◌%◌, List, [], ◌∷◌, length, map, get_or}
+use Rattle.std.proofs.Common.{Some, bit_and, refl, ap, ◌∙◌, arith}
 use Rattle.std.specs.Prelude.{slice_get}
 use Rattle.std.specs.List.{sum_by, AllByRecursion}
 use Rattle.std.specs.Int.{bit_at}

@@ -6,7 +6,7 @@ use Rattle.std.specs.List.{list_all}
 use Rattle.std.proofs.lemmas.List.{get_or-map, get_or-replicate, length-map, length-replicate}
 use Rattle.std.proofs.lemmas.List.Folds.{list_all_more}
 use Rattle.std.proofs.lemmas.Option.{slice_get-get_or}
-use Rattle.ssb_base.specs.Base.{Tables, customer_key, supplier_key, part_key, date_key}
+use Rattle.ssb_base.specs.Base.{Tables}
 use Rattle.ssb_schema.specs.declared.column.Column.{Column}
 use Rattle.ssb_schema.specs.declared.table.Table.{Table}
 use Rattle.ssb_schema.specs.declared.table.Table.TheVariants as table
@@ -14,10 +14,10 @@ use Rattle.ssb_questions.specs.declared.cond.Test.{Test}
 use Rattle.ssb_questions.specs.declared.plan.Plan.{Plan}
 use Rattle.ssb_questions.specs.declared.value.Value.{Value}
 use Rattle.ssb_questions.specs.declared.value.Value.TheVariants.{Number}
-use Rattle.ssb_answers.specs.RowValues.{customer_value, supplier_value, part_value, date_value, pass}
+use Rattle.ssb_answers.specs.RowValues.{pass}
 use Rattle.dimension_index.specs.Keys.{keys_of}
 use Rattle.dimension_index.specs.Values.{values_at}
-use Rattle.dimension_index.specs.Codes.{distinct, codes_of, code_in}
+use Rattle.dimension_index.specs.Codes.{distinct, codes_of}
 use Rattle.scan_kernel.specs.Masks.{IsMask}
 use Rattle.scan_kernel.proofs.MaskLaws.{mask_and}
 use Rattle.shared_scan.specs.Tests.{tests_of, passes_at, value_of_row, CoverTests}

@@ -44,9 +44,6 @@ module _ (base : Tables) (masks : Masks) (all : List Ready) (totals : List Total
     (lines : LineColumns) (follow : FollowWith (reduced base) masks all totals (live_lines places))
     (of_base : AreOfBase base places) (columns_are : AreColumnsOf places lines) (sound_all : IsSound base)
     (sound : IsSound (reduced base)) where
-  own_places : List Place
-  own_places = map classed places
-
   are : AreLinesOf (map classed places) lines
   are = lines_classed places lines columns_are
 
@@ -61,12 +58,6 @@ module _ (base : Tables) (masks : Masks) (all : List Ready) (totals : List Total
 
   module _ (k : ℕ) (r : Ready) (t : Totals) (below : k < length all) (g : Grouping)
       (grouped : IsReadyGrouping (reduced base) lines (get_or all k r) g) where
-    abbrev this : Ready
-    this = get_or all k r
-
-    abbrev mine : Totals
-    mine = get_or totals k t
-
     sums : AreTotals lines masks k g (range_with_len 0 (length (map classed places))) (get_or totals k t)
     sums =
         let at_k = plan_at (reduced base) masks all follow.ready k r below in

@@ -13,7 +13,7 @@ use Rattle.std.proofs.lemmas.List.Elements.{All-filter, recursion_from_All}
 use Rattle.std.proofs.Math.Nat.{mul-le-mul}
 use Rattle.scan_kernel.proofs.FoundLaws.{all_mapped}
 use Rattle.std.proofs.lemmas.List.Sums.{length-filter, count_by-le-length}
-use Rattle.ssb_base.specs.Base.{Dimensions, Tables, IsSound, IsKnown, customer_key, supplier_key, part_key, date_key}
+use Rattle.ssb_base.specs.Base.{Dimensions, Tables, IsSound, IsKnown}
 use Rattle.ssb_schema.specs.declared.table.Table.TheVariants as table
 use Rattle.ssb_schema.specs.declared.fact.Fact.{Fact}
 use Rattle.ssb_schema.specs.declared.line.LineFields.{LineFields}
@@ -37,7 +37,7 @@ use Rattle.scan_kernel.specs.declared.columns.GroupColumn.{GroupColumn}
 use Rattle.scan_kernel.specs.declared.masks.Masks.{Masks}
 use Rattle.scan_kernel.specs.declared.totals.Totals.{Totals}
 use Rattle.scan_kernel.specs.Places.{has_bit, group_at, gain_at, loss_at}
-use Rattle.scan_kernel.specs.Sums.{Adds, sum_in}
+use Rattle.scan_kernel.specs.Sums.{Adds}
 use Rattle.scan_kernel.specs.Totals.{AreTotals, taken}
 use Rattle.scan_kernel.specs.Combined.{combine, passes_line}
 use Rattle.scan_kernel.specs.Groups.{size_of, counts_of, group_number, ListValues}

@@ -4,7 +4,6 @@ use Rattle.std.specs.Prelude.{ℤ, pos, ◌+ℤ◌, ◌-ℤ◌, All, FitsSigned}
 use Rattle.std.specs.Int.{w64}
 use Rattle.std.specs.List.{fold, sum_by}
 use Rattle.std.proofs.lemmas.Int.{ints}
-use Rattle.std.proofs.lemmas.List.Elements.{All-weaker}
 use Rattle.std.proofs.lemmas.List.Sums.{sum_by-cons, sum_by-le}
 use Rattle.ssb_schema.specs.Facts.{IsFactWithinLimits}
 use Rattle.ssb_schema.specs.declared.fact.Fact.{Fact}

@@ -1,6 +1,6 @@
 use Rattle.std.proofs.Common.{arith}
 -- The sum of a group as combinations are added one after another.
-use Rattle.std.proofs.Common.{◌≡◌, List, [], ◌∷◌, ◌++◌, true, false, cond, Some, refl, ap, ◌∙◌}
+use Rattle.std.proofs.Common.{◌≡◌, List, [], ◌∷◌, ◌++◌, cond, Some, refl, ap, ◌∙◌}
 use Rattle.std.specs.Prelude.{pos, ◌+ℤ◌, filter, unwrap_or}
 use Rattle.std.specs.Ordering.{is_eq}
 use Rattle.std.proofs.lemmas.Grind.{flat_map-append}

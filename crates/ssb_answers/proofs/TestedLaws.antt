@@ -1,5 +1,5 @@
 -- A combination passes where the tests hold of what it has in the tested columns.
-use Rattle.std.proofs.Common.{◌≡◌, ◌∙◌, ℕ, ◌≤◌, Bool, true, ◌&&◌, nat_le, List, [], ◌∷◌, Option, Some, None}
+use Rattle.std.proofs.Common.{◌≡◌, ◌∙◌, ℕ, ◌≤◌, true, ◌&&◌, nat_le, List, [], ◌∷◌, Option, Some, None}
 use Rattle.std.proofs.Common.{refl, sym, ap, arith}
 use Rattle.std.specs.Prelude.{IfSome, ◌↔◌}
 use Rattle.std.specs.List.{AllByRecursion}
@@ -11,17 +11,15 @@ use Rattle.ssb_schema.specs.declared.table.Table.TheVariants.{Customer, Supplier
 use Rattle.ssb_questions.proofs.StarLaws.{over_columns}
 use Rattle.ssb_questions.proofs.StarMeaningLaws.{star_plan_means}
 use Rattle.ssb_questions.specs.Cond.{holds}
-use Rattle.ssb_questions.specs.Plan.{IsOverColumns, IsTestOf}
+use Rattle.ssb_questions.specs.Plan.{IsTestOf}
 use Rattle.ssb_questions.specs.Star.{star_plan_over}
-use Rattle.ssb_questions.specs.StarMeaning.{IsInRange, PlanPasses, TestsHold}
+use Rattle.ssb_questions.specs.StarMeaning.{IsInRange, TestsHold}
 use Rattle.ssb_questions.specs.declared.cond.Test.{Test}
 use Rattle.ssb_questions.specs.declared.plan.NumberRange.{NumberRange}
-use Rattle.ssb_questions.specs.declared.plan.Plan.{Plan}
 use Rattle.ssb_questions.specs.declared.query.Query.TheVariants.{Star}
-use Rattle.ssb_questions.specs.declared.value.Value.{Value}
-use Rattle.ssb_answers.specs.Combination.{Combination, is_in_ranges, passes, value_at, value_in}
+use Rattle.ssb_answers.specs.Combination.{Combination, passes, value_at, value_in}
 use Rattle.ssb_answers.specs.Passing.{tested, PlansPass, StarClausesPass}
-use Rattle.ssb_answers.specs.RowValues.{customer_value, supplier_value, part_value, date_value, pass, is_within}
+use Rattle.ssb_answers.specs.RowValues.{pass, is_within}
 
 module _ (c : Combination) where
   -- a test of a column of the table looks at what the combination has there

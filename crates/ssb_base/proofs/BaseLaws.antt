@@ -1,6 +1,6 @@
 -- What the tables of a base keep between them.
 use Rattle.std.proofs.Common.{◌≡◌, ◌∙◌, ◌≤◌, ℕ, ◌+◌, Bool, true, false, not, cond, nat_lt, nat_eq, ◌||◌}
-use Rattle.std.proofs.Common.{List, [], ◌∷◌, Option, Some, None, Result, Err, is_some, length, take, get_or}
+use Rattle.std.proofs.Common.{List, [], ◌∷◌, Option, Some, None, is_some, length, take, get_or}
 use Rattle.std.proofs.Common.{refl, sym, arith}
 use Rattle.std.specs.List.{slice_get, list_any, find}
 use Rattle.std.specs.Option.{option_map, option_or, option_and_then}
@@ -8,34 +8,20 @@ use Rattle.std.proofs.lemmas.Bool.{ltb-false}
 use Rattle.std.proofs.lemmas.Bool.Decides.{nat_tests}
 use Rattle.std.proofs.lemmas.List.Folds.{list_any-append, find-append}
 use Rattle.std.proofs.lemmas.Option.{slice_get-get_or}
-use Rattle.ssb_base.specs.Base.{Tables, Dimensions, has_key, has_key_of, is_same_line, repeated_fault}
+use Rattle.ssb_base.specs.Base.{Tables, Dimensions, has_key_of, is_same_line, repeated_fault}
 use Rattle.ssb_base.specs.Base.{unknown_of, line_fault, table_fault, dimension_fault, base_fault, customer_key}
 use Rattle.ssb_base.specs.Base.{supplier_key, part_key, date_key, IsDimension, IsKnown, IsSound}
-use Rattle.ssb_base.specs.Checked.{Finds}
-use Rattle.ssb_schema.specs.Columns.{or_else}
 use Rattle.ssb_schema.specs.FirstFault.{rows_fault}
 use Rattle.ssb_base.specs.Indexed.{IsIndexOf}
 use Rattle.ssb_schema.specs.declared.fault.SchemaFault.{SchemaFault}
 use Rattle.ssb_schema.specs.declared.fault.SchemaFault.TheVariants as fault
-use Rattle.ssb_base.specs.declared.index.Stop.{Stop}
 use Rattle.ssb_base.specs.declared.index.Stop.TheVariants as stop
 use Rattle.ssb_base.specs.declared.limits.Limits.{Limits}
 use Rattle.ssb_schema.specs.declared.line.LineFields.{LineFields}
 use Rattle.ssb_schema.specs.declared.table.Table.{Table}
 use Rattle.ssb_schema.specs.declared.table.Table.TheVariants as table
-use Rattle.ssb_schema.proofs.FirstFaultLaws.{take_with_element, length-take_at, test_none, or_else_none, or_else_found}
+use Rattle.ssb_schema.proofs.FirstFaultLaws.{take_with_element, length-take_at, test_none, or_else_none}
 use Rattle.ssb_schema.proofs.FirstFaultLaws.{rows_fault_none, distinct_where_none}
-
--- a check that stopped at the first of several faults
-pub finds_here : (X Y : Type 0) (e : Stop) (a b : Option SchemaFault) → Finds {X = X} (Err e) a
-    → Finds {X = Y} (Err e) (or_else a b)
-finds_here X Y (stop.Fault f) a b found = or_else_found a b f found
-finds_here X Y stop.OutOfMemory a b found = tt
-
--- a check that comes after one that found no fault
-pub finds_later : {X : Type 0} (r : Result X Stop) (a b : Option SchemaFault) → a ≡ None → Finds r b
-    → Finds r (or_else a b)
-finds_later r a b none found = rw none found
 
 -- a table that is small enough has the first fault of its rows
 pub few_rows : {R : Type 0} (limit : ℕ) (t : Table) (f : List R → R → Option SchemaFault) (rows : List R)

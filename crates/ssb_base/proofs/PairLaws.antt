@@ -1,5 +1,5 @@
 -- Lines by their order key and line number, as a set of pairs has them.
-use Rattle.std.proofs.Common.{ℕ, ◌≡◌, ◌≢◌, ◌⊎◌, inl, inr, ◌<◌, ◌+◌, ◌*◌, Bool, true, false, ◌&&◌, List, Some, take}
+use Rattle.std.proofs.Common.{ℕ, ◌≡◌, ◌≢◌, ◌⊎◌, ◌<◌, ◌+◌, ◌*◌, Bool, false, ◌&&◌, List, Some, take}
 use Rattle.std.proofs.Common.{refl, sym, arith}
 use Rattle.std.specs.Prelude.{nat_eq, slice_get}
 use Rattle.std.specs.List.{list_any}

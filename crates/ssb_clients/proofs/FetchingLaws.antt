@@ -1,14 +1,12 @@
 -- What fetching commits does to a dispatcher's token.
-use Rattle.std.proofs.Common.{◌≡◌, ◌⊎◌, inl, inr, ℕ, ◌≤◌, List, [], ◌∷◌, ◌++◌, length, Some, None, false, ap, sym}
+use Rattle.std.proofs.Common.{◌≡◌, ◌⊎◌, inl, inr, ℕ, ◌≤◌, List, [], ◌∷◌, ◌++◌, length, false}
 use Rattle.std.proofs.Common.{subst, ◌∙◌, arith, append_assoc}
 use Rattle.std.specs.Prelude.{All}
 use Rattle.std.proofs.lemmas.List.Elements.{All-head}
 use Rattle.row_store.specs.History.{CommitRecord, IsPrefix}
 use Rattle.row_store.proofs.PrefixLaws.{beginnings_are_shorter}
 use Rattle.history_core.specs.declared.event.Who.TheVariants.{Dispatcher}
-use Rattle.history_core.specs.declared.event.EventReply.TheVariants.{Done}
 use Rattle.history_core.specs.Events as event
-use Rattle.history_core.specs.Parts.{mark_after}
 use Rattle.history.specs.Tokens.{TokenRecord, Took, Saw, IsSound, gave_back}
 use Rattle.ssb_clients.specs.Deeds as deeds
 use Rattle.ssb_clients.specs.Fetching.{HasBeside, AreThere, Fetches}

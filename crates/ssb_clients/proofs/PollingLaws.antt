@@ -1,23 +1,18 @@
 -- A request, and its answer, which is right in all that is seen later.
-use Rattle.std.proofs.Common.{◌≡◌, ℕ, ◌≤◌, List, [], ◌∷◌, ◌++◌, length, take, Some, None, ap, sym, subst, ◌∙◌, arith}
+use Rattle.std.proofs.Common.{◌≡◌, ℕ, ◌≤◌, List, [], ◌∷◌, ◌++◌, length, take, ap, sym, subst, ◌∙◌, arith}
 use Rattle.std.proofs.Common.{append_assoc}
-use Rattle.std.specs.Prelude.{All}
 use Rattle.std.proofs.lemmas.List.{take-append-le}
-use Rattle.std.proofs.lemmas.List.Elements.{All-head}
 use Rattle.row_store.specs.History.{CommitRecord, IsPrefix}
 use Rattle.ssb_base.specs.Base.{Tables}
 use Rattle.history_core.specs.declared.response.Response.{Response}
 use Rattle.history_core.specs.declared.response.Response.TheVariants.{Rows, Unserved}
 use Rattle.history.specs.declared.request.PostedRequest.{PostedRequest}
-use Rattle.history_core.specs.World.{all_rows_after}
 use Rattle.history_core.specs.Events.{Questions}
-use Rattle.history_core.specs.declared.event.EventReply.TheVariants.{Done}
 use Rattle.history.specs.Tokens.{TokenRecord, IsSound, Collected, Saw, posted}
-use Rattle.history.specs.Words.{IsRight, request}
+use Rattle.history.specs.Words.{IsRight}
 use Rattle.history_core.specs.Events as event
-use Rattle.history.specs.Members.{number_of, told_by}
 use Rattle.ssb_clients.specs.Clients.{Asks, Polls}
-use Rattle.ssb_clients.specs.Deeds.{deed, looked, asked}
+use Rattle.ssb_clients.specs.Deeds.{asked}
 use Rattle.row_store.proofs.PrefixLaws.{beginnings_are_shorter}
 
 take_prefix : (n : ℕ) (a b : List CommitRecord) → IsPrefix a b → n ≤ length a → take n b ≡ take n a

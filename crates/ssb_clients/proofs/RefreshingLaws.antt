@@ -1,10 +1,10 @@
 use Rattle.std.proofs.Common.{arith}
 -- A refresh inside the hold of the rows.
-use Rattle.std.proofs.Common.{◌≡◌, ℕ, inl, inr, List, [], ◌∷◌, ◌++◌, length, length-append, append_assoc, Some, None}
+use Rattle.std.proofs.Common.{◌≡◌, ℕ, List, [], ◌∷◌, ◌++◌, length, length-append, append_assoc, Some, None}
 use Rattle.std.proofs.Common.{false, Result, Ok, Err, ap, sym, subst, ◌∙◌}
 use Rattle.std.specs.Prelude.{◌+◌, OnOk, OnErr}
 use Rattle.ssb_schema.specs.declared.refresh.Action.{Action}
-use Rattle.row_store.specs.History.{CommitRecord, Warehouse, IsPrefix, with_commit}
+use Rattle.row_store.specs.History.{CommitRecord, Warehouse, with_commit}
 use Rattle.row_store.specs.Refusals.{refusal_of}
 use Rattle.row_store.specs.Legal.{IsRefreshReply, Tells}
 use Rattle.row_store.proofs.ReplyLaws.{replies_tell}
@@ -13,11 +13,10 @@ use Rattle.row_store.specs.declared.refusal.RefreshError.{RefreshError}
 use Rattle.row_store.specs.declared.refusal.RefreshError.TheVariants as refresh
 use Rattle.history_core.specs.declared.event.Who.TheVariants.{Client}
 use Rattle.history.specs.Tokens.{TokenRecord, Took, MayPut, Put, gave_back, committed}
-use Rattle.history_core.specs.Parts.{mark_after}
 use Rattle.history_core.specs.Events as event
 use Rattle.history_core.specs.declared.event.EventReply.TheVariants.{Done, Committed}
 use Rattle.ssb_clients.specs.Clients.{Refreshed, HandsBack}
-use Rattle.ssb_clients.specs.Deeds.{deed, handed_back}
+use Rattle.ssb_clients.specs.Deeds.{deed}
 use Rattle.ssb_clients.specs.Deeds as deeds
 
 abbrev pub commit_by : ℕ → List Action → CommitRecord

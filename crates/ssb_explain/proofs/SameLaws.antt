@@ -1,16 +1,10 @@
 use Rattle.std.proofs.Common.{arith}
 -- The clauses of a question ask the same of `star`.
-use Rattle.std.proofs.Common.{◌≡◌, Bool, true, false, List, refl}
-use Rattle.ssb_questions.specs.Queries.{plan_over}
-use Rattle.ssb_questions.specs.Star.{star_plan}
-use Rattle.ssb_questions.specs.StarMeaning.{PlanPasses, Tested}
-use Rattle.ssb_questions.specs.declared.query.Query.{Query}
+use Rattle.std.proofs.Common.{◌≡◌, true, false}
 use Rattle.ssb_questions.specs.declared.query.Query.TheVariants.{Q1_1, Q1_2, Q1_3, Q2_1, Q2_2, Q2_3, Q3_1, Q3_2, Q3_3}
 use Rattle.ssb_questions.specs.declared.query.Query.TheVariants.{Q3_4}
 use Rattle.ssb_questions.specs.declared.query.Query.TheVariants.{Q4_1, Q4_2, Q4_3, Star}
-use Rattle.ssb_questions.specs.declared.value.Value.{Value}
-use Rattle.ssb_explain.specs.Laws.{AsksTheSame, ClausesAskTheSame, is_year_first}
-use Rattle.ssb_explain.specs.Words.{is_star, plan_clauses}
+use Rattle.ssb_explain.specs.Laws.{ClausesAskTheSame}
 
 not_both : true ≡ false → ⊥
 not_both h = cc

@@ -14,9 +14,6 @@ system_name Sqlite = codes "sqlite"
 system_name Postgresql = codes "postgresql"
 system_name Clickhouse = codes "clickhouse"
 
-abbrev pub systems : List System
-systems = Sqlite ∷ Postgresql ∷ Clickhouse ∷ []
-
 -- the dimensions, in the order in which they are joined
 abbrev pub dimensions : List Table
 dimensions = Customer ∷ Supplier ∷ Part ∷ Date ∷ []

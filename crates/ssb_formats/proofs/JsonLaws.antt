@@ -11,10 +11,8 @@ use Rattle.row_store.specs.declared.refusal.RefreshError.TheVariants.{Refused, O
 use Rattle.ssb_answers.specs.declared.answer.Answer.{Answer}
 use Rattle.ssb_answers.specs.declared.answer.Answer.TheVariants.{Rows, Unserved}
 use Rattle.ssb_answers.specs.declared.answer.ResultRow.{ResultRow}
-use Rattle.ssb_formats.specs.Cells.{heads_of}
 use Rattle.ssb_formats.specs.JsonText.{answer_members, list_data, row_data, sum_data, text_data, value_data}
 use Rattle.ssb_formats.specs.ReplyJson.{answer_data, refreshed_members}
-use Rattle.ssb_questions.specs.Queries.{plan_over}
 use Rattle.ssb_questions.specs.Query.{sum_first}
 use Rattle.ssb_questions.specs.declared.query.Query.{Query}
 use Rattle.ssb_questions.specs.declared.value.Value.{Value}

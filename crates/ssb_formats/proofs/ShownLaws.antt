@@ -1,17 +1,13 @@
 use Rattle.std.proofs.Common.{arith}
 -- Writing one text after another, where a part of a text may be all of it.
 use Rattle.std.proofs.Common.{◌≡◌, ℕ, ◌+◌, ◌<◌, List, [], ◌∷◌, ◌++◌, length, take, drop, get_or, flat_map, Option}
-use Rattle.std.proofs.Common.{Result, Ok, Err, IsErrAnd, is_err, refl, sym, ◌∙◌, ap, append_assoc, append-nil}
+use Rattle.std.proofs.Common.{Result, Ok, Err, IsErrAnd, sym, ◌∙◌, ap, append_assoc, append-nil}
 use Rattle.std.specs.Io.KnownBytes.{Appends}
 use Rattle.std.proofs.lemmas.List.{take_more, take-append-drop}
 use Rattle.std.proofs.lemmas.List.Concat.{flat_map-append}
-use Rattle.ssb_text.specs.Written.{AppendsPart, Writes}
-use Rattle.ssb_text.proofs.WrittenLaws.{appends_none, appends_both, part_of_short}
+use Rattle.ssb_text.specs.Written.{AppendsPart}
+use Rattle.ssb_text.proofs.WrittenLaws.{appends_both}
 use Rattle.ssb_formats.specs.Formats.{Shows}
-
--- nothing was written, which is a part of any text
-pub nothing_part : (a : Option (List ℕ)) (x : List ℕ) → AppendsPart a a x
-nothing_part a x = record { part = []; rest = x; begins = refl; appends = appends_none a }
 
 -- a text and then a part of another
 pub part_then : (a b c : Option (List ℕ)) (x y : List ℕ) → Appends a b x → AppendsPart b c y → AppendsPart a c (x ++ y)
@@ -20,14 +16,6 @@ part_then a b c x y first second = grind (arith, append_assoc, appends_both)
 -- a part of a text is one of a longer text
 pub part_longer : (a b : Option (List ℕ)) (x y : List ℕ) → AppendsPart a b x → AppendsPart a b (x ++ y)
 part_longer a b x y written = grind (arith, append_assoc)
-
--- what wrote a text or stopped short shows it, whatever the fault is called
-pub shows_of : {X Y E F : Type 0} (a b : Option (List ℕ)) (x : List ℕ) (r : Result X E) (s : Result Y F)
-    → is_err s ≡ is_err r → Writes a b r x → Shows a b s x
-shows_of a b x (Ok v) (Ok w) same written = written
-shows_of a b x (Ok v) (Err f) same written = absurd cc
-shows_of a b x (Err e) (Ok w) same written = absurd cc
-shows_of a b x (Err e) (Err f) same written = part_of_short a b x written
 
 -- a text, and then what shows another
 pub shows_next : {X E : Type 0} (a b c : Option (List ℕ)) (x y : List ℕ) (r : Result X E) → Appends a b x

@@ -1,5 +1,5 @@
 -- How what a journal keeps of a log grows.
-use Rattle.std.proofs.Common.{◌≡◌, inl, inr, ⊎_elim, ℕ, ◌+◌, ◌≤◌, Bool, true, false, List, ◌++◌, length, take, drop}
+use Rattle.std.proofs.Common.{◌≡◌, inl, inr, ⊎_elim, ℕ, ◌+◌, ◌≤◌, Bool, false, List, ◌++◌, length, take, drop}
 use Rattle.std.proofs.Common.{sym, ◌∙◌, ap, subst, Result, Ok, Err, arith}
 use Rattle.std.specs.Prelude.{IfErr}
 use Rattle.std.proofs.lemmas.List.{length-append, length-take-le, take_all, take-append-drop, take-append-le}
@@ -8,15 +8,11 @@ use Rattle.journal.proofs.MomentLaws.{leaves, stays}
 use Rattle.row_store.specs.History.{CommitRecord, IsPrefix}
 use Rattle.ssb_journal.specs.declared.head.TableMark.{TableMark}
 use Rattle.ssb_journal.specs.Kept.{KeepsCommits, KeepsWithOrWithout}
-use Rattle.ssb_journal.specs.Counts.{Begun, IsLeft, KeepsAtLeast, KeepsBeginning, KeepsFirst, KeepsSince}
+use Rattle.ssb_journal.specs.Counts.{Begun, IsLeft, KeepsBeginning, KeepsFirst, KeepsSince}
 
 -- a beginning of a log, with fewer commits at least
 beginning_of_fewer : (least count : ℕ) (log : List CommitRecord) (file : List ℕ) → least ≤ count → KeepsBeginning count log file → KeepsBeginning least log file
 beginning_of_fewer least count log file fewer was = record { count = was.count; enough = omega (arith, fewer, was.enough); first = was.first }
-
--- so many commits at least
-pub keeps_enough : (count : ℕ) (log : List CommitRecord) (file : List ℕ) → KeepsFirst count log file → KeepsAtLeast count file
-keeps_enough count log file first = grind (arith, length-take-le)
 
 -- of a longer log too
 pub keeps_of_longer : (count : ℕ) (shorter longer : List CommitRecord) (file : List ℕ) → IsPrefix shorter longer → KeepsFirst count shorter file → KeepsFirst count longer file

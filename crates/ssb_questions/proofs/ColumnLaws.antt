@@ -1,10 +1,9 @@
 use Rattle.std.proofs.Common.{arith}
 -- The columns that clauses of a star question name, and what its plan tests in them.
-use Rattle.std.proofs.Common.{◌≡◌, ◌∙◌, ℕ, Bool, true, false, List, [], ◌∷◌, Option, Some, None, refl, sym, ap, inl}
+use Rattle.std.proofs.Common.{◌≡◌, ◌∙◌, ℕ, Bool, true, false, List, [], ◌∷◌, Option, Some, None, refl, inl}
 use Rattle.std.proofs.Common.{inr}
 use Rattle.std.specs.Prelude.{IfSome, codes, cond, option_and_then, option_map}
 use Rattle.std.specs.List.{AllByRecursion, filter_map}
-use Rattle.std.specs.Option.{unwrap_or}
 use Rattle.std.proofs.lemmas.Slice.Eq.{bytes_eq-Decides}
 use Rattle.ssb_schema.specs.Columns.{column_kind, column_name, query_columns}
 use Rattle.ssb_schema.specs.declared.column.Column.{Column}
@@ -16,11 +15,11 @@ use Rattle.ssb_questions.proofs.SomeLaws.{some_if, some_or, some_map, some_and_t
 use Rattle.ssb_questions.proofs.SomeLaws.{all_kept, all_weaker, all_any}
 use Rattle.ssb_questions.specs.Clause.{Clause, Sums, GroupsBy, Is, FromTo, QuantityIn, DiscountIn, BySum, clause_of}
 use Rattle.ssb_questions.specs.Clause.{clause_parted, column_named, column_test, kind_where, measure_named}
-use Rattle.ssb_questions.specs.Clause.{parted, range_spelled, test_clause, value_for, word_clause}
+use Rattle.ssb_questions.specs.Clause.{parted, range_spelled, test_clause, word_clause}
 use Rattle.ssb_questions.specs.Clauses.{clause_said, clauses_of, same_column}
 use Rattle.ssb_questions.specs.Members.{Has}
 use Rattle.ssb_questions.specs.Plan.{IsTestOf, is_on_texts, takes_texts}
-use Rattle.ssb_questions.specs.Star.{cond_by, cond_of, customer_columns, date_columns, group_in, number_cond}
+use Rattle.ssb_questions.specs.Star.{cond_by, customer_columns, date_columns, group_in, number_cond}
 use Rattle.ssb_questions.specs.Star.{part_columns, supplier_columns, test_of, tests_of, text_cond}
 use Rattle.ssb_questions.specs.Text.{text_eq}
 use Rattle.ssb_questions.specs.declared.plan.NumberRange.{NumberRange}

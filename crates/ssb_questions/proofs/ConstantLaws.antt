@@ -9,7 +9,7 @@ use Rattle.ssb_schema.specs.Columns.{P_BRAND1, D_YEARMONTH}
 use Rattle.ssb_schema.specs.declared.column.Column.{Column}
 use Rattle.ssb_questions.specs.Kind.{fits, constant_kinds}
 use Rattle.ssb_questions.specs.Plan.{LooksForConstants, StandsAmong}
-use Rattle.ssb_questions.specs.Queries.{plan_over, number_at, text_at, number_of, text_of, standard_constants}
+use Rattle.ssb_questions.specs.Queries.{plan_over, number_at, text_at, number_of, text_of}
 use Rattle.ssb_questions.proofs.GivenLaws.{star_looks}
 use Rattle.ssb_questions.specs.Question.{constants_fault, fault_by}
 use Rattle.std.specs.Option.{option_map, unwrap_or}
@@ -197,20 +197,3 @@ looks_for_constants Q4_3 constants fit = record {
   discount = tt;
 }
 looks_for_constants Star constants fit = star_looks constants
-
--- what the thirteen have where no constants are given fits them
-pub standard_fit : (query : Query) → (query ≡ Star → ⊥) → constants_fault query (standard_constants query) ≡ None
-standard_fit Q1_1 h = refl
-standard_fit Q1_2 h = refl
-standard_fit Q1_3 h = refl
-standard_fit Q2_1 h = refl
-standard_fit Q2_2 h = refl
-standard_fit Q2_3 h = refl
-standard_fit Q3_1 h = refl
-standard_fit Q3_2 h = refl
-standard_fit Q3_3 h = refl
-standard_fit Q3_4 h = refl
-standard_fit Q4_1 h = refl
-standard_fit Q4_2 h = refl
-standard_fit Q4_3 h = refl
-standard_fit Star h = absurd (h refl)

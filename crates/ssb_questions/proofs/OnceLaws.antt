@@ -2,10 +2,10 @@
 -- the values are of their column's kind.
 use Rattle.std.proofs.Common.{◌≡◌, ◌∙◌, ℕ, zero, suc, ◌+◌, ◌<◌, ◌≤◌, Bool, true, false, ◌&&◌, cond, nat_eq, nat_lt}
 use Rattle.std.proofs.Common.{List}
-use Rattle.std.proofs.Common.{[], ◌∷◌, take, Option, Some, None, refl, sym, ap, subst, arith, inl, inr}
+use Rattle.std.proofs.Common.{[], ◌∷◌, take, Option, Some, None, refl, ap, subst, arith, inl, inr}
 use Rattle.std.specs.Prelude.{IfSome, codes, option_and_then, option_map, slice_get}
 use Rattle.std.specs.List.{AllByRecursion, filter_map, cons_option, fold}
-use Rattle.std.specs.Cmp.{first_so, second_so}
+use Rattle.std.specs.Cmp.{second_so}
 use Rattle.std.proofs.lemmas.Bool.Decides.{nat_tests}
 use Rattle.std.proofs.lemmas.Slice.Eq.{bytes_eq-Decides}
 use Rattle.ssb_schema.specs.Columns.{column_name}
@@ -14,12 +14,11 @@ use Rattle.ssb_questions.proofs.ColumnLaws.{IsRead, clauses_read}
 use Rattle.ssb_questions.proofs.SomeLaws.{all_any, all_kept, some_and_then, some_any, some_if, some_map, some_or}
 use Rattle.ssb_questions.proofs.SomeLaws.{some_weaker, some_where}
 use Rattle.ssb_questions.proofs.StarLaws.{stands}
-use Rattle.ssb_questions.specs.Clause.{Clause, Sums, GroupsBy, Is, FromTo, QuantityIn, DiscountIn, BySum}
-use Rattle.ssb_questions.specs.Clause.{clause_parted, column_named, column_test, kind_in, measure_named, number_spelled}
+use Rattle.ssb_questions.specs.Clause.{Clause, Is, FromTo, QuantityIn, DiscountIn}
+use Rattle.ssb_questions.specs.Clause.{clause_parted, column_named, column_test, kind_in}
 use Rattle.ssb_questions.specs.Clause.{parted, range_spelled, spelled_as, test_clause, value_for, word_clause}
 use Rattle.ssb_questions.specs.Clauses.{clause_said, clauses_of, count_of, is_absent, may_follow, may_stand_at}
-use Rattle.ssb_questions.specs.Clauses.{same_column, same_subject, subject, subject_of, subjects_of}
-use Rattle.ssb_questions.specs.Kind.{fits}
+use Rattle.ssb_questions.specs.Clauses.{same_column, same_subject, subject, subjects_of}
 use Rattle.ssb_questions.specs.Members.{Has}
 use Rattle.ssb_questions.specs.Question.{constants_fault}
 use Rattle.ssb_questions.specs.Text.{text_eq}

@@ -9,7 +9,7 @@ use Rattle.std.specs.List.{AllByRecursion, list_all, starts_with}
 use Rattle.std.proofs.lemmas.Bool.Decides.{Decides-eqb, nat_tests}
 use Rattle.std.proofs.lemmas.Slice.Eq.{bytes_eq-Decides, starts_is}
 use Rattle.ssb_schema.specs.Columns.{column_name, ends_in_space, is_plain, is_plain_byte, query_columns}
-use Rattle.ssb_schema.specs.Numerals.{decimal_value, is_numeral, number_of}
+use Rattle.ssb_schema.specs.Numerals.{number_of}
 use Rattle.ssb_schema.specs.declared.column.Column.{Column}
 use Rattle.ssb_schema.specs.declared.fault.SchemaFault.{SchemaFault}
 use Rattle.ssb_questions.proofs.SomeLaws.{some_and_then, some_map, some_or, some_weaker}

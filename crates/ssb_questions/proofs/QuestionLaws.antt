@@ -3,16 +3,12 @@ use Rattle.std.proofs.Common.{arith}
 use Rattle.std.proofs.Common.{◌≡◌, ℕ, List, Option, Some, refl, sym, ap, ◌∙◌}
 use Rattle.std.specs.Prelude.{◌&&◌, true, Bool, find}
 use Rattle.std.specs.Bool.{Decides}
-use Rattle.std.specs.Cmp.{first_so, second_so}
-use Rattle.std.specs.Cmp.Lexicographic.{pointwise}
 use Rattle.std.specs.Option.{unwrap_or}
-use Rattle.std.specs.Ordering.{eq_by_cmp}
 use Rattle.std.proofs.lemmas.Slice.Eq.{slice_eq-Decides, bytes_eq-Decides}
 use Rattle.ssb_questions.proofs.ValueLaws.{value_Decides}
 use Rattle.ssb_questions.specs.Query.{name_of}
 use Rattle.ssb_questions.specs.QuestionEq.{question_eq}
 use Rattle.ssb_questions.specs.Text.{text_eq}
-use Rattle.ssb_questions.specs.Value.{value_cmp}
 use Rattle.ssb_questions.specs.declared.query.Query.{Query}
 use Rattle.ssb_questions.specs.declared.query.Query.TheVariants.{Q1_1, Q1_2, Q1_3, Q2_1, Q2_2, Q2_3, Q3_1, Q3_2, Q3_3}
 use Rattle.ssb_questions.specs.declared.query.Query.TheVariants.{Q3_4}

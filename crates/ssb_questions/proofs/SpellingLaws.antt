@@ -1,13 +1,12 @@
 -- Clauses within the bounds are spelled by constants that `star` takes.
-use Rattle.std.proofs.Common.{◌≡◌, ◌∙◌, ℕ, zero, suc, ◌+◌, ◌^◌, ◌<◌, ◌≤◌, max, Bool, true, false, not, cond}
+use Rattle.std.proofs.Common.{◌≡◌, ◌∙◌, ℕ, zero, suc, ◌+◌, ◌^◌, ◌<◌, ◌≤◌, Bool, true, false, cond}
 use Rattle.std.proofs.Common.{nat_eq, nat_lt}
 use Rattle.std.proofs.Common.{List, [], ◌∷◌, length, take, drop, map, Option, Some, None, refl, sym, ap, subst}
 use Rattle.std.proofs.Common.{arith}
 use Rattle.std.proofs.Common.{rules}
 use Rattle.std.specs.Prelude.{codes, decimal, find, option_and_then, option_map, slice_get}
 use Rattle.std.specs.Char.{is_ascii_digit}
-use Rattle.std.specs.Cmp.{first_so, second_so}
-use Rattle.std.specs.Option.{unwrap_or}
+use Rattle.std.specs.Cmp.{second_so}
 use Rattle.std.specs.List.{AllByRecursion, list_all, range_with_len}
 use Rattle.std.proofs.lemmas.Bool.Decides.{nat_tests}
 use Rattle.std.proofs.lemmas.Fmt.{decimal_nonempty, digits_decimal, digits_value-decimal, length-decimal-le}
@@ -20,7 +19,7 @@ use Rattle.ssb_schema.specs.Numerals.{decimal_value, number_of}
 use Rattle.ssb_schema.specs.declared.column.Column.{Column}
 use Rattle.ssb_questions.proofs.ColumnLaws.{at}
 use Rattle.ssb_questions.specs.Clause.{Clause, Sums, GroupsBy, Is, FromTo, QuantityIn, DiscountIn, BySum, clause_of}
-use Rattle.ssb_questions.specs.Clause.{column_test, kind_in, measure_name, number_spelled, parted, range_of}
+use Rattle.ssb_questions.specs.Clause.{column_test, kind_in, measure_name, number_spelled, parted}
 use Rattle.ssb_questions.specs.Clause.{range_spelled}
 use Rattle.ssb_questions.specs.Clause.{spelled_as, value_for}
 use Rattle.ssb_questions.specs.Clauses.{clauses_of, first_bad, may_stand, subject}
@@ -137,7 +136,7 @@ first_dots (b ∷ c ∷ from) to e =
     rw (here.0, later) refl
 
 range_back : (range : NumberRange) → IsRange range → range_spelled (range_text range) ≡ Some range
-range_back range is = grind (arith, first_dots, digits_first, all_digits, number_back, first)
+range_back range is = grind (arith, first_dots, digits_first, all_digits, number_back)
 
 -- values are read back
 spelled_back : (k : ConstantKind) (v : Value) → fits k v ≡ true → ((n : ℕ) → v ≡ value.Number n → n < 2 ^ 32)

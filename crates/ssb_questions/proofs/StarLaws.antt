@@ -1,11 +1,10 @@
 -- What every plan promises, and what is true of the constants that `star` takes.
 use Rattle.std.proofs.Common.{◌≡◌, ◌∙◌, ℕ, zero, suc, ◌+◌, ◌-◌, ◌<◌, ◌≤◌, max, Bool, true, false, not, ◌&&◌, cond}
 use Rattle.std.proofs.Common.{nat_eq, nat_lt, nat_le, List, [], ◌∷◌, length, take, Option, Some, None, refl, sym, ap}
-use Rattle.std.proofs.Common.{rules}
-use Rattle.std.proofs.Common.{arith, inl, inr}
+use Rattle.std.proofs.Common.{arith}
 use Rattle.std.specs.Prelude.{if◌then◌else◌, find, option_and_then, option_map, slice_get}
 use Rattle.std.specs.List.{AllByRecursion, filter_map, cons_option, range_with_len}
-use Rattle.std.specs.Cmp.{first_so, second_so}
+use Rattle.std.specs.Cmp.{second_so}
 use Rattle.std.proofs.lemmas.Bool.{cases_Bool}
 use Rattle.std.proofs.lemmas.Bool.Decides.{nat_tests}
 use Rattle.ssb_schema.specs.Columns.{query_columns}
@@ -167,15 +166,6 @@ few_groups Star constants none = few_star_groups constants none
 pub some_clause : (constants : List Value) → constants_fault Star constants ≡ None → 1 ≤ length constants
 some_clause [] none = absurd cc
 some_clause (v ∷ constants) none = omega arith
-
-pub few_clauses : (constants : List Value) → constants_fault Star constants ≡ None → length constants ≤ 64
-few_clauses constants none = elim (cases_Bool (nat_le (length constants) 64)) [
-  | inl le ↦ grind (arith, le, nat_tests)
-  | inr more ↦ absurd (
-      let many : 64 < length constants = grind (arith, more, nat_tests) in
-      let never : false ≡ true = first_so (nat_lt 64 64) (may_stand_at 64 (subjects_of (take 64 constants))
-      (option_and_then subject_of (slice_get constants 64))) (may constants none 64 many) in cc)
-]
 
 -- and each says something
 some_said : (i : ℕ) (earlier : List Subject) (o : Option Clause) → may_stand_at i earlier (option_map subject o) ≡ true

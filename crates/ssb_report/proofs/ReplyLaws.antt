@@ -1,6 +1,6 @@
 use Rattle.std.proofs.Common.{arith}
 -- The replies of the one-thread warehouse, and others.
-use Rattle.std.proofs.Common.{◌≡◌, ◌⊎◌, Bool, true, false, List, [], ◌∷◌, Result, map, refl, sym, ◌∙◌, ap, inl, inr}
+use Rattle.std.proofs.Common.{◌≡◌, ◌⊎◌, Bool, true, List, [], ◌∷◌, Result, map, refl, ◌∙◌, ap, inl, inr}
 use Rattle.ssb_schema.specs.declared.refresh.Action.{Action}
 use Rattle.ssb_questions.specs.declared.query.Query.{Query as Named}
 use Rattle.ssb_questions.specs.declared.value.Value.{Value}
@@ -15,7 +15,7 @@ use Rattle.ssb_script.specs.Requests.{RequestRecord, Refresh, Ask, Abort, questi
 use Rattle.ssb_report.specs.Replies.{Reply, Refreshed, Answered, Aborted, true_reply, warehouse_answer, AreAnswers}
 use Rattle.ssb_report.specs.Replies.{IsReply}
 use Rattle.ssb_report.specs.Replies.{committed_by, with_commits}
-use Rattle.ssb_report.specs.Laws.{true_replies, any_unserved, gives_up, TrueRepliesAnswer, OthersGiveUp}
+use Rattle.ssb_report.specs.Laws.{any_unserved, gives_up, TrueRepliesAnswer, OthersGiveUp}
 
 -- a reply is that of the one-thread warehouse, or gives up
 abbrev TrueOrGivenUp : Warehouse → RequestRecord → Reply → Type 0

@@ -6,10 +6,9 @@ use Rattle.std.specs.List.{list_all}
 use Rattle.std.specs.Char.{is_ascii_digit}
 use Rattle.std.proofs.lemmas.Bool.{le-ltb, lt-ltb, le-leb}
 use Rattle.std.proofs.lemmas.List.{take_more, take-append-drop}
-use Rattle.std.proofs.lemmas.List.Folds.{list_all_at}
 use Rattle.std.proofs.Math.Nat.{pow-le-pow_right}
 use Rattle.std.proofs.lemmas.Bool.Decides.{nat_tests}
-use Rattle.ssb_schema.specs.Numerals.{decimal_value, is_numeral, number_of}
+use Rattle.ssb_schema.specs.Numerals.{decimal_value, number_of}
 
 pub power : (n : ℕ) → 10 ^ (n + 1) ≡ 10 ^ n * 10
 power n = rw (add-one, pow-suc) refl
@@ -56,11 +55,6 @@ and_false false = refl
 -- bytes whose first digits write too large a number spell none
 pub number_of-too_large : (bytes : List ℕ) (i : ℕ) → 2 ^ 64 ≤ decimal_value (take i bytes) → number_of bytes ≡ None
 number_of-too_large bytes i large = grind (arith, nat_lt, le-ltb, decimal_value-take-le, and_false)
-
--- bytes that are no digits spell no number
-pub number_of-no_digits : (bytes : List ℕ) (i : ℕ) → i < length bytes → is_ascii_digit (get_or bytes i 0) ≡ false
-    → number_of bytes ≡ None
-number_of-no_digits bytes i lt bad = grind (arith, list_all_at, and_false, nat_lt, nat_le)
 
 pub number_of-digits : (bytes : List ℕ) → 0 < length bytes → length bytes ≤ 20 → list_all is_ascii_digit bytes ≡ true
     → decimal_value bytes < 2 ^ 64 → number_of bytes ≡ Some (decimal_value bytes)

@@ -159,10 +159,6 @@ asks_first bytes one asked first = at first.requests first.joined first.each fir
       asks = ask.0;
     }
 
--- it begins with a request
-pub asks_begins : (bytes : List ℕ) (one : RequestRecord) → AsksFirst bytes one → BeginsWithRequest bytes
-asks_begins bytes one first = grind arith
-
 -- and the request there asks it
 pub asks_whole : (bytes : List ℕ) (one : RequestRecord) (size : ℕ) → AsksFirst bytes one → IsWhole size bytes
     → AsksOne (take size bytes) one

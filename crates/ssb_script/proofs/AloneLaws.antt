@@ -1,6 +1,6 @@
 use Rattle.std.proofs.Common.{arith}
 -- Questions that are asked alone are a script, which asks each by itself.
-use Rattle.std.proofs.Common.{◌≡◌, ◌∙◌, ◌∷◌, All, ℕ, [], List, Some, None, Result, Ok, Err, map, length, refl, sym, ap}
+use Rattle.std.proofs.Common.{◌≡◌, ◌∙◌, ◌∷◌, All, ℕ, [], List, Some, Result, Ok, map, length, refl, sym, ap}
 use Rattle.std.specs.List.{AllZip}
 use Rattle.std.proofs.lemmas.List.{length-map}
 use Rattle.std.proofs.lemmas.List.Elements.{All-cons, All-nil}
@@ -17,10 +17,6 @@ use Rattle.ssb_script.specs.declared.request.Asking.TheVariants.{Alone}
 
 abbrev Question : Type 0
 Question = Named × List Value
-
-abbrev head_or : {X : Type 0} → X → List X → X
-head_or other [] = other
-head_or other (x ∷ xs) = x
 
 abbrev tail_of : {X : Type 0} → List X → List X
 tail_of [] = []

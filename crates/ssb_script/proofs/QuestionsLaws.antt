@@ -10,12 +10,11 @@ use Rattle.ssb_questions.specs.declared.value.Value.{Value}
 use Rattle.ssb_text.specs.Records.{GivesNext, HasGiven, HasRecords}
 use Rattle.ssb_text.specs.declared.error.LineFault.{LineFault}
 use Rattle.ssb_text.specs.declared.error.LineFault.TheVariants as row
-use Rattle.ssb_text.specs.declared.records.ReadError.{ReadError}
 use Rattle.ssb_text.specs.declared.records.ReadError.TheVariants as read
 use Rattle.ssb_script.specs.Lines.{ScriptLine, is_query, key_of, line_after, line_of, line_or_bad, line_or_refusal}
 use Rattle.ssb_script.specs.Lines.{question_at, word_of}
 use Rattle.ssb_script.specs.Lines as line
-use Rattle.ssb_script.specs.Questions.{AsksAlone, HasNone, IsFirstOther, IsQuestionsFault, asked_by, error_of_read}
+use Rattle.ssb_script.specs.Questions.{AsksAlone, HasNone, IsFirstOther, IsQuestionsFault, asked_by}
 use Rattle.ssb_script.specs.Questions.{most_alone, question_in}
 use Rattle.ssb_script.specs.declared.control.OrderOpening.TheVariants.{Add, Amend}
 use Rattle.ssb_script.specs.declared.questions.QuestionsError.{QuestionsError}
@@ -163,11 +162,6 @@ asked_none remaining text old new count questions fields so_far next none = reco
       (next text so_far.records so_far.given);
   number_is = refl;
 }
-
--- what an error of the reader tells
-pub read_fault : (text : List ℕ) (why : ReadError) → IsQuestionsFault text (error_of_read why)
-read_fault text read.Read = tt
-read_fault text read.OutOfMemory = tt
 
 -- what the reading gives where there is no more record
 pub asked_whole : {R V : Type 0} (remaining : R → Option (List ℕ)) (known : Option (List ℕ)) (old new : Reader R)

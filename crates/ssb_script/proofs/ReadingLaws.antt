@@ -1,7 +1,7 @@
 -- What is known of a script's text while it is read.
 use Rattle.std.proofs.Common.{◌≡◌, ℕ, ◌+◌, ◌<◌, ◌≤◌, true, false, List, [], ◌∷◌, ◌++◌, Option, Some, None, Result, Ok}
 use Rattle.std.proofs.Common.{Err, map, length, refl, subst, sym, ap, ◌∙◌, inl, inr, arith}
-use Rattle.std.proofs.lemmas.List.Elements.{All-append, All-nil}
+use Rattle.std.proofs.lemmas.List.Elements.{All-append}
 use Rattle.std.specs.List.{AllZip}
 use Rattle.std.specs.Option.{option_to_list}
 use Rattle.std.specs.Result.{IfOk, IfErr}
@@ -9,10 +9,8 @@ use Rattle.std.proofs.lemmas.Bool.{le-ltb, lt-ltb}
 use Rattle.std.proofs.lemmas.List.{append_assoc, append-nil, map-append, length_push}
 use Rattle.csv.specs.declared.reader.Reader.{Reader}
 use Rattle.ssb_text.specs.Records.{GivesNext, HasGiven}
-use Rattle.ssb_text.specs.declared.records.ReadError.{ReadError}
 use Rattle.ssb_text.specs.declared.records.ReadError.TheVariants as read
 use Rattle.ssb_script.specs.Begun.{Begun, Nothing}
-use Rattle.ssb_script.specs.Errors.{error_of_read}
 use Rattle.ssb_script.specs.Lines.{ScriptLine, line_of, word_of}
 use Rattle.ssb_script.specs.Requests.{RequestRecord, IsWholeRequest, request_of, requests_of}
 use Rattle.ssb_script.specs.Scripts.{Spell, SpellAll, Spells, SpellsScript, IsFirstFault, IsScriptFault, EndsOpen}
@@ -171,11 +169,6 @@ found_fault remaining most known old new count requests begun fields e so_far ne
 found_fault remaining most known old new count requests begun fields e so_far next few (inr found) text is =
     inr (inr (inl (first_fault remaining most text old new count requests begun fields e (so_far text is) next
     (omega arith) (within most (count + 1) begun fields (omega arith) ∙ found))))
-
--- what an error of the reader tells
-pub read_fault : (most : ℕ) (text : List ℕ) (why : ReadError) → IsScriptFault most text (error_of_read why)
-read_fault most text read.Read = inl refl
-read_fault most text read.OutOfMemory = inr (inl refl)
 
 -- what the reading gives where there is no more record
 pub read_script_all : {R : Type 0} (remaining : R → Option (List ℕ)) (most : ℕ) (known : Option (List ℕ))

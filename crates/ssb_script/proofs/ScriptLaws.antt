@@ -1,5 +1,5 @@
 -- What a script asks is what its requests ask, one after another.
-use Rattle.std.proofs.Common.{◌≡◌, ◌≢◌, ◌≤◌, ℕ, true, false, List, [], ◌∷◌, ◌++◌, length, map, Some, None, Ok, refl}
+use Rattle.std.proofs.Common.{◌≡◌, ◌≢◌, ◌≤◌, ℕ, false, List, [], ◌∷◌, ◌++◌, length, map, Some, None, Ok, refl}
 use Rattle.std.proofs.Common.{sym, ap, subst, ◌∙◌, append_assoc, append-nil, length-append, arith, false, inl, inr, ◌⊎◌}
 use Rattle.std.specs.List.{AllByRecursion, AllZip, concat, flat_map}
 use Rattle.std.proofs.lemmas.List.{append_cancel_right}
@@ -17,7 +17,7 @@ use Rattle.ssb_script.specs.Cutting.{EndAt, MakeRequest, IsRequest, IsCutInto}
 use Rattle.ssb_script.specs.declared.block.BlockKind.{BlockKind}
 use Rattle.ssb_script.specs.declared.block.BlockKind.TheVariants.{Refreshing, Asking}
 use Rattle.ssb_script.specs.declared.request.Asking.TheVariants.{Alone, Together}
-use Rattle.ssb_script.specs.Lines.{ScriptLine, RecordFault, line_of}
+use Rattle.ssb_script.specs.Lines.{ScriptLine, line_of}
 use Rattle.ssb_script.specs.Lines as script
 use Rattle.ssb_script.specs.Begun.{Begun}
 use Rattle.ssb_script.specs.Begun as begun

@@ -1,5 +1,5 @@
 -- Laws of what a read takes.
-use Rattle.std.proofs.Common.{◌≡◌, ◌<◌, ◌-◌, ℕ, Bool, true, false, Ok, Err, drop, List, [], ◌++◌, length, take, Option}
+use Rattle.std.proofs.Common.{◌≡◌, ◌<◌, ◌-◌, ℕ, true, false, Ok, drop, List, [], ◌++◌, length, take, Option}
 use Rattle.std.proofs.Common.{Some, None, sym, ap, subst, ◌∙◌, append_assoc, append-nil, arith, length-append}
 use Rattle.std.proofs.Common.{length-drop}
 use Rattle.std.proofs.lemmas.List.{take_all}
@@ -17,7 +17,7 @@ use Rattle.ssb_script.specs.declared.block.BlockKind.{BlockKind}
 use Rattle.ssb_script.specs.declared.pieces.LinePiece.TheVariants as piece
 use Rattle.ssb_script.specs.declared.request_error.RequestError.{RequestError}
 use Rattle.ssb_script.specs.declared.request_error.RequestError.TheVariants as error
-use Rattle.ssb_text.proofs.LineLaws.{no_line_end-append, line-append}
+use Rattle.ssb_text.proofs.LineLaws.{line-append}
 use Rattle.ssb_script.proofs.RequestLaws.{open_is_unfinished, line_ends, line_goes_on}
 
 -- a read that took nothing
@@ -63,36 +63,12 @@ less_behind (Some t) None xs ys taken less = absurd taken
 less_behind (Some t) (Some u) xs ys taken less =
     omega (arith, less, ap length taken, length-append xs u, length-append xs ys)
 
--- the same of a failed read of a line, of which some was taken before
-pub fault_behind : (why : RequestError) (limit count : ℕ) (a b : Option (List ℕ)) (xs ys : List ℕ) → Consumes a b xs
-    → HasNoLineEnd xs → IsLineFault why limit count b ys → IsLineFault why limit count a (xs ++ ys)
-fault_behind error.TooLong limit count a b xs ys taken none fault =
-    (no_line_end-append xs ys none fault.0, fault.1, less_behind a b xs ys taken fault.2)
-fault_behind error.Read limit count a b xs ys taken none fault = no_line_end-append xs ys none fault
-fault_behind error.OutOfMemory limit count a b xs ys taken none fault = no_line_end-append xs ys none fault
-
 -- a look behind the bytes that were taken of a line: it ends the line, the text ends there, the line goes on, or the
 -- look failed
 pub line_after : (a b c : Option (List ℕ)) (x y z : List ℕ) (limit count : ℕ) → Took a b x y HasNoLineEnd
     → Took b c y z (IsPiece piece.Line b) → Took a c x z (TellsLine (Ok true) limit count a)
 line_after a b c x y z limit count p q =
     took_both a b c x y z HasNoLineEnd _ _ p q (line-append p.bytes q.bytes p.is q.is)
-
-pub end_after : (a b c : Option (List ℕ)) (x y z : List ℕ) (limit count : ℕ) → Took a b x y HasNoLineEnd
-    → Took b c y z (IsPiece piece.End b) → Took a c x z (TellsLine (Ok false) limit count a)
-end_after a b c x y z limit count p q =
-    took_both a b c x y z HasNoLineEnd _ _ p q
-    (no_line_end-append p.bytes q.bytes p.is q.is.0, all_behind a b p.bytes q.bytes p.taken q.is.1)
-
-pub part_after : (a b c : Option (List ℕ)) (x y z : List ℕ) → Took a b x y HasNoLineEnd
-    → Took b c y z (IsPiece piece.Part b) → Took a c x z HasNoLineEnd
-part_after a b c x y z p q = took_both a b c x y z HasNoLineEnd _ _ p q (no_line_end-append p.bytes q.bytes p.is q.is)
-
-pub fault_after : (why : RequestError) (a b c : Option (List ℕ)) (x y z : List ℕ) (limit count : ℕ)
-    → Took a b x y HasNoLineEnd → Took b c y z (IsLineFault why limit count b)
-    → Took a c x z (TellsLine (Err why) limit count a)
-fault_after why a b c x y z limit count p q =
-    took_both a b c x y z HasNoLineEnd _ _ p q (fault_behind why limit count a b p.bytes q.bytes p.taken p.is q.is)
 
 -- the bytes of a buffer behind those that stood there before
 pub line_behind : (buffer x z bytes : List ℕ) (start : ℕ) → buffer ≡ z → start ≡ length x → z ≡ x ++ bytes

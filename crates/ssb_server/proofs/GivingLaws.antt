@@ -1,9 +1,9 @@
 -- Requests leave the hand one after another, and each is given an answer.
-use Rattle.std.proofs.Common.{◌≡◌, ℕ, ◌+◌, cond, List, [], ◌∷◌, ◌++◌, length, map, take, Some, refl, ap, sym, subst}
+use Rattle.std.proofs.Common.{◌≡◌, ℕ, ◌+◌, cond, List, [], ◌∷◌, ◌++◌, length, map, Some, refl, ap, sym, subst}
 use Rattle.std.proofs.Common.{◌∙◌, arith, append_assoc}
 use Rattle.std.proofs.lemmas.Bool.{eq-eqb}
 use Rattle.std.proofs.lemmas.List.{take_all, append-nil, length_push, map_push}
-use Rattle.std.proofs.lemmas.List.Elements.{All-nil, All-push, All-head}
+use Rattle.std.proofs.lemmas.List.Elements.{All-push, All-head}
 use Rattle.std.specs.Prelude.{All}
 use Rattle.row_store.specs.History.{CommitRecord}
 use Rattle.ssb_base.specs.Base.{Tables}
@@ -167,11 +167,6 @@ pub rows_popped : (base : Tables) (seen : List CommitRecord) (requests : List Qu
     → rows ≡ answers_after base seen (requests ++ questions ∷ []) → rows ≡ rest ++ found ∷ []
     → RowsPopped base seen requests questions rest found
 rows_popped base seen requests questions rows rest found is ends = grind (arith, snoc_inj, map_push)
-
-pub some_rows : (base : Tables) (seen : List CommitRecord) (requests : List Questions)
-    (questions : Questions) (rows : List RequestRows) → rows ≡ answers_after base seen (requests ++ questions ∷ [])
-    → length rows ≡ 0 → ⊥
-some_rows base seen requests questions rows is none = grind (arith, map_push, length_push)
 
 pub in_hand_of : (grabbed : List Grabbed) (client : ℕ) (questions other : Questions) → other ≡ questions
     → HasInHand grabbed client questions → HasInHand grabbed client other

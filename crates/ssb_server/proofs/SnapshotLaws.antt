@@ -2,7 +2,7 @@
 use Rattle.std.proofs.Common.{◌≡◌, map, ℕ, ◌<◌, ◌≤◌, ◌≢◌, List, [], ◌∷◌, ◌++◌, length, take, drop, refl, ap, sym, subst}
 use Rattle.std.proofs.Common.{◌∙◌, arith, append_assoc}
 use Rattle.std.proofs.lemmas.List.{append-nil}
-use Rattle.std.specs.Prelude.{All, Result, Ok, Err, MatchResult, OnOk, OnErr, is_err, false, true, Some, None}
+use Rattle.std.specs.Prelude.{Result, Ok, Err, MatchResult, OnOk, OnErr, is_err, false}
 use Rattle.std.specs.declared.alloc.AllocError.{AllocError}
 use Rattle.std.proofs.lemmas.List.{map-id}
 use Rattle.row_store.specs.History.{CommitRecord, IsPrefix}
@@ -11,9 +11,7 @@ use Rattle.row_store.proofs.PrefixLaws.{as_long_is_the_whole, prefix_take, prefi
 use Rattle.row_store.specs.State.{State, StandsFor}
 use Rattle.ssb_base.specs.Base.{Tables}
 use Rattle.ssb_answers.specs.declared.answer.Unserved.TheVariants.{Twin}
-use Rattle.history_core.specs.declared.event.EventReply.TheVariants.{Done}
 use Rattle.history_core.specs.Events as event
-use Rattle.history.specs.Members.{number_of}
 use Rattle.history.specs.Tokens.{TableRecord, TokenRecord, IsSound, with_writer, without_writer}
 use Rattle.twin_cell.specs.Twin.{Writing, Reading, Entered}
 use Rattle.ssb_server.proofs.DeedLaws.{added_three}
@@ -154,10 +152,6 @@ pub taken_with : (t : TokenRecord) (writer : Writing) (u : TokenRecord) → u �
     → writer.base ≡ t.table.base → HasTaken u writer
 taken_with t writer u e base = subst (λ x. HasTaken x writer) (sym e)
     record { more = t.beside; beside_is = refl; base_is = base }
-
-pub knows_with : (t : TokenRecord) (list : List CommitRecord) (u : TokenRecord) (reader : Reading) → u ≡ with_writer t list
-    → Knows t.table.base t.seen reader → Knows u.table.base u.seen reader
-knows_with t list u reader e knows = subst (λ (x : TokenRecord). Knows x.table.base x.seen reader) (sym e) knows
 
 pub snapshot_fetched : (before : TokenRecord) (list : List CommitRecord) (taken fetched after : TokenRecord)
     → before.has_writer ≡ false → taken ≡ with_writer before list → Fetches taken fetched

@@ -1,6 +1,6 @@
 -- The steps of a turn together.
 use Rattle.std.proofs.Common.{append-nil, ◌≡◌, ℕ, ◌≤◌, List, [], ◌++◌, length, Some, ap, sym, subst, ◌∙◌, arith}
-use Rattle.row_store.specs.History.{CommitRecord, IsPrefix, lines_after}
+use Rattle.row_store.specs.History.{CommitRecord, lines_after}
 use Rattle.row_store.specs.State.{State, StandsFor}
 use Rattle.row_store.proofs.PrefixLaws.{beginnings_chain}
 use Rattle.ssb_base.specs.Base.{Tables}
@@ -12,7 +12,6 @@ use Rattle.history.specs.Tokens.{TableRecord, TokenRecord, IsSound, IsFree}
 use Rattle.shared_scan.specs.Answers.{AreSnapshot}
 use Rattle.ssb_server.specs.Hand.{Hand, no_hand, Keeps}
 use Rattle.history.specs.Words.{IsCause}
-use Rattle.history.specs.Members.{number_of}
 use Rattle.ssb_answers.specs.declared.answer.Unserved.{Unserved as Cause}
 use Rattle.ssb_answers.specs.declared.answer.Unserved.TheVariants.{OutOfMemory, Twin}
 use Rattle.ssb_server.specs.Deeds as deeds

@@ -17,23 +17,6 @@ use Rattle.ssb_text.specs.Joining.{Joins, Stops}
 use Rattle.ssb_text.specs.Lines.{SpellsAll}
 use Rattle.ssb_text.proofs.JoiningLaws.{no_items}
 
-joined-append : (first bs : List (List ℕ)) → joined (first ++ bs) ≡ joined first ++ joined bs
-joined-append [] bs = refl
-joined-append (a ∷ first) bs = ap (λ (rest : List ℕ). a ++ rest) (joined-append first bs)
-    ∙ sym (append_assoc a (joined first) (joined bs))
-
-joined_behind : (first second : List (List ℕ)) (rest : List ℕ)
-    → joined (first ++ second) ++ rest ≡ joined first ++ (joined second ++ rest)
-joined_behind first second rest = ap (λ (all : List ℕ). all ++ rest) (joined-append first second)
-    ∙ append_assoc (joined first) (joined second) rest
-
--- blocks in two parts are cut where each part is
-cut_parts : (first second : List (List ℕ)) (rest : List ℕ) → AreCut first (joined second ++ rest) → AreCut second rest
-    → AreCut (first ++ second) rest
-cut_parts [] second rest a b = b
-cut_parts (f ∷ first) second rest a b =
-    (rw (joined_behind first second rest) a.0, cut_parts first second rest a.1 b)
-
 -- the lines of a text's first blocks, what was parsed of those behind them, and the bytes of the next ones
 pub record IsReading {X : Type 0} (R : List ℕ → X → Type 0) (text : List ℕ) (left : Option (List ℕ))
     (rows : List (List Value)) (parsed : List X) (waiting : List (List ℕ)) : Type 0 where

@@ -12,10 +12,6 @@ abbrev pub BlockSoFar : Option (List ℕ) → Option (List ℕ) → List ℕ →
 BlockSoFar old source block = (text : List ℕ) → old ≡ Some text
     → (rest : List ℕ) × (source ≡ Some rest) × (text ≡ block ++ rest)
 
-pub block_starts : (carry : List ℕ) (source : Option (List ℕ)) → BlockSoFar (prepend_known carry source) source carry
-block_starts carry None text is = cc is
-block_starts carry (Some rest) text is = (rest, refl, cc is)
-
 pub consumes_known : (old new : Option (List ℕ)) (rest bytes : List ℕ) → old ≡ Some rest → Consumes old new bytes
     → (later : List ℕ) × (new ≡ Some later) × (rest ≡ bytes ++ later)
 consumes_known None new rest bytes is consumed = grind arith
@@ -57,10 +53,6 @@ block_cut old source block at so_far within feed text is =
       line_starts block here.0 at within feed,
     )
 
--- no block was given yet
-pub no_blocks : (known : Option (List ℕ)) → GivesBlocks known known []
-no_blocks known text is = (text, is, refl, tt)
-
 joined-push : (blocks : List (List ℕ)) (block : List ℕ) → joined (blocks ++ block ∷ []) ≡ joined blocks ++ block
 joined-push [] block = append-nil block
 joined-push (b ∷ bs) block =
@@ -80,11 +72,6 @@ blocks_more old now new blocks block given next text is = grind (arith, append_a
 pub blocks_end : (old now new : Option (List ℕ)) (blocks : List (List ℕ)) → GivesBlocks old now blocks → WasAll now new
     → GivesBlocks old new blocks
 blocks_end old now new blocks given ended text is = grind arith
-
--- no block was given, and there were no more bytes
-pub all_given : (old now new : Option (List ℕ)) (blocks : List (List ℕ)) → GivesBlocks old now blocks
-    → WasAll now new → blocks ≡ [] → WasAll old new
-all_given old now new blocks given ended none text is = grind arith
 
 -- what begins with a block follows if the block does
 pub follows_block : (done block rest : List ℕ) → Follows done (block ++ rest) → Follows done block

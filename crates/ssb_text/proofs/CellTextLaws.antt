@@ -1,6 +1,6 @@
 use Rattle.std.proofs.Common.{arith}
 -- The text of a row, as its cells are written one after another.
-use Rattle.std.proofs.Common.{◌≡◌, ℕ, List, [], ◌∷◌, ◌++◌, map, sym, refl, ap, ◌∙◌, append_assoc, append-nil}
+use Rattle.std.proofs.Common.{◌≡◌, List, [], ◌∷◌, ◌++◌, map, ap, ◌∙◌, append_assoc, append-nil}
 use Rattle.std.specs.List.{flat_map}
 use Rattle.ssb_schema.specs.Columns.{value_of}
 use Rattle.ssb_schema.specs.declared.kind.Cell.{Cell}

@@ -1,6 +1,6 @@
 -- Fields that are kept as they are: their bytes are plain, and no space at the end is taken away.
 use Rattle.std.proofs.Common.{◌≡◌, ℕ, ◌-◌, Bool, true, false, ◌&&◌, nat_eq, List, [], ◌∷◌, ◌++◌, length, drop, Some}
-use Rattle.std.proofs.Common.{refl, suc, sym, ap, ◌∙◌, subst, arith, inl, inr}
+use Rattle.std.proofs.Common.{refl, suc, sym, ap, ◌∙◌, arith}
 use Rattle.std.specs.Prelude.{◌==◌, not}
 use Rattle.std.specs.List.{list_all}
 use Rattle.std.specs.Str.{IsUtf8}
@@ -9,7 +9,7 @@ use Rattle.std.proofs.Math.Seq.{get_or-append_seam}
 use Rattle.std.proofs.lemmas.Bool.{cases_Bool, eqb-true}
 use Rattle.ssb_text.specs.Spelling.{field, text_of, without_spaces}
 use Rattle.ssb_text.proofs.Utf8Laws.{text_is_utf8}
-use Rattle.ssb_schema.specs.Columns.{ends_in_space, is_plain, is_plain_byte}
+use Rattle.ssb_schema.specs.Columns.{ends_in_space, is_plain}
 use Rattle.ssb_text.proofs.RecordTextLaws.{IsPlainField, and-left, and-right, not-false}
 
 -- a field that is read as it was written

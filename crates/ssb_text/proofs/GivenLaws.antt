@@ -1,12 +1,12 @@
 use Rattle.std.proofs.Common.{arith}
 -- How far a reader has come in a text.
-use Rattle.std.proofs.Common.{◌≡◌, ℕ, Bool, true, false, List, [], Option, Some, refl, sym, ap, ◌∙◌}
+use Rattle.std.proofs.Common.{◌≡◌, ℕ, Bool, true, false, List, [], Option, Some, ◌∙◌}
 use Rattle.std.specs.Option.{option_map}
 use Rattle.csv.specs.Reading.{ReadRecord, Reached, reader_state, source_of, strip_bom}
 use Rattle.csv.specs.declared.parser.State.TheVariants as st
 use Rattle.csv.specs.declared.reader.Reader.{Reader}
 use Rattle.csv.proofs.ReadFacts.{rows-end, rows-more}
-use Rattle.ssb_text.specs.Records.{record_config, GivesNext, HasGiven, IsRecordReader}
+use Rattle.ssb_text.specs.Records.{GivesNext, HasGiven, IsRecordReader}
 
 -- at the start no record was given
 pub given_nothing : {R : Type 0} (remaining : R → Option (List ℕ)) (source : R) (text : List ℕ) (reader : Reader R)

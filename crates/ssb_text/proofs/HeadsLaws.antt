@@ -76,12 +76,6 @@ line_more delimiter old mid new long count more b so_far consumed no_feed counts
       );
 }
 
--- the line feed was read
-pub line_ended : (delimiter : Delimiter) (old mid new : Option (List ℕ)) (long count : ℕ)
-    → ReadsLine delimiter old mid long count → long < most_heads → Consumes mid new (10 ∷ [])
-    → EndsLine delimiter old new count
-line_ended delimiter old mid new long count so_far short consumed file is = grind (arith, consumes_known)
-
 -- no more bytes are there
 pub no_line_left : (delimiter : Delimiter) (old mid : Option (List ℕ)) (long count : ℕ)
     → ReadsLine delimiter old mid long count → IsAtEnd mid → HasNoLine old
@@ -122,12 +116,6 @@ pub other_heads : (delimiter : Delimiter) (old new : Option (List ℕ)) (found c
     → EndsLine delimiter old new found → found + 1 ≢ count → found ≢ count
     → (file rows : List ℕ) → old ≡ Some file → HasHeads delimiter count file rows → ⊥
 other_heads delimiter old new found count ends not_fewer not_as_many file rows is has = grind (arith, same_line, ⊎_elim)
-
--- no line was read
-pub no_heads : (delimiter : Delimiter) (old : Option (List ℕ)) (count : ℕ) → HasNoLine old
-    → (file rows : List ℕ) → old ≡ Some file → HasHeads delimiter count file rows → ⊥
-no_heads delimiter old count none file rows is has =
-    none has.heads rows (is ∙ ap Some has.parted) (has.one_line, has.short)
 
 -- the rows below the heads of a file are one text
 pub one_rows : (delimiter : Delimiter) (count : ℕ) (file one other : List ℕ) → HasHeads delimiter count file one

@@ -227,11 +227,6 @@ stops_now R x xs limit old e first done rest (b ∷ bs) follows cut zipped spell
     rw (same_behind b (joined bs) rest)
     (first done (joined bs ++ rest) (b ∷ []) near (cut.0, tt) (zipped.0, tt) spelled)
 
--- a failed read, or want of memory
-pub stops_read : {X : Type 0} (R : List ℕ → X → Type 0) (xs : List X) (limit : ℕ) (old : List (List Value))
-    (e : LoadError) → IsReadFault table.Lineorder e → Stops R xs limit old e
-stops_read R xs limit old e is done rest blocks follows cut zipped spelled = inl is
-
 -- the same of a block, known by another fact
 zipped_as : {X Y : Type 0} (R : List ℕ → X → Type 0) (S : List ℕ → Y → Type 0) (x : X) (y : Y)
     → ((block : List ℕ) → S block y → R block x) → (blocks : List (List ℕ)) → AllZip S blocks (y ∷ [])

@@ -1,6 +1,6 @@
 -- Laws of the lines of a text.
 use Rattle.std.proofs.Common.{◌≡◌, ◌≢◌, ◌<◌, ◌+◌, ◌⊎◌, inl, inr, ℕ, List, [], ◌∷◌, ◌++◌, length, take, get_or, refl}
-use Rattle.std.proofs.Common.{sym, ap, subst, ◌∙◌, arith, append_assoc}
+use Rattle.std.proofs.Common.{sym, ap, subst, ◌∙◌, append_assoc}
 use Rattle.std.specs.List.{AllByRecursion, concat}
 use Rattle.std.proofs.lemmas.Bool.Decides.{eqb_tells}
 use Rattle.std.proofs.lemmas.List.{take_more}
@@ -42,10 +42,6 @@ line-append (b ∷ c ∷ xs) line n p = (n.0, line-append (c ∷ xs) line n.1 p)
 pub no_line_end-append : (xs ys : List ℕ) → HasNoLineEnd xs → HasNoLineEnd ys → HasNoLineEnd (xs ++ ys)
 no_line_end-append [] ys n m = m
 no_line_end-append (b ∷ xs) ys n m = (n.0, no_line_end-append xs ys n.1 m)
-
-pub line_has_bytes : (line : List ℕ) → IsLine line → 0 < length line
-line_has_bytes [] p = absurd p
-line_has_bytes (b ∷ line) p = omega arith
 
 -- the same of the front of bytes, up to a place
 pub no_line_end-more : (bytes : List ℕ) (i : ℕ) → i < length bytes → get_or bytes i 0 ≢ 10

@@ -1,13 +1,13 @@
 use Rattle.std.proofs.Common.{arith}
 -- What the reading of five tables has found so far.
 use Rattle.std.proofs.Common.{◌≡◌, ◌+◌, ℕ, Bool, true, false, List, [], ◌∷◌, ◌++◌, length, Option, Some, None, is_some}
-use Rattle.std.proofs.Common.{nat_lt, refl, subst, ◌⊎◌, inl, inr}
+use Rattle.std.proofs.Common.{nat_lt, refl, subst, ◌⊎◌}
 use Rattle.std.specs.List.{list_any}
 use Rattle.std.specs.Option.{IfSome, option_map}
 use Rattle.std.specs.Prelude.{if◌then◌else◌}
 use Rattle.ssb_base.specs.Base.{Tables as BaseTables, Dimensions, base_fault, customer_key, date_key, dimension_fault}
-use Rattle.ssb_base.specs.Base.{has_key_of, is_same_line, line_fault, part_key, repeated_fault, supplier_key}
-use Rattle.ssb_base.specs.Base.{table_fault, unknown_of}
+use Rattle.ssb_base.specs.Base.{has_key_of, line_fault, part_key, repeated_fault, supplier_key}
+use Rattle.ssb_base.specs.Base.{table_fault}
 use Rattle.ssb_schema.specs.Columns.{Value, or_else}
 use Rattle.ssb_schema.specs.FirstFault.{rows_fault}
 use Rattle.ssb_schema.specs.declared.fault.SchemaFault.{SchemaFault}

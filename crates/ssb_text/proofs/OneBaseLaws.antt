@@ -15,7 +15,6 @@ use Rattle.ssb_schema.specs.declared.table.Table.{Table}
 use Rattle.ssb_schema.specs.declared.table.Table.TheVariants as table
 use Rattle.ssb_text.proofs.OneListLaws.{one_records}
 use Rattle.ssb_text.specs.Load.{SpellsBase, values_in}
-use Rattle.ssb_text.specs.Row.{row_of}
 use Rattle.ssb_text.specs.Tables.{SpellsRow}
 use Rattle.ssb_text.specs.RoundTrip.{TextsSpellOneBase}
 

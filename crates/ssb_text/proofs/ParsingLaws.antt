@@ -1,6 +1,5 @@
-use Rattle.std.proofs.Common.{arith}
 -- What is known of a block while its lines are parsed.
-use Rattle.std.proofs.Common.{ℕ, true, false, Bor, List, Option, Some}
+use Rattle.std.proofs.Common.{ℕ, true, Bor, List, Option, Some}
 use Rattle.csv.specs.declared.reader.Reader.{Reader}
 use Rattle.ssb_schema.specs.Columns.{Value}
 use Rattle.ssb_schema.specs.declared.table.Table.TheVariants as table
@@ -8,7 +7,7 @@ use Rattle.ssb_text.specs.Records.{GivesNext}
 use Rattle.ssb_text.specs.Row.{Fails, row_of}
 use Rattle.ssb_text.specs.declared.error.LineFault.{LineFault}
 use Rattle.ssb_text.proofs.ReadingLaws.{HasRead}
-use Rattle.ssb_text.specs.Lines.{SpellsAll, StopsAt}
+use Rattle.ssb_text.specs.Lines.{StopsAt}
 
 -- the bytes of a slice that is read
 abbrev pub slice_bytes : Bor (List ℕ) → Option (List ℕ)
@@ -17,11 +16,6 @@ slice_bytes s = Some s.now
 -- the records that a reader has given of a block spell these lines
 abbrev pub HasParsed : List ℕ → Reader (Bor (List ℕ)) → List (List Value) → Type 0
 HasParsed block reader rows = HasRead slice_bytes table.Lineorder block reader rows
-
--- there was no more record
-pub parsed_all : (block : List ℕ) (old new : Reader (Bor (List ℕ))) (rows : List (List Value)) (fields : List (List ℕ))
-    → HasParsed block old rows → GivesNext slice_bytes old new false fields → SpellsAll block rows
-parsed_all block old new rows fields read next = grind arith
 
 -- the next record has a fault
 pub parsed_until : (block : List ℕ) (old new : Reader (Bor (List ℕ))) (rows : List (List Value))

@@ -1,5 +1,5 @@
 -- Laws of plain texts.
-use Rattle.std.proofs.Common.{◌≡◌, ◌≢◌, ◌≤◌, ◌<◌, ◌+◌, inl, inr, ℕ, zero, suc, true, List, [], ◌∷◌, ◌++◌, length, take}
+use Rattle.std.proofs.Common.{◌≡◌, ◌≢◌, ◌≤◌, ◌<◌, ◌+◌, ℕ, zero, suc, true, List, [], ◌∷◌, ◌++◌, length, take}
 use Rattle.std.proofs.Common.{drop, length-drop, refl, sym, ap, subst, ◌∙◌, append_assoc, append-nil, arith}
 use Rattle.std.specs.Prelude.{◌↔◌, slice_index}
 use Rattle.std.specs.List.{AllByRecursion, AllZip, concat, flat_map}
@@ -68,11 +68,6 @@ not_plain_at rest found end n within at is ends other plain =
     (subst (λ b. is_byte2 13 239 b ≡ true) (sym here) at) (subst (λ t. take (length t) found ≢ t) ends other) plain
 
 -- What holds of plain texts.
-
-pub plain-append : (xs ys : List ℕ) → IsPlainText xs → IsPlainText ys → IsPlainText (xs ++ ys)
-plain-append [] ys first last = grind arith
-plain-append (b ∷ []) ys first last = grind (arith, past_byte)
-plain-append (b ∷ c ∷ xs) ys first last = grind (arith, plain-append (c ∷ xs) ys (first.0.1, first.1.1) last)
 
 no_mark : (bytes : List ℕ) → AllByRecursion (λ b. b ≢ 239) bytes → HasNoMark bytes
 unfolding strip_bom

@@ -1,5 +1,5 @@
 -- When a record's row is taken, and when it is refused.
-use Rattle.std.proofs.Common.{◌≡◌, true, ℕ, ◌+◌, List, [], ◌∷◌, ◌++◌, length, get_or, Some, None, Result, Ok, Err, refl}
+use Rattle.std.proofs.Common.{◌≡◌, true, ℕ, ◌+◌, List, [], ◌∷◌, ◌++◌, length, Some, None, Result, Ok, Err, refl}
 use Rattle.std.proofs.Common.{add-zero, arith}
 use Rattle.ssb_schema.specs.Columns.{Value, kinds_of, row_fault}
 use Rattle.ssb_schema.specs.declared.kind.Kind.{Kind}
@@ -8,7 +8,7 @@ use Rattle.ssb_schema.specs.declared.fault.SchemaFault.{SchemaFault}
 use Rattle.ssb_text.specs.declared.error.LineFault.{LineFault}
 use Rattle.ssb_text.specs.declared.error.LineFault.TheVariants as fault
 use Rattle.ssb_text.specs.Records.{has_columns}
-use Rattle.ssb_text.specs.Row.{row_of, value_at, values_from, ◌>>=◌, Fails}
+use Rattle.ssb_text.specs.Row.{row_of, values_from, ◌>>=◌, Fails}
 
 pub row_taken : (t : Table) (fields : List (List ℕ)) (values : List Value)
     → has_columns (length (kinds_of t)) fields ≡ true

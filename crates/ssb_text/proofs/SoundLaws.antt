@@ -4,7 +4,7 @@ use Rattle.std.proofs.Common.{slice_get, refl, sym, ◌∙◌, subst, arith, app
 use Rattle.std.specs.List.{list_any}
 use Rattle.std.proofs.lemmas.Option.{get_or_from_slice_get, slice_get_within}
 use Rattle.ssb_base.specs.Base.{IsDimension, IsKnown, IsSound, Tables, Dimensions, base_fault, customer_key, date_key}
-use Rattle.ssb_base.specs.Base.{dimension_fault, has_key_of, is_same_line, line_fault, part_key, repeated_fault}
+use Rattle.ssb_base.specs.Base.{dimension_fault, is_same_line, line_fault, part_key}
 use Rattle.ssb_base.specs.Base.{supplier_key, table_fault, unknown_of}
 use Rattle.ssb_base.proofs.BaseLaws.{few_rows, line_good, repeated_absent}
 use Rattle.ssb_schema.specs.FirstFault.{AreDistinct, rows_fault}

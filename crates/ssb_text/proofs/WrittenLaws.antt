@@ -1,8 +1,8 @@
 -- Writing one text after another.
 use Rattle.std.proofs.Common.{◌≡◌, ℕ, ◌+◌, ◌<◌, List, [], ◌∷◌, ◌++◌, length, take, drop, get_or, flat_map, Option, None}
-use Rattle.std.proofs.Common.{Some, Result, Ok, Err, IsErrAnd, refl, sym, ◌∙◌, ap, arith, append_assoc, append-nil}
+use Rattle.std.proofs.Common.{Some, Result, Ok, Err, IsErrAnd, sym, ◌∙◌, ap, arith, append_assoc, append-nil}
 use Rattle.std.proofs.Common.{length-append}
-use Rattle.std.specs.Io.KnownBytes.{Appends, Keeps}
+use Rattle.std.specs.Io.KnownBytes.{Appends}
 use Rattle.std.proofs.lemmas.List.{take_more, take-append-drop}
 use Rattle.std.proofs.lemmas.List.Concat.{flat_map-append}
 use Rattle.ssb_text.specs.Written.{AppendsPart, StopsShort, Writes}
@@ -18,12 +18,6 @@ appends_both None b c x y first second = tt
 appends_both (Some xs) None c x y first second = absurd first
 appends_both (Some xs) (Some ys) None x y first second = absurd second
 appends_both (Some xs) (Some ys) (Some zs) x y first second = second ∙ ap (λ t. t ++ y) first ∙ append_assoc xs x y
-
--- what is kept has grown by a part of any text that is not empty
-pub part_kept : (a b : Option (List ℕ)) (x : List ℕ) → Keeps a b → 0 < length x → StopsShort a b x
-part_kept None b x kept some = grind arith
-part_kept (Some xs) None x kept some = grind arith
-part_kept (Some xs) (Some ys) x kept some = grind (arith, append-nil)
 
 -- a text and then a part of another
 pub appends_part : (a b c : Option (List ℕ)) (x y : List ℕ) → Appends a b x → StopsShort b c y → StopsShort a c (x ++ y)

@@ -1,5 +1,5 @@
 -- Constants of a star question are read back: each is a text that a table file can hold, and has bytes.
-use Rattle.std.proofs.Common.{◌≡◌, ◌∙◌, ℕ, zero, suc, true, false, nat_eq, List, [], ◌∷◌, length, map, Some, None}
+use Rattle.std.proofs.Common.{◌≡◌, ◌∙◌, ℕ, zero, suc, false, nat_eq, List, [], ◌∷◌, length, map, Some, None}
 use Rattle.std.proofs.Common.{IsUtf8, refl, ap, subst, arith, ne_eqb}
 use Rattle.std.specs.Prelude.{slice_get}
 use Rattle.std.specs.List.{AllByRecursion}
@@ -16,7 +16,6 @@ use Rattle.ssb_questions.specs.declared.query.Query.TheVariants.{Star}
 use Rattle.ssb_questions.specs.declared.value.Value.{Value}
 use Rattle.ssb_questions.specs.declared.value.Value.TheVariants as value
 use Rattle.ssb_report.specs.AnswerText.{value_text}
-use Rattle.ssb_schema.specs.Columns.{is_plain}
 use Rattle.ssb_script.specs.Lines.{texts_spelled, without_closing}
 use Rattle.ssb_trace.specs.Allowed.{IsAllowedQuestion, IsAllowedValue}
 use Rattle.ssb_text.proofs.FieldTextLaws.{IsKept, text_kept, text_read}

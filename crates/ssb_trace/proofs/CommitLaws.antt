@@ -1,7 +1,7 @@
 -- Of the lines of a commit, which are those of a refresh: no refresh begins inside another.
 use Rattle.std.proofs.Common.{◌≡◌, ℕ, ◌+◌, true, false, List, [], ◌∷◌, ◌++◌, Option, Some, None, Result, Ok, Err, map}
 use Rattle.std.proofs.Common.{refl, sym, ap, ◌∙◌, subst, arith, Bool}
-use Rattle.std.specs.List.{All, flat_map}
+use Rattle.std.specs.List.{All}
 use Rattle.std.specs.Option.{option_map}
 use Rattle.std.specs.Bool.{if◌then◌else◌}
 use Rattle.std.proofs.lemmas.List.{append-nil, map-append}
@@ -10,23 +10,19 @@ use Rattle.ssb_text.specs.Records.{has_columns}
 use Rattle.ssb_text.specs.declared.error.LineFault.{LineFault}
 use Rattle.ssb_text.specs.declared.error.LineFault.TheVariants as fault
 use Rattle.ssb_schema.specs.Columns as columns
-use Rattle.ssb_schema.specs.declared.line.LineFields.{LineFields}
 use Rattle.ssb_schema.specs.declared.refresh.Action.{Action}
 use Rattle.ssb_schema.specs.declared.refresh.Action.TheVariants as action
 use Rattle.ssb_script.specs.Begun.{Begun}
 use Rattle.ssb_script.specs.Begun as begun
-use Rattle.ssb_script.specs.Lines.{ScriptLine, alone, line_or_bad, line_or_refusal}
+use Rattle.ssb_script.specs.Lines.{ScriptLine, line_or_bad, line_or_refusal}
 use Rattle.ssb_script.specs.Lines as script
 use Rattle.ssb_script.specs.Requests.{RequestRecord, Refresh, Ask, Abort, IsWholeAction, IsWholeRequest}
-use Rattle.ssb_script.specs.Requests.{lines_of_asking, lines_of_refresh, request_of}
+use Rattle.ssb_script.specs.Requests.{lines_of_refresh, request_of}
 use Rattle.ssb_script.specs.Scripts.{Spell, is_refreshing, lines_of_begun}
 use Rattle.ssb_script.specs.Steps.{AreTaken, Follows as FollowsInScript, asked, begun_in}
 use Rattle.ssb_script.specs.declared.begun.ScriptStep.{ScriptStep}
 use Rattle.std.specs.Option.{option_to_list}
 use Rattle.ssb_script.specs.declared.request.Request.{Request}
-use Rattle.ssb_script.specs.declared.request.Asking.{Asking}
-use Rattle.ssb_script.specs.declared.request.Asking.TheVariants.{Alone, Together}
-use Rattle.ssb_questions.specs.declared.query.Query.{Query as Named}
 use Rattle.ssb_questions.specs.declared.value.Value.{Value}
 use Rattle.ssb_trace.specs.Entries.{IsWholeEntry, in_commit, lines_of_commit}
 use Rattle.ssb_script.specs.declared.begun.Begun.TheVariants as held
@@ -76,49 +72,6 @@ stands_inside (Some word.End) fields line e = of_alone _ line (has_columns 1 fie
 stands_inside (Some word.Answer) fields line e = absurd cc
 stands_inside (Some word.Row) fields line e = absurd cc
 
--- the first line of a refresh, and what has such a first line
-begins_so : (b : Begun) (line : ScriptLine) → is_refreshing b ≡ true
-    → (rest : List ScriptLine) × (lines_of_begun b ++ line ∷ [] ≡ script.Begin ∷ rest)
-begins_so begun.Nothing line inside = absurd cc
-begins_so (begun.Refresh actions) line inside = (_, refl)
-begins_so (begun.Order order) line inside = (_, refl)
-begins_so (begun.Asked questions) line inside = absurd cc
-
-is_inside : (b : Begun) (rest : List ScriptLine) → lines_of_begun b ≡ script.Begin ∷ rest → is_refreshing b ≡ true
-is_inside begun.Nothing rest e = absurd cc
-is_inside (begun.Refresh actions) rest e = refl
-is_inside (begun.Order order) rest e = refl
-is_inside (begun.Asked questions) rest e = absurd cc
-
--- nothing is asked in a refresh
-no_asking : (asking : Asking) (rest : List ScriptLine) → script.Begin ∷ rest ≡ lines_of_asking asking → ⊥
-no_asking (Alone question) rest e = cc
-no_asking (Together questions) rest e = cc
-
--- and nothing is dropped, where the last line is no `abort`
-last_of : ScriptLine → List ScriptLine → ScriptLine
-last_of line [] = line
-last_of line (next ∷ lines) = last_of next lines
-
-last-push : (first : ScriptLine) (lines : List ScriptLine) (line : ScriptLine)
-    → last_of first (lines ++ line ∷ []) ≡ line
-unfolding last_of
-last-push first [] line = refl
-last-push first (next ∷ lines) line = last-push next lines line
-
-no_abort : (lines other : List ScriptLine) (line : ScriptLine) → StandsInside line
-    → lines ++ line ∷ [] ≡ other ++ script.Abort ∷ [] → ⊥
-no_abort lines other line stands e =
-    let same : line ≡ script.Abort = sym (last-push line lines line)
-    ∙ (ap (last_of line) e ∙ last-push line other script.Abort) in
-    subst StandsInside same stands
-
--- what a step ended, or did not
-ended_none : (request : Option Request) (lines : List ScriptLine) (b : Begun)
-    → map request_of (option_to_list request) ≡ [] → AreTaken lines request b → lines ≡ lines_of_begun b
-ended_none None lines b none taken = taken
-ended_none (Some request) lines b none taken = absurd cc
-
 ended_one : (request : Option Request) (one : RequestRecord) (lines : List ScriptLine) (b : Begun)
     → map request_of (option_to_list request) ≡ one ∷ [] → AreTaken lines request b → Spell one lines
 ended_one None one lines b is taken = absurd cc
@@ -129,30 +82,11 @@ ended_one (Some request) one lines b is taken =
 -- the step of a script's refresh, in which nothing, or a refresh, ended
 module _ (number : ℕ) (old : Begun) (line : ScriptLine) (step : ScriptStep) (inside : is_refreshing old ≡ true)
     (stands : StandsInside line) (follows : FollowsInScript number old line step) where
-  pub lines_still : asked step ≡ [] → lines_of_begun old ++ line ∷ [] ≡ lines_of_begun (begun_in step.begun)
-  lines_still none =
-      ended_none step.request (lines_of_begun old ++ line ∷ []) (begun_in step.begun) none follows.taken
-
-  pub still_inside : asked step ≡ [] → is_refreshing (begun_in step.begun) ≡ true
-  still_inside none = let first = begins_so old line inside in
-      is_inside (begun_in step.begun) first.0 (sym (lines_still none) ∙ first.1)
-
   pub lines_whole : (actions : List Action) → asked step ≡ Refresh actions ∷ [] → lines_of_begun old
       ++ line ∷ [] ≡ lines_of_refresh actions
   lines_whole actions one =
       ended_one step.request (Refresh actions) (lines_of_begun old ++ line ∷ []) (begun_in step.begun) one
       follows.taken
-
-  pub no_question : (asking : Asking) → asked step ≡ Ask asking ∷ [] → ⊥
-  no_question asking one = let first = begins_so old line inside in
-      no_asking asking first.0 (sym first.1 ∙ ended_one step.request (Ask asking) (lines_of_begun old ++ line ∷ [])
-      (begun_in step.begun) one follows.taken)
-
-  pub no_drop : asked step ≡ Abort ∷ [] → ⊥
-  no_drop one =
-      let dropped = ended_one step.request Abort (lines_of_begun old ++ line ∷ []) (begun_in step.begun) one
-      follows.taken in
-      no_abort (lines_of_begun old) (lines_of_begun dropped.begun) line stands dropped.joined
 
   pub takes_refresh : (client : ℕ) (actions : List Action) → asked step ≡ Refresh actions ∷ []
       → Takes number (map (in_commit client) (lines_of_begun old ++ line ∷ []))
@@ -170,15 +104,6 @@ module _ (number : ℕ) (old : Begun) (line : ScriptLine) (step : ScriptStep) (i
             (All-nil IsWholeEntry) (All-head IsWholeRequest (Refresh actions) [] whole);
         unfinished = tt;
       }
-
-  pub takes_line : (client : ℕ) → asked step ≡ []
-      → Takes number (map (in_commit client) (lines_of_begun old ++ line ∷ []))
-      (record { entry = None; unfinished = unfinished.Commit (record { client = client; begun = step.begun }) })
-  takes_line client none = record {
-    lines = ap (map (in_commit client)) (lines_still none);
-    whole = All-nil IsWholeEntry;
-    unfinished = (still_inside none, follows.room, follows.settled);
-  }
 
 -- a line that may stand in a refresh, in a commit
 in_commit-inside : (client : ℕ) (line : ScriptLine) → StandsInside line → in_commit client line ≡ Inside line

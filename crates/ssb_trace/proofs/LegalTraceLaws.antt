@@ -1,17 +1,15 @@
 use Rattle.std.proofs.Common.{arith}
 -- A legal trace is allowed, where its parts are: its answers' rows are those of their questions.
-use Rattle.std.proofs.Common.{◌≡◌, ℕ, List, [], ◌∷◌, Some, IfSome, FitsSigned, refl, suc, zero, subst, inl, inr}
-use Rattle.std.proofs.Common.{slice_get, take}
-use Rattle.std.specs.Int.{w64}
+use Rattle.std.proofs.Common.{◌≡◌, ℕ, List, [], ◌∷◌, Some, refl, suc, zero, inl, inr}
+use Rattle.std.proofs.Common.{slice_get}
 use Rattle.std.specs.List.{AllByRecursion}
-use Rattle.row_store.specs.History.{CommitRecord, lines_after}
+use Rattle.row_store.specs.History.{CommitRecord}
 use Rattle.ssb_audit.specs.Legal.{IsTrueOf}
 use Rattle.ssb_audit.specs.declared.trace.Told.{Told}
 use Rattle.ssb_questions.specs.Members.{Has}
 use Rattle.ssb_answers.proofs.MemberLaws.{all_at}
 use Rattle.ssb_base.specs.Base.{Tables}
-use Rattle.ssb_schema.specs.Facts.{facts_of}
-use Rattle.ssb_trace.specs.Allowed.{AreTakenDimensions, HasAllowedHead, HasSums, IsAllowedRow, IsAllowedTold}
+use Rattle.ssb_trace.specs.Allowed.{AreTakenDimensions, HasAllowedHead, HasSums, IsAllowedTold}
 use Rattle.ssb_trace.specs.RoundTrip.{LegalTracesAreAllowed}
 use Rattle.ssb_trace.proofs.AnsweredRowLaws.{answers_have_allowed_rows}
 

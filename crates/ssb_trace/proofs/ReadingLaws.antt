@@ -11,9 +11,7 @@ use Rattle.row_store.specs.History.{CommitRecord}
 use Rattle.ssb_audit.specs.declared.trace.Told.{Told}
 use Rattle.ssb_audit.specs.declared.trace.Trace.{Trace}
 use Rattle.ssb_text.specs.Records.{GivesNext, HasGiven}
-use Rattle.ssb_text.specs.declared.records.ReadError.{ReadError}
 use Rattle.ssb_text.specs.declared.records.ReadError.TheVariants as read
-use Rattle.ssb_script.specs.Errors.{error_of_read}
 use Rattle.ssb_script.specs.Scripts.{first_of}
 use Rattle.ssb_script.specs.Steps.{IsFoundBy}
 use Rattle.ssb_script.specs.declared.error.ScriptError.{ScriptError}
@@ -189,11 +187,6 @@ pub too_long_fault : {R : Type 0} (remaining : R → Option (List ℕ)) (most : 
 too_long_fault remaining most known old new count commits answers begun fields so_far next few past text is =
     inr (inr (inl (first_fault remaining most text old new count commits answers begun fields error.TooLong
     (so_far text is) next few (past_bound most (count + 1) begun fields past))))
-
--- what an error of the reader tells
-pub read_fault : (most : ℕ) (text : List ℕ) (why : ReadError) → IsTraceFault most text (error_of_read why)
-read_fault most text read.Read = inl refl
-read_fault most text read.OutOfMemory = inr (inl refl)
 
 -- what the reading gives where there is no more record
 pub read_trace_all : {R : Type 0} (remaining : R → Option (List ℕ)) (most : ℕ) (known : Option (List ℕ))

@@ -1,6 +1,6 @@
 -- The text of a sum is read back as the sum.
 use Rattle.std.proofs.Common.{le-leb, lt-ltb, ◌≡◌, ℕ, suc, ◌^◌, ◌<◌, ◌≤◌, true, false, nat_eq, List, [], ◌∷◌, length}
-use Rattle.std.proofs.Common.{Some, refl, ap, ◌∙◌, arith}
+use Rattle.std.proofs.Common.{Some, refl, ◌∙◌, arith}
 use Rattle.std.specs.Prelude.{◌==◌, codes, decimal, ℤ, pos, negsuc}
 use Rattle.std.specs.Char.{is_ascii_digit}
 use Rattle.std.specs.Cmp.Lexicographic.{pointwise}
@@ -15,7 +15,7 @@ use Rattle.ssb_text.specs.Spelling.{without_spaces}
 use Rattle.ssb_text.proofs.FieldTextLaws.{IsKept}
 use Rattle.ssb_text.proofs.NumberTextLaws.{all_digits, digit_not, digits_kept, digits_plain, number_kept, number_read}
 use Rattle.ssb_text.proofs.RecordTextLaws.{and-left}
-use Rattle.ssb_trace.specs.Rows.{amount_of, negative, positive, signed_of}
+use Rattle.ssb_trace.specs.Rows.{amount_of, positive, signed_of}
 
 -- a minus before digits
 minus-kept : (ds : List ℕ) → list_all is_ascii_digit ds ≡ true → without_spaces (45 ∷ ds) ≡ 45 ∷ ds

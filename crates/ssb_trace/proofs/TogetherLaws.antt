@@ -38,10 +38,6 @@ use Rattle.ssb_trace.specs.Together.{IsClosed, SpellEach}
 abbrev ArePlain : List ℕ → Type 0
 ArePlain bytes = AllByRecursion (λ b. (b ≢ 13) × (b ≢ 239)) bytes
 
-plain_parts : (xs ys : List ℕ) → ArePlain (xs ++ ys) → ArePlain xs × ArePlain ys
-plain_parts [] ys plain = (tt, plain)
-plain_parts (b ∷ xs) ys plain = let rest = plain_parts xs ys plain.1 in ((plain.0, rest.0), rest.1)
-
 no_returns : (bytes : List ℕ) → ArePlain bytes → HasNoLoneReturn bytes
 no_returns [] plain = tt
 no_returns (b ∷ []) plain = plain.0.0

@@ -1,7 +1,7 @@
 -- The constants of a question and the group columns of a row are read back.
 use Rattle.std.proofs.Common.{suc, ltb-false, lt-ltb, eqb-true, ◌≡◌, ℕ, ◌+◌, ◌^◌, ◌≤◌, Bool, true, false, not, nat_eq}
 use Rattle.std.proofs.Common.{nat_lt, List, [], ◌∷◌, ◌++◌, length, map, zip, position, Option, Some, None, option_map}
-use Rattle.std.proofs.Common.{refl, sym, ap, ◌∙◌, append_assoc, length-append, subst, arith, inl, inr}
+use Rattle.std.proofs.Common.{refl, sym, ap, ◌∙◌, append_assoc, length-append, arith, inl, inr}
 use Rattle.std.specs.List.{AllByRecursion, AllZip, position_or_len}
 use Rattle.std.proofs.lemmas.Bool.{cases_Bool}
 use Rattle.std.proofs.lemmas.Option.{none-some}
@@ -10,11 +10,9 @@ use Rattle.ssb_questions.specs.Question.{fault_by}
 use Rattle.ssb_questions.specs.declared.kind.ConstantKind.{ConstantKind}
 use Rattle.ssb_questions.specs.declared.kind.ConstantKind.TheVariants as kind
 use Rattle.ssb_questions.specs.declared.query.Query.{Query}
-use Rattle.ssb_questions.specs.declared.question.ConstantsFault.TheVariants.{BadConstant}
 use Rattle.ssb_questions.specs.declared.value.Value.{Value}
 use Rattle.ssb_questions.specs.declared.value.Value.TheVariants as value
 use Rattle.ssb_report.specs.AnswerText.{value_text}
-use Rattle.ssb_text.specs.Spelling.{field}
 use Rattle.ssb_schema.specs.Columns.{is_plain}
 use Rattle.ssb_schema.specs.declared.column.Column.{Column}
 use Rattle.ssb_script.specs.Lines.{constant_spelled, constants_from}

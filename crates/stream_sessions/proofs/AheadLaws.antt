@@ -1,25 +1,12 @@
 -- Requests that were read before their turn, at the front of what a reader has at hand.
-use Rattle.std.proofs.Common.{◌≡◌, ◌≤◌, ℕ, Bool, true, false, List, [], ◌∷◌, ◌++◌, length, take, drop, Option, Some}
-use Rattle.std.proofs.Common.{None, Result, Ok, Err, sym, ap, subst, ◌∙◌, append_assoc, if◌then◌else◌}
+use Rattle.std.proofs.Common.{◌≡◌, ◌≤◌, ℕ, List, [], ◌∷◌, ◌++◌, take, drop}
+use Rattle.std.proofs.Common.{Result, Ok, Err, sym, ap, subst, ◌∙◌, if◌then◌else◌}
 use Rattle.std.specs.Prelude.{OnOk}
-use Rattle.std.specs.Io.BufRead.{DropsConsumable}
-use Rattle.std.specs.Io.KnownBytes.{Consumes, prepend_known}
-use Rattle.std.proofs.lemmas.List.{drop-append-le, take-append-drop}
+use Rattle.std.proofs.lemmas.List.{take-append-drop}
 use Rattle.ssb_script.specs.Ahead.{AskFirst, IsWhole}
 use Rattle.ssb_script.proofs.AheadLaws.{ask_behind, ask_nothing}
 use Rattle.ssb_script.specs.Requests.{RequestRecord}
 use Rattle.stream_sessions.specs.Steps.{TakesRequest}
-
--- the first bytes of a buffer are taken of what a reader has left
-pub consumed_front : (unknown : Bool) (inner left : Option (List ℕ)) (buffer : List ℕ) (size : ℕ) → size ≤ length buffer
-    → DropsConsumable (if unknown then None else prepend_known buffer inner) left (Some (length buffer)) size
-    → Consumes (if unknown then None else prepend_known buffer inner) left (take size buffer)
-consumed_front true inner left buffer size within drops = tt
-consumed_front false None left buffer size within drops = tt
-consumed_front false (Some xs) left buffer size within drops =
-    subst (λ l. Consumes (Some (buffer ++ xs)) l (take size buffer)) (sym (drops within))
-    (ap (λ t. t ++ xs) (sym (take-append-drop size buffer)) ∙ append_assoc (take size buffer) (drop size buffer) xs
-    ∙ ap (λ t. take size buffer ++ t) (sym (drop-append-le size buffer xs within)))
 
 pub takes_front : (old new : List ℕ) (size : ℕ) → IsWhole size old → new ≡ drop size old → TakesRequest old new
 takes_front old new size whole left = record {

@@ -1,21 +1,19 @@
 -- Serving one request after another.
-use Rattle.std.proofs.Common.{◌≡◌, ℕ, ◌+◌, ◌<◌, ◌≤◌, suc, false, List, [], ◌∷◌, ◌++◌, length, take, flat_map, Option}
+use Rattle.std.proofs.Common.{◌≡◌, ℕ, ◌+◌, ◌<◌, ◌≤◌, false, List, [], ◌∷◌, ◌++◌, length, take, flat_map, Option}
 use Rattle.std.proofs.Common.{Some, None, Result, Ok, Err, refl, sym, ◌∙◌, ap, subst, append_assoc, append-nil}
 use Rattle.std.proofs.Common.{length-append, arith}
 use Rattle.std.proofs.Math.Seq.{take-append-add, take-append_seam}
 use Rattle.std.proofs.lemmas.List.Concat.{flat_map-append}
 use Rattle.std.specs.Prelude.{IfSome}
 use Rattle.std.specs.Option.{is_some}
-use Rattle.std.specs.Io.KnownBytes.{Appends, Keeps}
 use Rattle.ssb_schema.specs.declared.refresh.Action.{Action}
 use Rattle.row_store.specs.declared.commit.Receipt.{Receipt}
 use Rattle.row_store.specs.declared.refusal.RefreshError.{RefreshError}
 use Rattle.row_store.specs.declared.refusal.RefreshError.TheVariants as refusal
 use Rattle.history.specs.Tokens.{TokenRecord, IsSound}
 use Rattle.history.specs.Members.{number_of}
-use Rattle.ssb_script.specs.Requests.{RequestRecord, Refresh, Ask, Abort, questions_in}
-use Rattle.ssb_report.specs.Replies.{Reply, Refreshed, Answered, Aborted, reply_text}
-use Rattle.ssb_report.specs.Report.{report_of}
+use Rattle.ssb_script.specs.Requests.{RequestRecord, Refresh, Ask, Abort}
+use Rattle.ssb_report.specs.Replies.{Reply, Refreshed, Answered, Aborted}
 use Rattle.ssb_text.proofs.WrittenLaws.{appends_none, appends_both}
 use Rattle.ssb_clients.specs.Clients as client
 use Rattle.row_store.specs.History.{CommitRecord}
@@ -48,15 +46,6 @@ pub refreshed_alike : (before : TokenRecord) (number : ℕ) (actions : List Acti
 refreshed_alike before number actions (Ok receipt) after refreshed quiet = grind (arith, asks_nothing)
 refreshed_alike before number actions (Err (refusal.Refused at action cause)) after refreshed quiet = grind (arith, asks_nothing)
 refreshed_alike before number actions (Err refusal.OutOfMemory) after refreshed quiet = grind (arith, asks_nothing)
-
--- what is as it was
-keeps_same : (a : Option (List ℕ)) → Keeps a a
-keeps_same None = tt
-keeps_same (Some xs) = refl
-
-pub stops_before : (number : ℕ) (old : TokenRecord) (request : RequestRecord) (told : Option (List Told)) (a : Option (List ℕ))
-    → StopsIn OutOfMemory number old old request told told a a
-stops_before number old request told a = (refl, refl, keeps_same a)
 
 pub alike_itself : (old : TokenRecord) → is_some old.asked ≡ false → AreAlike old old
 alike_itself old quiet = record { table = refl; who = refl; quiet = asks_nothing old.asked quiet }

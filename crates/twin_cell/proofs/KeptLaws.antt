@@ -19,9 +19,6 @@ record Fits (base : Tables) (list : List CommitRecord) (v : CellView) : Type 0 w
   told : IsPrefix v.told list
   over : IsOver base v
 
-EachFits : Tables → List CommitRecord → List CellView → Type 0
-EachFits base list views = (seat : ℕ) (v : CellView) → get_elem? views seat ≡ some v → Fits base list v
-
 each : {s : State} {views : List CellView} (h : Follows s views) (seat : ℕ) (v : CellView)
     → get_elem? views seat ≡ some v → Fits s.base h.list v
 each h seat v at = record { told = h.told seat v at; over = h.over seat v at }
@@ -125,7 +122,3 @@ module _ {X : Type 0} (state : X → State) where
       let now : Fits (state x).base h.list w = each h other w theirs in
       follows (state x) _ h.list h.stands (fits_set (state x).base h.list (set views seat w) other newcomer
       (fits_set (state x).base h.list views seat w (each h) now) (fits_newcomer _ _))
-
-  pub opens : (x : X) → state x ≡ state_of (state x).base [] → Holds x (newcomer ∷ [])
-  opens x stands = follows (state x) (newcomer ∷ []) [] stands
-      (fits_snoc (state x).base [] [] newcomer (λ j v e. absurd (cc)) (fits_newcomer _ _))
