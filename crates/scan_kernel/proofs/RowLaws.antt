@@ -1,6 +1,6 @@
 -- Rows made number by number.
-use Rattle.std.proofs.Common.{ℕ, zero, ◌≡◌, ◌+◌, ◌*◌, ◌/◌, ◌%◌, ◌<◌, ◌≤◌, suc, List, [], ◌∷◌, ◌++◌, length, map, drop}
-use Rattle.std.proofs.Common.{get_or, true, false, cond, ap, ◌∙◌, arith, add-one}
+use Rattle.std.proofs.Common.{ℕ, zero, ◌≡◌, ◌+◌, ◌*◌, ◌/◌, ◌%◌, ◌<◌, ◌≤◌, suc, List, [], ◌∷◌, ◌++◌, map, drop}
+use Rattle.std.proofs.Common.{true, false, cond, ap, ◌∙◌, arith, add-one}
 use Rattle.std.specs.Prelude.{ℤ, nat_lt, filter}
 use Rattle.std.specs.List.{range_with_len}
 use Rattle.std.proofs.lemmas.List.{append-nil, map-append}
@@ -13,10 +13,6 @@ use Rattle.scan_kernel.specs.Dense.{live, dense_row, dense_rows}
 pub record ValuesUpTo (columns : List (List Value)) (number at left : ℕ) (group : List Value) : Type 0 where
   pub below : left < size_of (counts_of (drop at columns))
   pub values : group ++ group_values (drop at columns) left ≡ group_values columns number
-
-module _ (columns : List (List Value)) (number at left : ℕ) (group : List Value) (column : List Value)
-    (within : at < length columns) (is : column ≡ get_or columns at column)
-    (h : ValuesUpTo columns number at left group) where
 
 range_more : (a n : ℕ) → range_with_len a (n + 1) ≡ range_with_len a n ++ (a + n) ∷ []
 range_more a n = rw add-one (more a n)

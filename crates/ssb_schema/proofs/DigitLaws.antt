@@ -15,9 +15,7 @@ power n = rw (add-one, pow-suc) refl
 
 -- 19 digits write numbers of 64 bits
 pub few_digits : (n : ℕ) → n ≤ 19 → 10 ^ n < 2 ^ 64
-few_digits n few =
-    let most : 10 ^ n ≤ 10 ^ 19 = pow-le-pow_right (lit≤ tt) few in
-    omega (arith, most)
+few_digits n few = grind (arith, pow-le-pow_right, lit≤)
 
 pub digit_most : (c : ℕ) → is_ascii_digit c ≡ true → c ≤ 57
 digit_most c digit = grind (arith, nat_tests)

@@ -29,9 +29,7 @@ neither false false f e = (refl, refl)
 -- a number without a fault is within its range
 in_range : (column : Column) (least most n : ℕ) → column_fault column (kind.Number least most) (Number n) ≡ None
     → (least ≤ n) × (n ≤ most)
-in_range column least most n e =
-    let h = neither (nat_lt n least) (nat_lt most n) _ e in
-    (ltb-false n least h.0, ltb-false most n h.1)
+in_range column least most n e = grind (arith, neither, nat_lt, ltb-false)
 
 -- each number of a row without a fault is within its range
 pub number_within : (t : Table) (place i least most n : ℕ) (ks : List Kind) (vs : List Value)
