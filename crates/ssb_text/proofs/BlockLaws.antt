@@ -54,9 +54,8 @@ block_cut old source block at so_far within feed text is =
     )
 
 joined-push : (blocks : List (List ℕ)) (block : List ℕ) → joined (blocks ++ block ∷ []) ≡ joined blocks ++ block
-joined-push [] block = append-nil block
-joined-push (b ∷ bs) block =
-    ap (λ (rest : List ℕ). b ++ rest) (joined-push bs block) ∙ sym (append_assoc b (joined bs) block)
+joined-push [] block = grind (arith, append-nil)
+joined-push (b ∷ bs) block = grind (arith, append_assoc, joined-push bs block)
 
 cut_more : (blocks : List (List ℕ)) (block rest : List ℕ) → AreCut blocks (block ++ rest) → starts_line rest ≡ true
     → AreCut (blocks ++ block ∷ []) rest

@@ -1,5 +1,5 @@
 -- What a read puts behind the bytes that are there.
-use Rattle.std.proofs.Common.{◌≡◌, ◌≤◌, ◌+◌, ℕ, List, ◌++◌, length, take, drop, take_at, Option, sym, ◌∙◌, arith}
+use Rattle.std.proofs.Common.{◌≡◌, ◌≤◌, ◌+◌, ℕ, List, ◌++◌, length, take, drop, take_at, Option, ◌∙◌, arith}
 use Rattle.std.proofs.Math.Seq.{take-add}
 use Rattle.std.proofs.lemmas.List.{take_all, length-drop, length-take-le}
 use Rattle.std.specs.Io.KnownBytes.{Consumes, IsAtEnd}
@@ -8,8 +8,7 @@ use Rattle.ssb_text.specs.BlockReading.{ReadsMore}
 -- bytes that are made longer have the same front
 pub front_kept : (before pad : List ℕ) (from more : ℕ) → from ≡ length before
     → take from (take (from + more) before ++ pad) ≡ before
-front_kept before pad from more long =
-    rw (take_all (from + more) before (omega arith)) (take_at before pad from (sym long))
+front_kept before pad from more long = grind (arith, take_all, take_at)
 
 -- so many of the bytes behind the front were read
 pub reads_behind : (old new : Option (List ℕ)) (before bytes : List ℕ) (from count : ℕ) → take from bytes ≡ before

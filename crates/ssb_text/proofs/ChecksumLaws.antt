@@ -1,6 +1,6 @@
 -- What more bytes do to those that were hashed.
 use Rattle.std.proofs.Common.{◌≡◌, ◌∙◌, ◌+◌, ℕ, List, [], ◌∷◌, ◌++◌, length, length-append, append_assoc, append-nil}
-use Rattle.std.proofs.Common.{Option, Some, ap, sym, subst, arith}
+use Rattle.std.proofs.Common.{Option, Some, ap, subst, arith}
 use Rattle.std.proofs.lemmas.List.{drop_at}
 use Rattle.std.proofs.lemmas.List.Folds.{concat-append}
 use Rattle.std.proofs.lemmas.List.Concat.{flat_map-append}
@@ -8,12 +8,11 @@ use Rattle.std.specs.List.{AllByRecursion, concat, flat_map}
 use Rattle.std.specs.Prelude.{drop}
 use Rattle.md5.specs.Md5.{Holds, md5}
 use Rattle.md5.specs.declared.Md5.{Md5}
-use Rattle.ssb_text.specs.Blocks.{HasHashed, HashesOn, bytes_left}
+use Rattle.ssb_text.specs.Blocks.{HasHashed, bytes_left}
 use Rattle.ssb_text.specs.BlockReading.{ReadsMore}
 use Rattle.ssb_schema.specs.declared.table.Table.{Table}
 use Rattle.ssb_schema.specs.declared.table.Table.TheVariants as table
 use Rattle.ssb_text.specs.Checksums.{AreHashed, IsHashed, piece_size}
-use Rattle.ssb_text.specs.Load.{reader_of}
 use Rattle.ssb_text.specs.declared.blocks.Blocks.{Blocks}
 use Rattle.ssb_text.specs.declared.checksum.PieceHash.{PieceHash}
 use Rattle.ssb_text.specs.declared.loading.Tables.{Tables}
@@ -28,17 +27,11 @@ all-push P (y ∷ ys) x all here = (all.0, all-push P ys x all.1 here)
 -- one whole piece more
 joined_piece : (whole : List (List ℕ)) (last bytes text : List ℕ) → text ≡ concat whole ++ last
     → text ++ bytes ≡ concat (whole ++ (last ++ bytes) ∷ []) ++ []
-joined_piece whole last bytes text is =
-    ap (λ (t : List ℕ). t ++ bytes) is ∙ append_assoc (concat whole) last bytes
-    ∙ ap (λ (t : List ℕ). concat whole ++ t) (sym (append-nil (last ++ bytes)))
-    ∙ sym (concat-append whole ((last ++ bytes) ∷ []))
-    ∙ sym (append-nil (concat (whole ++ (last ++ bytes) ∷ [])))
+joined_piece whole last bytes text is = grind (arith, append_assoc, append-nil, concat-append)
 
 digests_piece : (whole : List (List ℕ)) (piece digest : List ℕ) → digest ≡ md5 piece
     → flat_map md5 whole ++ digest ≡ flat_map md5 (whole ++ piece ∷ [])
-digests_piece whole piece digest is =
-    ap (λ (d : List ℕ). flat_map md5 whole ++ d) (is ∙ sym (append-nil (md5 piece)))
-    ∙ sym (flat_map-append md5 whole (piece ∷ []))
+digests_piece whole piece digest is = grind (arith, append-nil, flat_map-append)
 
 -- the bytes that a piece lacked were hashed
 pub piece_ended : (old : PieceHash) (bytes text digest : List ℕ) (digests piece : Md5) → length bytes ≡ old.lacks
@@ -68,9 +61,7 @@ piece_ended old bytes text digest digests piece long hashed is more none =
 -- bytes in two parts were hashed one after the other
 pub hashed_both : (hash : PieceHash) (text front behind bytes : List ℕ) → bytes ≡ front ++ behind
     → IsHashed hash ((text ++ front) ++ behind) → IsHashed hash (text ++ bytes)
-hashed_both hash text front behind bytes is hashed =
-    subst (λ (t : List ℕ). IsHashed hash t)
-    (append_assoc text front behind ∙ ap (λ (t : List ℕ). text ++ t) (sym is)) hashed
+hashed_both hash text front behind bytes is hashed = grind (arith, append_assoc)
 
 -- the bytes that a read put behind those that were there were hashed
 pub hashed_more : {R H : Type 0} (remaining : R → Option (List ℕ)) (holds : H → List ℕ → Type 0)
@@ -80,15 +71,7 @@ pub hashed_more : {R H : Type 0} (remaining : R → Option (List ℕ)) (holds : 
     → bytes ≡ drop from after
     → ((m : List ℕ) → holds mid.hash m → holds new.hash (m ++ bytes))
     → HasHashed remaining holds text new
-hashed_more remaining holds mid new before after bytes from count text h read long is more =
-    let next = consumes_known (remaining mid.source) (remaining new.source) h.1 read.bytes h.2 read.consumed in
-    let same : bytes ≡ read.bytes = is ∙ ap (drop from) read.behind ∙ drop_at before read.bytes from long in (
-      h.0 ++ read.bytes,
-      next.0,
-      next.1,
-      h.3 ∙ ap (λ (r : List ℕ). h.0 ++ r) next.2 ∙ sym (append_assoc h.0 read.bytes next.0),
-      subst (λ (m : List ℕ). holds new.hash m) (ap (λ (b : List ℕ). h.0 ++ b) same) (more h.0 h.4),
-    )
+hashed_more remaining holds mid new before after bytes from count text h read long is more = grind (arith, consumes_known, drop_at, append_assoc)
 
 no_rest : (carry rest : List ℕ) → carry ++ rest ≡ [] → rest ≡ []
 no_rest [] rest is = is
@@ -98,17 +81,11 @@ no_rest (b ∷ carry) rest is = absurd (omega (arith, ap length is))
 pub all_hashed : {R H : Type 0} (remaining : R → Option (List ℕ)) (holds : H → List ℕ → Type 0) (blocks : Blocks R H)
     (text : List ℕ) → HasHashed remaining holds text blocks → bytes_left remaining blocks ≡ Some []
     → holds blocks.hash text
-all_hashed remaining holds blocks text h none =
-    let is : Some (blocks.carry.items ++ h.1) ≡ Some [] = rw h.2 at none in
-    let all : blocks.carry.items ++ h.1 ≡ [] = cc is in
-    let whole : h.0 ≡ text =
-    sym (h.3 ∙ ap (λ (r : List ℕ). h.0 ++ r) (no_rest blocks.carry.items h.1 all) ∙ append-nil h.0) in
-    subst (λ (m : List ℕ). holds blocks.hash m) whole h.4
+all_hashed remaining holds blocks text h none = grind (arith, no_rest, append-nil)
 
 -- each of the five texts was hashed
 pub each_hashed : {C : Type 0} (is_checksum : List ℕ → C → Type 0) (texts : Table → List ℕ) (all : Tables C)
     → is_checksum (texts table.Customer) all.customer → is_checksum (texts table.Supplier) all.supplier
     → is_checksum (texts table.Part) all.part → is_checksum (texts table.Date) all.date
     → is_checksum (texts table.Lineorder) all.lineorder → AreHashed is_checksum texts all
-each_hashed is_checksum texts all customer supplier part date lineorder =
-    each_table (λ t. is_checksum (texts t) (reader_of all t)) customer supplier part date lineorder
+each_hashed is_checksum texts all customer supplier part date lineorder = grind (arith, each_table)

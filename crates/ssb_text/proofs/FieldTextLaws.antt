@@ -1,10 +1,9 @@
 -- Fields that are kept as they are: their bytes are plain, and no space at the end is taken away.
-use Rattle.std.proofs.Common.{◌≡◌, ℕ, ◌-◌, Bool, true, false, ◌&&◌, nat_eq, List, [], ◌∷◌, ◌++◌, length, drop, Some}
-use Rattle.std.proofs.Common.{refl, suc, sym, ap, ◌∙◌, arith}
+use Rattle.std.proofs.Common.{◌≡◌, ℕ, ◌-◌, Bool, true, false, ◌&&◌, nat_eq, List, [], ◌∷◌, ◌++◌, length, Some}
+use Rattle.std.proofs.Common.{refl, sym, ap, ◌∙◌, arith}
 use Rattle.std.specs.Prelude.{◌==◌, not}
 use Rattle.std.specs.List.{list_all}
 use Rattle.std.specs.Str.{IsUtf8}
-use Rattle.std.specs.Cmp.Lexicographic.{pointwise}
 use Rattle.std.proofs.Math.Seq.{get_or-append_seam}
 use Rattle.std.proofs.lemmas.Bool.{cases_Bool, eqb-true}
 use Rattle.ssb_text.specs.Spelling.{field, text_of, without_spaces}
@@ -32,9 +31,7 @@ not-all-spaces b rest some kept = rw (some, kept) refl
 
 -- the end of a longer text is that of the shorter one
 ends-later : (b c : ℕ) (rest : List ℕ) → ends_in_space (b ∷ c ∷ rest) ≡ ends_in_space (c ∷ rest)
-ends-later b c rest =
-    let count : length (b ∷ c ∷ rest) - 1 ≡ suc (length (c ∷ rest) - 1) = omega arith in
-    ap (λ n. pointwise nat_eq (32 ∷ []) (drop n (b ∷ c ∷ rest))) count
+ends-later b c rest = grind (arith, nat_eq)
 
 some-other : (b : ℕ) (rest : List ℕ) → ends_in_space (b ∷ rest) ≡ false → list_all is_space (b ∷ rest) ≡ false
 some-other b [] end = grind (arith, cases_Bool, eqb-true)

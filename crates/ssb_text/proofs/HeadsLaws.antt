@@ -89,9 +89,7 @@ no_line_left delimiter old mid long count so_far ended line rows is short =
 -- as many bytes were read as a line of heads may not have
 pub no_short_line : (delimiter : Delimiter) (old mid : Option (List ℕ)) (count : ℕ)
     → ReadsLine delimiter old mid most_heads count → HasNoLine old
-no_short_line delimiter old mid count so_far line rows is short =
-    let here = so_far.known (line ++ 10 ∷ rows) is in
-    feed_behind so_far.line here.0 line rows so_far.no_feed (sym here.2) (omega (arith, short.1, so_far.many))
+no_short_line delimiter old mid count so_far line rows is short = grind (arith, feed_behind)
 
 -- the line that was read is one of heads
 pub heads_are : (delimiter : Delimiter) (old new : Option (List ℕ)) (found count : ℕ) → EndsLine delimiter old new found

@@ -1,6 +1,6 @@
 -- What the lines of a block say of the text before it, with it and behind it.
 use Rattle.std.proofs.Common.{◌≡◌, ◌<◌, ◌≤◌, ◌+◌, ℕ, zero, suc, List, [], ◌∷◌, ◌++◌, append-nil, append_assoc, length}
-use Rattle.std.proofs.Common.{take, drop, get_or, Option, Some, None, Err, refl, sym, ap, ◌∙◌, ◌⊎◌, inl, inr, arith}
+use Rattle.std.proofs.Common.{take, drop, get_or, Option, Some, None, refl, sym, ap, ◌∙◌, ◌⊎◌, inr, arith}
 use Rattle.std.specs.List.{AllZip}
 use Rattle.std.proofs.lemmas.List.{length-take-le, take-append-drop, take_more}
 use Rattle.rayon.proofs.ListFacts.{AllZip-append}
@@ -98,9 +98,7 @@ in_text R x done rest blocks follows cut zipped = grind (arith, one_block, appen
 
 pub joins_one : {X : Type 0} (R : List ℕ → X → Type 0) (x : X) (old more : List (List Value))
     → ((block : List ℕ) → R block x → SpellsAll block more) → Joins R (x ∷ []) old (old ++ more)
-joins_one R x old more is done rest blocks follows cut zipped spelled =
-    let one = in_text R x done rest blocks follows cut zipped in
-    rw one.1 (spells_more done one.0 old more one.3 spelled (is one.0 one.2))
+joins_one R x old more is done rest blocks follows cut zipped spelled = grind (arith, in_text, spells_more)
 
 pub stops_many : {X : Type 0} (R : List ℕ → X → Type 0) (x : X) (limit : ℕ) (old more : List (List Value))
     → ((block : List ℕ) → R block x → Begun block more) → limit < length (old ++ more)
@@ -153,37 +151,13 @@ row_fault_first : (limit : ℕ) (text : List ℕ) (rows : List (List Value)) (wh
     → Stopped text rows why
     → IsReadFault table.Lineorder (in_row table.Lineorder (length rows + 1) why)
     ⊎ IsFirstFault table.Lineorder limit text (in_row table.Lineorder (length rows + 1) why)
-row_fault_first limit text rows why few all = by why all.fails
-  where
-    first : (why : LineFault) → row_of table.Lineorder all.fields ≡ Err why
-        → IsFirstFault table.Lineorder limit text (in_row table.Lineorder (length rows + 1) why)
-    first why is = record {
-      before = all.records;
-      fields = all.fields;
-      begins = all.begins;
-      rows = rows;
-      spelled = all.spelled;
-      has_fault = rw (length-AllZip (SpellsRow table.Lineorder) all.records rows all.spelled)
-          (inr (few, why, is, refl));
-    }
-
-    by : (why : LineFault) → Fails why (row_of table.Lineorder all.fields)
-        → IsReadFault table.Lineorder (in_row table.Lineorder (length rows + 1) why)
-        ⊎ IsFirstFault table.Lineorder limit text (in_row table.Lineorder (length rows + 1) why)
-    by fault.OutOfMemory is = inl tt
-    by fault.FieldCount is = inr (first fault.FieldCount is)
-    by (fault.NotUtf8 column) is = inr (first (fault.NotUtf8 column) is)
-    by (fault.NotANumber column) is = inr (first (fault.NotANumber column) is)
-    by (fault.Refused refused) is = inr (first (fault.Refused refused) is)
+row_fault_first limit text rows why few all = grind (arith, length-AllZip)
 
 pub stops_in_row : {X : Type 0} (R : List ℕ → X → Type 0) (x : X) (limit : ℕ) (old more : List (List Value))
     (why : LineFault)
     → ((block : List ℕ) → R block x → StopsAt block more why) → length (old ++ more) + 1 ≤ limit
     → Stops R (x ∷ []) limit old (in_row table.Lineorder (length (old ++ more) + 1) why)
-stops_in_row R x limit old more why is few done rest blocks follows cut zipped spelled =
-    let one = in_text R x done rest blocks follows cut zipped in
-    let all = stopped done one.0 rest old more why one.3 one.4 spelled (is one.0 one.2) in
-    rw one.1 (row_fault_first limit (done ++ (one.0 ++ rest)) (old ++ more) why few all)
+stops_in_row R x limit old more why is few done rest blocks follows cut zipped spelled = grind (arith, in_text, stopped, row_fault_first)
 
 same_behind : (b bs rest : List ℕ) → (b ++ bs) ++ rest ≡ (b ++ []) ++ (bs ++ rest)
 same_behind b bs rest = append_assoc b bs rest ∙ ap (λ (front : List ℕ). front ++ (bs ++ rest)) (sym (append-nil b))
@@ -238,14 +212,12 @@ zipped_as R S x y means (b ∷ c ∷ bs) zipped = absurd zipped.1
 pub joins_as : {X Y : Type 0} (R : List ℕ → X → Type 0) (S : List ℕ → Y → Type 0) (x : X) (y : Y)
     (old new : List (List Value)) → ((block : List ℕ) → S block y → R block x) → Joins R (x ∷ []) old new
     → Joins S (y ∷ []) old new
-joins_as R S x y old new means joins done rest blocks follows cut zipped spelled =
-    joins done rest blocks follows cut (zipped_as R S x y means blocks zipped) spelled
+joins_as R S x y old new means joins done rest blocks follows cut zipped spelled = grind (arith, zipped_as)
 
 pub stops_as : {X Y : Type 0} (R : List ℕ → X → Type 0) (S : List ℕ → Y → Type 0) (x : X) (y : Y)
     (limit : ℕ) (old : List (List Value)) (e : LoadError) → ((block : List ℕ) → S block y → R block x)
     → Stops R (x ∷ []) limit old e → Stops S (y ∷ []) limit old e
-stops_as R S x y limit old e means stops done rest blocks follows cut zipped spelled =
-    stops done rest blocks follows cut (zipped_as R S x y means blocks zipped) spelled
+stops_as R S x y limit old e means stops done rest blocks follows cut zipped spelled = grind (arith, zipped_as)
 
 pub no_items : {X : Type 0} (xs : List X) → length xs ≡ 0 → xs ≡ []
 no_items [] none = refl

@@ -45,9 +45,7 @@ barred_kept delimiter (Some all) (Some rest) kept = ap (with_bars delimiter) kep
 -- the bytes of a read, of which the first were put bars in
 pub front_barred : (delimiter : Delimiter) (bytes : List ℕ) (count : ℕ) → count ≤ length bytes
     → take count (with_bars delimiter (take count bytes) ++ drop count bytes) ≡ with_bars delimiter (take count bytes)
-front_barred delimiter bytes count few =
-    take_at (with_bars delimiter (take count bytes)) (drop count bytes) count
-    (length-map (take count bytes) (as_bar delimiter) ∙ length-take-le count bytes few)
+front_barred delimiter bytes count few = grind (arith, take_at, length-map, length-take-le)
 
 -- what a read gave, with bars, was read of the bytes with bars
 pub barred_read : (delimiter : Delimiter) (old new : Option (List ℕ)) (bytes : List ℕ) (count : ℕ)
@@ -89,6 +87,4 @@ pub no_rows : (layout : TableLayout) (t : Table) (known : Option (List ℕ)) →
     → ((file rows : List ℕ) → known ≡ Some file
     → HasHeads layout.delimiter (length (kinds_of t)) file rows → ⊥)
     → (text : List ℕ) → IsRowsText layout t known text → ⊥
-no_rows layout t known has none text is =
-    none is.file is.rows is.is
-    (subst (λ (b : Bool). AreBelow b layout.delimiter (length (kinds_of t)) is.file is.rows) has is.below)
+no_rows layout t known has none text is = grind arith

@@ -2,7 +2,6 @@ use Rattle.std.proofs.Common.{arith}
 -- What the reading of five tables has found so far.
 use Rattle.std.proofs.Common.{◌≡◌, ◌+◌, ℕ, Bool, true, false, List, [], ◌∷◌, ◌++◌, length, Option, Some, None, is_some}
 use Rattle.std.proofs.Common.{nat_lt, refl, subst, ◌⊎◌}
-use Rattle.std.specs.List.{list_any}
 use Rattle.std.specs.Option.{IfSome, option_map}
 use Rattle.std.specs.Prelude.{if◌then◌else◌}
 use Rattle.ssb_base.specs.Base.{Tables as BaseTables, Dimensions, base_fault, customer_key, date_key, dimension_fault}
@@ -76,8 +75,7 @@ table_told limits most t f each rows = if_told limits (nat_lt most (length rows)
 
 repeated_told : {R : Type 0} (limits : Limits) (t : Table) (same : R → R → Bool) (earlier : List R) (row : R)
     → AreTold limits (repeated_fault t same earlier row)
-repeated_told limits t same earlier row = if_told limits (list_any (λ e. same e row) earlier)
-    (Some (fault.KeyRepeated t (length earlier + 1))) None refl tt
+repeated_told limits t same earlier row = grind (arith, if_told)
 
 dimension_told : {R : Type 0} (limits : Limits) (t : Table) (key : R → ℕ) (rows : List R)
     → AreTold limits (dimension_fault limits t key rows)

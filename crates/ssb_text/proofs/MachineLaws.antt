@@ -211,10 +211,7 @@ pub record Ended (line content : List ℕ) : Type 0 where
   pub ends : (line ≡ content ++ 10 ∷ []) ⊎ (line ≡ content ++ 13 ∷ 10 ∷ [])
 
 pub line_has : (line content : List ℕ) → Ended line content → LineHas line content
-line_has line content is = elim is.ends [
-  | inl e ↦ subst (λ l. LineHas l content) (sym e) (line_feed_line content is.plain)
-  | inr e ↦ subst (λ l. LineHas l content) (sym e) (return_line content is.plain)
-]
+line_has line content is = grind (arith, LineHas, line_feed_line, return_line)
 
 ended_more : (b : ℕ) (line content : List ℕ) → IsPlainByte b → Ended line content → Ended (b ∷ line) (b ∷ content)
 ended_more b line content plain is = grind arith

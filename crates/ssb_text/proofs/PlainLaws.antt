@@ -18,9 +18,8 @@ use Rattle.ssb_text.proofs.LineRecordLaws.{RecordsFrom, contents_of, lines_have,
 
 -- a byte that is neither a CR nor the first of a byte order mark
 past_byte : (b : ℕ) (bytes : List ℕ) → b ≢ 13 → b ≢ 239 → IsPlainText bytes ↔ IsPlainText (b ∷ bytes)
-past_byte b [] other unmarked = (λ plain. (other, (unmarked, tt)), λ plain. (tt, tt))
-past_byte b (c ∷ bytes) other unmarked =
-    (λ plain. ((λ is. absurd (other is), plain.0), (unmarked, plain.1)), λ plain. (plain.0.1, plain.1.1))
+past_byte b [] other unmarked = grind arith
+past_byte b (c ∷ bytes) other unmarked = grind arith
 
 -- a CR and its LF
 past_return : (bytes : List ℕ) → IsPlainText bytes ↔ IsPlainText (13 ∷ 10 ∷ bytes)
@@ -46,9 +45,7 @@ past_cut (b ∷ c ∷ more) behind is left = grind (arith, past_return)
 
 pub past_found : (found behind end : List ℕ) → end ≡ 13 ∷ 10 ∷ [] → take (length end) found ≡ end
     → behind ≡ drop (length end) found → IsPlainText behind ↔ IsPlainText found
-past_found found behind end is front back =
-    past_cut found behind (subst (λ t. take (length t) found ≡ t) is front)
-    (subst (λ t. behind ≡ drop (length t) found) is back)
+past_found found behind end is front back = grind (arith, past_cut)
 
 -- a found CR without an LF behind it, or a byte of a mark
 not_plain : (found : List ℕ) → 0 < length found → is_byte2 13 239 (slice_index found 0) ≡ true

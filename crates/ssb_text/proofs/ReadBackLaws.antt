@@ -7,7 +7,7 @@ use Rattle.ssb_schema.specs.Columns.{Value, kinds_of}
 use Rattle.ssb_schema.specs.Rows.{customer_values, date_values, line_values, part_values, supplier_values}
 use Rattle.ssb_schema.specs.declared.table.Table.{Table}
 use Rattle.ssb_schema.specs.declared.table.Table.TheVariants as table
-use Rattle.ssb_text.specs.Load.{limit_of, values_in}
+use Rattle.ssb_text.specs.Load.{values_in}
 use Rattle.ssb_text.specs.Records.{HasRecords}
 use Rattle.ssb_text.specs.Tables.{SpellsRow, SpellsRows}
 use Rattle.ssb_text.specs.TableText.{column_text}
@@ -69,5 +69,4 @@ base-fits base table.Date are = rows-fit table.Date date_values date_fits base.d
 base-fits base table.Lineorder are = rows-fit table.Lineorder line_values line_fits base.lines are
 
 pub texts_spell_their_base : TextsSpellTheirBase
-texts_spell_their_base base are t =
-    spells-rows t (limit_of base.limits t) (values_in base t) (base-fits base t (are t).rows) (are t).few
+texts_spell_their_base base are t = grind (arith, spells-rows, base-fits)

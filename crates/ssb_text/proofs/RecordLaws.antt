@@ -56,24 +56,19 @@ plain_after_return : (feeds skips parts ends returns : Bool) (fields : List (Lis
     else if parts then (st.StartField, act.EndField)
     else if ends then ((if returns then st.AfterCr else st.StartRecord), act.EndRecord)
     else (st.InField, act.Copy)) fields field c
-plain_after_return true skips parts ends returns fields field c is = (λ _. is, λ h. absurd (false≢true h))
-plain_after_return false skips parts ends returns fields field c is =
-    plain_start skips parts ends returns fields field c is
+plain_after_return true skips parts ends returns fields field c is = grind (arith, false≢true)
+plain_after_return false skips parts ends returns fields field c is = grind (arith, plain_start)
 
 plain_step : (s : State) (fields : List (List ℕ)) (field : List ℕ) (c : ℕ) → IsPlain s fields field
     → KeepsPlain (step record_config s c) fields field c
-plain_step st.StartRecord fields field c is =
-    plain_start ((c == 13) || (c == 10)) (c == 124) ((c == 13) || (c == 10)) (c == 13) fields field c is
-plain_step st.AfterCr fields field c is = plain_after_return (c == 10) ((c == 13) || (c == 10)) (c == 124)
-    ((c == 13) || (c == 10)) (c == 13) fields field c is
-plain_step st.StartField fields field c is =
-    plain_in_field (c == 124) ((c == 13) || (c == 10)) (c == 13) fields field c
-plain_step st.InField fields field c is =
-    plain_in_field (c == 124) ((c == 13) || (c == 10)) (c == 13) fields field c
-plain_step st.InQuoted fields field c is = absurd is
-plain_step st.InEscape fields field c is = absurd is
-plain_step st.AfterQuote fields field c is = absurd is
-plain_step st.InComment fields field c is = absurd is
+plain_step st.StartRecord fields field c is = grind (arith, plain_start)
+plain_step st.AfterCr fields field c is = grind (arith, plain_after_return)
+plain_step st.StartField fields field c is = grind (arith, plain_in_field)
+plain_step st.InField fields field c is = grind (arith, plain_in_field)
+plain_step st.InQuoted fields field c is = grind arith
+plain_step st.InEscape fields field c is = grind arith
+plain_step st.AfterQuote fields field c is = grind arith
+plain_step st.InComment fields field c is = grind arith
 
 -- the next record where a line feed and more stand behind the text: the same one, and where there was none, that of
 -- what stands behind
@@ -84,9 +79,7 @@ Goes b (Some p) o = IsBetween p.1 × ((o ≡ Some (p.0, p.1, p.2 ++ 10 ∷ b))
 
 from_nothing : (b : List ℕ) (fields : List (List ℕ)) (field : List ℕ) → (fields ≡ []) × (field ≡ [])
     → next_record record_config st.StartRecord fields field b ≡ next_record record_config st.StartRecord [] [] b
-from_nothing b fields field is =
-    ap (λ (f : List (List ℕ)). next_record record_config st.StartRecord f field b) is.0
-    ∙ ap (λ (f : List ℕ). next_record record_config st.StartRecord [] f b) is.1
+from_nothing b fields field is = grind arith
 
 goes_on : (b rest : List ℕ) (s : State) (fields : List (List ℕ)) (now later : Option Read) (ends : Bool)
     → (ends ≡ true → IsBetween s) → (ends ≡ false → Goes b now later)
@@ -140,18 +133,7 @@ leads_on : (b : List ℕ) (r : List (List ℕ)) (rs : List (List (List ℕ))) (s
     → Goes b (Some p) (next_record record_config s [] [] (xs ++ 10 ∷ b))
     → (IsBetween p.1 → Leads b rs p.1 p.2 s2 ys) → Leads b (r ∷ rs) s xs s2 ys
 unfolding Reached
-leads_on b r rs s s2 xs ys p fields after now more = elim now.1 [
-  | inl within ↦
-      let rest = more now.0 in
-      (rest.0, rest.1, ((p.0, p.1, p.2 ++ 10 ∷ b), within, fields, rest.2), rest.3)
-  | inr last ↦
-      let none : rs ≡ [] = reached_nothing rs p.1 s2 p.2 ys last.0 last.1 after in (
-        st.StartRecord,
-        b,
-        ((p.0, st.StartRecord, b), last.2, fields, rw none (refl, refl)),
-        λ _. refl,
-      )
-]
+leads_on b r rs s s2 xs ys p fields after now more = grind (arith, reached_nothing)
 
 leads : (b : List ℕ) (rs : List (List (List ℕ))) (s s2 : State) (xs ys : List ℕ) → IsBetween s
     → Reached record_config s xs rs s2 ys → Leads b rs s xs s2 ys

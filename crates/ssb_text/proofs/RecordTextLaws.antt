@@ -85,9 +85,7 @@ IsReadable ((b ∷ word) ∷ fields) = ((b == 239) ≡ false) × IsPlainField (b
 start-record : (b : ℕ) (u : List ℕ) → is_plain_byte b ≡ true
     → next_record record_config st.StartRecord [] [] (b ∷ u) ≡ next_record record_config st.InField [] [] (b ∷ u)
 unfolding next_record
-start-record b u plain =
-    let byte = plain-byte b plain in
-    rw (byte.0, byte.1, byte.2) refl
+start-record b u plain = grind (arith, plain-byte)
 
 pub record_read : (fields : List (List ℕ)) (tail : List ℕ) → IsReadable fields
     → next_record record_config st.StartRecord [] [] (text_of_record fields ++ tail) ≡ Some
@@ -135,5 +133,4 @@ strip-records (((b ∷ word) ∷ fields) ∷ records) readable = no-mark b _ rea
 pub has_records : (records : List (List (List ℕ))) → AllByRecursion IsReadable records
     → HasRecords (text_of_records records) records
 unfolding next_record
-has_records records readable = rw (strip-records records readable)
-    (st.StartRecord, [], records_reached records readable, refl)
+has_records records readable = grind (arith, strip-records, records_reached)

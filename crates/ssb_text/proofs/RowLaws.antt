@@ -62,11 +62,8 @@ pub last_fails : (t : Table) (place : ℕ) (first last : List Kind) (fields : Li
     (e : LineFault)
     → values_from t place first fields ≡ Ok vs → Fails e (values_from t (place + length first) last fields)
     → Fails e (values_from t place (first ++ last) fields)
-last_fails t place first last fields vs e a b = rw (values_from-append t place first last fields, a)
-    (fails_before e (values_from t (place + length first) last fields) (λ ws. Ok (vs ++ ws)) b)
+last_fails t place first last fields vs e a b = grind (arith, values_from-append, fails_before)
 
 pub first_fails : (t : Table) (place : ℕ) (first last : List Kind) (fields : List (List ℕ)) (e : LineFault)
     → Fails e (values_from t place first fields) → Fails e (values_from t place (first ++ last) fields)
-first_fails t place first last fields e a =
-    rw (values_from-append t place first last fields) (fails_before e (values_from t place first fields)
-    (λ vs. values_from t (place + length first) last fields >>= λ ws. Ok (vs ++ ws)) a)
+first_fails t place first last fields e a = grind (arith, values_from-append, fails_before)

@@ -46,9 +46,7 @@ as-many (k ∷ kinds) [] fit = absurd fit
 as-many (k ∷ kinds) (v ∷ values) fit = ap suc (as-many kinds values fit.1)
 
 has-columns : (count : ℕ) (fields : List (List ℕ)) → length fields ≡ count → has_columns count fields ≡ true
-has-columns count fields same =
-    let equal : (length fields == count) ≡ true = grind (arith, same, nat_tests) in
-    rw equal refl
+has-columns count fields same = grind (arith, nat_tests)
 
 pub row_read : (t : Table) (values : List Value) → IsFitRow t values → row_of t (map column_text values) ≡ Ok values
 unfolding row_of

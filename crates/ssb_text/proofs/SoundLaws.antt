@@ -47,9 +47,7 @@ before-it xs n j x at = omega (arith, slice_get_within (take n xs) j x at, lengt
 
 none-earlier : {R : Type 0} (same : R → R → Bool) (rows : List R) → AreDistinct same rows → (i : ℕ) (r : R)
     → slice_get rows i ≡ Some r → list_any (λ e. same e r) (take i rows) ≡ false
-none-earlier same rows distinct i r at =
-    none-passes (λ e. same e r) (take i rows)
-    (λ j e there. distinct j i e r (before-it rows i j e there) (from-take rows i j e there) at)
+none-earlier same rows distinct i r at = grind (arith, none-passes, before-it, from-take)
 
 dimension-none : {R : Type 0} (limits : Limits) (t : Table) (key : R → ℕ) (rows : List R) → IsDimension limits key rows
     → dimension_fault limits t key rows ≡ None

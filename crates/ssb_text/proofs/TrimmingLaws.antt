@@ -22,8 +22,7 @@ all_spaces-space : (bytes : List ℕ) → list_all is_space (bytes ++ 32 ∷ [])
 all_spaces-space bytes = list_all-append is_space bytes (32 ∷ []) ∙ and_true (list_all is_space bytes)
 
 all_spaces-other : (bytes : List ℕ) (b : ℕ) → nat_eq b 32 ≡ false → list_all is_space (bytes ++ b ∷ []) ≡ false
-all_spaces-other bytes b other = list_all-append is_space bytes (b ∷ [])
-    ∙ rw other (and_false (list_all is_space bytes))
+all_spaces-other bytes b other = grind (arith, list_all-append, is_space, and_false)
 
 -- a space at the end goes
 pub without_spaces-space : (bytes : List ℕ) → without_spaces (bytes ++ 32 ∷ []) ≡ without_spaces bytes

@@ -49,8 +49,7 @@ one_more f xs i x d within is =
 pub appends_item : {X : Type 0} (f : X → List ℕ) (xs : List X) (i : ℕ) (x d : X) (a b c : Option (List ℕ))
     → i < length xs → x ≡ get_or xs i d
     → Appends a b (flat_map f (take i xs)) → Appends b c (f x) → Appends a c (flat_map f (take (i + 1) xs))
-appends_item f xs i x d a b c within is first second =
-    rw (one_more f xs i x d within is) (appends_both a b c (flat_map f (take i xs)) (f x) first second)
+appends_item f xs i x d a b c within is first second = grind (arith, one_more, appends_both)
 
 -- a part of the next item's text is one of all texts
 pub part_item : {X : Type 0} (f : X → List ℕ) (xs : List X) (i : ℕ) (x d : X) (a b c : Option (List ℕ)) → i < length xs
