@@ -51,9 +51,8 @@ first_in_range test a (suc n) k from below passes = step (test a) refl (order a 
         apart (sym passes ∙ ap test same ∙ is)
 
 all_same : (columns : List (List Value)) (p : ℕ) → are_alike columns p p ≡ true
-all_same [] p = refl
-all_same (column ∷ columns) p = ap (λ b. b && are_alike columns p p)
-    ((value_Decides (get_or column p (Number 0)) (get_or column p (Number 0))).1 refl) ∙ all_same columns p
+all_same [] p = grind arith
+all_same (column ∷ columns) p = grind (arith, value_Decides, all_same columns p)
 
 -- the class of a row is the position of a row that is like it, and not after it
 pub class_found : (columns : List (List Value)) (count p : ℕ) → p < count → (get_or (classes_by columns count) p 0 ≤ p)

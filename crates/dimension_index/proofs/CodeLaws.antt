@@ -122,15 +122,11 @@ pub record CodedUpTo (values : List Value) (i : ℕ) (dictionary : List Value) (
 pub coded_none : (values dictionary : List Value) (codes : List ℕ) → dictionary ≡ [] → codes ≡ []
     → CodedUpTo values 0 dictionary codes
 unfolding distinct
-coded_none values dictionary codes no_values no_codes =
-    subst (λ (p : List Value × List ℕ). CodedUpTo values 0 p.0 p.1) (λ i. (sym no_values i, sym no_codes i))
-    (record { seen = refl; read = refl; within = λ k d lt. absurd (omega (arith, lt)); few = omega arith })
+coded_none values dictionary codes no_values no_codes = grind (arith, CodedUpTo)
 
 pub coded_nothing : (dictionary : List Value) (codes : List ℕ) → dictionary ≡ [] → codes ≡ [] → IsCoded dictionary codes
 unfolding distinct
-coded_nothing dictionary codes no_values no_codes =
-    subst (λ (p : List Value × List ℕ). IsCoded p.0 p.1) (λ i. (sym no_values i, sym no_codes i))
-    (record { within = λ k d lt. absurd (omega (arith, lt)); seen = refl })
+coded_nothing dictionary codes no_values no_codes = grind arith
 
 -- one row more is coded
 pub coded_more : (values : List Value) (i : ℕ) (d v : Value) (old new : List Value) (codes : List ℕ) (code : ℕ)

@@ -33,13 +33,11 @@ elsewhere t place own i absent within is = ne_eqb place own
 
 three : (a b c : Bool) (x y z : Value) → a ≡ false → b ≡ false → c ≡ false
     → Number 0 ≡ cond a x (cond b y (cond c z (Number 0)))
-three a b c x y z p q r = sym (ap (λ k. cond k x (cond b y (cond c z (Number 0)))) p
-    ∙ ap (λ k. cond k y (cond c z (Number 0))) q ∙ ap (λ k. cond k z (Number 0)) r)
+three a b c x y z p q r = grind arith
 
 four : (a b c d : Bool) (x y z w : Value) → a ≡ false → b ≡ false → c ≡ false → d ≡ false
     → Number 0 ≡ cond a x (cond b y (cond c z (cond d w (Number 0))))
-four a b c d x y z w p q r s = three a b c x y z p q r
-    ∙ ap (λ v. cond a x (cond b y (cond c z v))) (sym (ap (λ k. cond k w (Number 0)) s))
+four a b c d x y z w p q r s = grind (arith, three)
 
 unread_at : (base : Tables) (t : Table) (place : ℕ) → IsUnread (column_at t place)
     → values_at base t 0 ≡ values_at base t place

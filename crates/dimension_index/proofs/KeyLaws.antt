@@ -53,15 +53,8 @@ keys_differ key rows d distinct i j lt within same =
 -- the row that is found has the key
 found_has : {R : Type 0} (key : R → ℕ) (rows : List R) (k : ℕ) → has_key key rows k ≡ true → (row : R)
     × (row_with key rows k ≡ Some row) × (key row ≡ k)
-found_has {R = R} key [] k some = absurd (cc)
-found_has {R = R} key (row ∷ rows) k some = step (nat_eq (key row) k) refl (found_has key rows k)
-  where
-    step : (b : Bool) → nat_eq (key row) k ≡ b → (has_key key rows k ≡ true → (r : R) × (row_with key rows k ≡ Some r)
-        × (key r ≡ k)) → (r : R) × (cond (nat_eq (key row) k) (Some row) (row_with key rows k) ≡ Some r) × (key r ≡ k)
-    step true is rest = (row, ap (λ b. cond b (Some row) (row_with key rows k)) is, eqb-true (key row) k is)
-    step false is rest =
-        let later = rest (ap (λ b. b || has_key key rows k) (sym is) ∙ some) in
-        (later.0, ap (λ b. cond b (Some row) (row_with key rows k)) is ∙ later.1, later.2)
+found_has {R = R} key [] k some = grind arith
+found_has {R = R} key (row ∷ rows) k some = grind (arith, eqb-true, found_has key rows k)
 
 -- the place that the base tells is where the key stands, and is within
 pub position_found : {R : Type 0} (key : R → ℕ) (rows : List R) (k : ℕ) (place : Option ℕ)
@@ -80,5 +73,4 @@ position_found key rows k (Some i) distinct row found =
 pub position_within : {R : Type 0} (key : R → ℕ) (rows : List R) (k i : ℕ)
     → option_and_then (slice_get rows) (Some i) ≡ row_with key rows k → is_some (Some i) ≡ has_key key rows k
     → i < length rows
-position_within key rows k i row found = let there = found_has key rows k (sym found) in
-    slice_get_within rows i there.0 (row ∙ there.1)
+position_within key rows k i row found = grind (arith, found_has, slice_get_within)

@@ -30,15 +30,13 @@ module _ (base : Tables) (lines order : List LineFields) (key n : ℕ) (same : k
   own = counted ∙ ap (λ k. length (lines_of k lines)) same
 
   pub cause_present : 0 < n → cause_of base lines (Add order) ≡ Some (Present key)
-  cause_present some = let is = is_there (order_key order) n lines own some in
-      rw is (ap (λ k. Some (Present k)) (sym same))
+  cause_present some = grind (arith, is_there, own)
 
   pub cause_added : n ≤ 0 → cause_of base lines (Add order) ≡ order_cause base lines order
   cause_added none = let is = is_not_there (order_key order) n lines own none in rw is refl
 
   pub cause_amend_absent : n ≡ 0 → cause_of base lines (Amend order) ≡ Some (AmendAbsent key)
-  cause_amend_absent none = let is = is_not_there (order_key order) n lines own (omega (arith, none)) in
-      rw is (ap (λ k. Some (AmendAbsent k)) (sym same))
+  cause_amend_absent none = grind (arith, is_not_there, own)
 
   pub cause_amended : (n ≡ 0 → ⊥) → cause_of base lines (Amend order) ≡ order_cause base
       (lines_without (order_key order) lines) order
@@ -63,9 +61,8 @@ pub joined : (base : Tables) (r : Result ℕ Cause) (now : List LineFields) (act
     → Joined r base lines order
     → MatchResult r (λ n. (cause_of base now action ≡ None) × (n ≡ length (lines_after_action now action))
     × (n ≤ base.limits.lines)) (λ cause. cause_of base now action ≡ Some cause)
-joined base (Ok n) now action lines order same after h =
-    (same ∙ h.0, h.1 ∙ sym (length-append lines order) ∙ ap length (sym after), h.2)
-joined base (Err cause) now action lines order same after h = same ∙ h
+joined base (Ok n) now action lines order same after h = grind (arith, length-append)
+joined base (Err cause) now action lines order same after h = grind arith
 
 not_there : (base : Tables) (lines order : List LineFields) (b : Bool) → is_present (order_key order) lines ≡ b
     → cause_of base lines (Add order) ≡ None → b ≡ false

@@ -33,8 +33,7 @@ lines_of-own key order alike = all_pass (is_of key) order (λ k d h. eq-eqb _ ke
 
 pub lines_of-others : (key other : ℕ) (order : List LineFields) → HaveKey other order → (other ≡ key → ⊥)
     → lines_of key order ≡ []
-lines_of-others key other order alike apart = none_pass (is_of key) order
-    (λ k d h. ne_eqb _ key (λ e. apart (sym (alike k d h) ∙ e)))
+lines_of-others key other order alike apart = grind (arith, none_pass, ne_eqb)
 
 pub lines_of-append : (key : ℕ) (lines order : List LineFields) → lines_of key (lines ++ order) ≡ lines_of key lines
     ++ lines_of key order
@@ -43,8 +42,7 @@ lines_of-append key lines order = filter-append (is_of key) lines order
 -- a key that had no lines has those of its order
 pub lines_more : (key : ℕ) (lines order : List LineFields) → HaveKey key order → lines_of key lines ≡ []
     → lines_of key (lines ++ order) ≡ order
-lines_more key lines order alike none = lines_of-append key lines order ∙ ap (λ l. l ++ lines_of key order) none
-    ∙ lines_of-own key order alike
+lines_more key lines order alike none = grind (arith, lines_of-append, lines_of-own)
 
 pub lines_other : (key other : ℕ) (lines order : List LineFields) → HaveKey other order → (other ≡ key → ⊥)
     → lines_of key (lines ++ order) ≡ lines_of key lines
@@ -56,9 +54,8 @@ module _ (key gone : ℕ) where
   gone_step : (same : gone ≡ key) (line : LineFields) (lines : List LineFields)
       → lines_of key (lines_without gone lines) ≡ [] → (b : Bool) → is_of gone line ≡ b
       → lines_of key (cond (not b) (line ∷ lines_without gone lines) (lines_without gone lines)) ≡ []
-  gone_step same line lines h true is = h
-  gone_step same line lines h false is = ap (λ b. cond b (line ∷ lines_of key (lines_without gone lines))
-      (lines_of key (lines_without gone lines))) (ap (λ k. is_of k line) (sym same) ∙ is) ∙ h
+  gone_step same line lines h true is = grind arith
+  gone_step same line lines h false is = grind arith
 
   -- a key that is withdrawn has no line
   pub lines_gone : (lines : List LineFields) → gone ≡ key → lines_of key (lines_without gone lines) ≡ []
@@ -69,11 +66,8 @@ module _ (key gone : ℕ) where
       → lines_of key (lines_without gone lines) ≡ lines_of key lines → (b : Bool) → is_of gone line ≡ b
       → lines_of key (cond (not b) (line ∷ lines_without gone lines) (lines_without gone lines)) ≡ lines_of key
       (line ∷ lines)
-  kept_step apart line lines h true is =
-      let other : is_of key line ≡ false = ne_eqb line.order_key key
-      (λ e. apart (sym (eqb-true line.order_key gone is) ∙ e)) in
-      h ∙ ap (λ b. cond b (line ∷ lines_of key lines) (lines_of key lines)) (sym other)
-  kept_step apart line lines h false is = ap (λ l. cond (is_of key line) (line ∷ l) l) h
+  kept_step apart line lines h true is = grind (arith, ne_eqb, eqb-true)
+  kept_step apart line lines h false is = grind arith
 
   -- another key has what it had
   pub lines_kept : (lines : List LineFields) → (gone ≡ key → ⊥)
@@ -95,8 +89,7 @@ count_other key lines order is apart = ap length (lines_other key (order_key ord
 -- after an order is amended
 pub count_replaced : (key : ℕ) (lines order : List LineFields) → IsOrder order → order_key order ≡ key
     → length (lines_of key (lines_without (order_key order) lines ++ order)) ≡ length order
-count_replaced key lines order is same = ap length (lines_more key (lines_without (order_key order) lines) order
-    (λ k d h. is.alike k d h ∙ same) (lines_gone key (order_key order) lines same))
+count_replaced key lines order is same = grind (arith, lines_more, lines_gone)
 
 pub count_other_replaced : (key : ℕ) (lines order : List LineFields) → IsOrder order → (order_key order ≡ key → ⊥)
     → length (lines_of key (lines_without (order_key order) lines ++ order)) ≡ length (lines_of key lines)
@@ -127,9 +120,8 @@ present_step false old line found h = h
 
 -- an order is present where it has some line
 pub present : (key : ℕ) (lines : List LineFields) → is_present key lines ≡ ltb 0 (length (lines_of key lines))
-present key [] = refl
-present key (line ∷ lines) = present_step (is_of key line) (is_present key lines) line (lines_of key lines)
-    (present key lines)
+present key [] = grind arith
+present key (line ∷ lines) = grind (arith, present_step, present key lines)
 
 -- withdrawing a key drops so many lines
 pub length_kept : (key : ℕ) (lines : List LineFields) → length (lines_without key lines)

@@ -45,8 +45,7 @@ count_more true old = refl
 count_more false old = omega arith
 
 pub one_fact_counts_once : OneFactCountsOnce
-one_fact_counts_once counts fact other = ap (λ o. unwrap_or o 0) (get_with_fact counts fact other)
-    ∙ count_more (is_same other fact) (map.get counts other)
+one_fact_counts_once counts fact other = grind (arith, unwrap_or, get_with_fact, count_more)
 
 more_twice : (a b : Bool) (old : Option ℕ) → more a (more b old) ≡ more b (more a old)
 more_twice true true old = refl
@@ -103,8 +102,7 @@ get_counted counts (k ∷ facts) fact =
 -- a count after a list of facts more
 pub counted : (counts : Counts) (facts : List Fact) (fact : Fact)
     → count_of (fold with_fact counts facts) fact ≡ count_of counts fact + occurrences fact facts
-counted counts facts fact = ap (λ o. unwrap_or o 0) (get_counted counts facts fact)
-    ∙ again_none (occurrences fact facts) (map.get counts fact)
+counted counts facts fact = grind (arith, unwrap_or, get_counted, again_none)
 
 pub counts_tell_occurrences : CountsTellOccurrences
 counts_tell_occurrences facts fact =

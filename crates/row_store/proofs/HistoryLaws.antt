@@ -7,7 +7,6 @@ use Rattle.std.proofs.lemmas.Option.{slice_get_within}
 use Rattle.std.proofs.Math.Seq.{take-append_seam}
 use Rattle.row_store.specs.History.{CommitRecord}
 use Rattle.row_store.specs.Refusals.{refusal_of}
-use Rattle.row_store.specs.Legal.{reply_at, unless_refused}
 use Rattle.row_store.specs.Laws.{BeginningsAreLegal, AcceptedStaysLegal, AcceptedIsCommitted, RefusedChangesNothing}
 
 -- what a list has is there when it grows
@@ -60,5 +59,4 @@ pub accepted_is_committed : AcceptedIsCommitted
 accepted_is_committed base history commit none = grind (arith, length-append)
 
 pub refused_changes_nothing : RefusedChangesNothing
-refused_changes_nothing base history commit refusal is =
-    (ap (reply_at (length history)) is, ap (unless_refused history commit) is)
+refused_changes_nothing base history commit refusal is = grind arith

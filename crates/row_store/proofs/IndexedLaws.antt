@@ -6,8 +6,6 @@ use Rattle.std.proofs.Common.{append_assoc}
 use Rattle.std.proofs.Math.Seq.{take-add}
 use Rattle.std.specs.Option.{option_map_or}
 use Rattle.std.specs.Ordering.{nat_cmp, is_lt}
-use Rattle.std.specs.declared.cmp.Ordering.TheVariants.{Less, Equal, Greater}
-use Rattle.std.specs.Cmp.{nat_cmp_is}
 use Rattle.std.specs.List.{filter, count_by, range_with_len}
 use Rattle.std.specs.List.Sorted.{IsPermutation, IsNonDecreasingBy, IsStableByKey, ties}
 use Rattle.std.proofs.lemmas.Bool.{eqb-true, eq-eqb, ltb-true, ltb-false}
@@ -43,9 +41,7 @@ pub all_in_order : (lines : List LineFields) → lines_at lines (range_with_len 
 all_in_order lines = all_in_order-from [] lines
 
 pub all_within : (n : ℕ) → All (λ i. i < n) (range_with_len 0 n)
-all_within n k d h =
-    let here : k < n = omega (arith, h, length-range_with_len 0 n) in
-    omega (arith, here, get_or-range_with_len 0 n k d here)
+all_within n k d h = grind (arith, length-range_with_len, get_or-range_with_len)
 
 module _ (lines : List LineFields) where
   abbrev Within : List ℕ → Type 0
@@ -83,20 +79,8 @@ module _ (lines : List LineFields) where
   -- the lines of a key are those at the positions of the key
   lines_of-lines_at : (key : ℕ) (index : List ℕ) → Within index
       → lines_of key (lines_at lines index) ≡ lines_at lines (filter (λ i. eqb (key_at lines i) key) index)
-  lines_of-lines_at key [] h = refl
-  lines_of-lines_at key (i ∷ index) h =
-      let found = line_there lines i (All-head (λ i. i < length lines) i index h) in
-      let rest = lines_of-lines_at key index (All-tail (λ i. i < length lines) i index h) in
-      let same : eqb (key_at lines i) key ≡ is_of key found.0 = ap (λ k. eqb k key) (key_at-is i found.0 found.1) in
-      let kept : List ℕ = filter (λ i. eqb (key_at lines i) key) index in
-      let step : (b : Bool) → cond b (found.0 ∷ lines_of key (lines_at lines index))
-      (lines_of key (lines_at lines index)) ≡ lines_at lines (cond b (i ∷ kept) kept) =
-      elim [
-        | true ↦ ap (λ l. found.0 ∷ l) rest ∙ sym (lines_at-cons lines i kept found.0 found.1)
-        | false ↦ rest
-      ] in
-      ap (lines_of key) (lines_at-cons lines i index found.0 found.1) ∙ step (is_of key found.0)
-      ∙ ap (λ b. lines_at lines (cond b (i ∷ kept) kept)) (sym same)
+  lines_of-lines_at key [] h = grind arith
+  lines_of-lines_at key (i ∷ index) h = grind (arith, line_there, eqb, key_at-is, lines_at-cons, lines_of-lines_at key index (All-tail (λ i. i < length lines) i index h))
 
   -- positions of one key
   pub lines_at-HaveKey : (key : ℕ) (index : List ℕ) → Within index → All (λ i. key_at lines i ≡ key) index
@@ -127,27 +111,7 @@ module _ (lines : List LineFields) where
 
   -- two positions tie where their keys are equal
   ties_is : (a b : ℕ) → (not (is_lt (nat_cmp a b)) && not (is_lt (nat_cmp b a))) ≡ eqb b a
-  ties_is a b = step (eqb b a) refl
-    where
-      apart : (a b : ℕ) → (a ≡ b → ⊥) → (t : Bool) → ltb a b ≡ t
-          → (not (is_lt (nat_cmp a b)) && not (is_lt (nat_cmp b a))) ≡ false
-      apart a b differ true t =
-          let below : Less ≡ nat_cmp a b = nat_cmp_is a b Less (ltb-true a b t) in
-          ap (λ o. not (is_lt o) && not (is_lt (nat_cmp b a))) (sym below)
-      apart a b differ false t =
-          let h : b ≤ a = ltb-false a b t in
-          let lower : b < a = omega (arith, h, differ) in
-          let above : Greater ≡ nat_cmp a b = nat_cmp_is a b Greater lower in
-          let below : Less ≡ nat_cmp b a = nat_cmp_is b a Less lower in
-          λ i. not (is_lt (sym above i)) && not (is_lt (sym below i))
-
-      step : (s : Bool) → eqb b a ≡ s → (not (is_lt (nat_cmp a b)) && not (is_lt (nat_cmp b a))) ≡ s
-      step true e =
-          let same : b ≡ a = eqb-true b a e in
-          let one : Equal ≡ nat_cmp a b = nat_cmp_is a b Equal (sym same) in
-          let other : Equal ≡ nat_cmp b a = nat_cmp_is b a Equal same in
-          λ i. not (is_lt (sym one i)) && not (is_lt (sym other i))
-      step false e = apart a b (λ same. absurd (let h : eqb b a ≡ true = eq-eqb b a (sym same) in cc)) (ltb a b) refl
+  ties_is a b = grind (arith, eqb, ltb, ltb-true, ltb-false, eqb-true, eq-eqb)
 
   first_passes : (p : ℕ → Bool) (xs : List ℕ) (x : ℕ) (rest : List ℕ) → filter p xs ≡ x ∷ rest → p x ≡ true
   first_passes p [] x rest e = absurd (cc)
@@ -199,17 +163,7 @@ module _ (lines : List LineFields) (index : List ℕ) (inside : All (λ i. i < l
   pub next_apart : (end < length index → key_at lines (slice_index index end) ≢ key_at lines (slice_index index first))
       → (i j : ℕ) → i < end → end ≤ j → j < length index
       → key_at lines (slice_index index i) < key_at lines (slice_index index j)
-  next_apart ends i j before after here = elim (ltb i first) as
-      (λ b. ltb i first ≡ b → key_at lines (slice_index index i) < key_at lines (slice_index index j)) [
-        | true ↦ λ t. apart i j (ltb-true i first t) (omega (arith, later, after)) here
-        | false ↦ λ t.
-            let from : first ≤ i = ltb-false i first t in
-            let same = alike i from before in
-            let up = sorted first end 0 (omega (arith, later)) (omega (arith, after, here)) in
-            let on = sorted end j 0 after here in
-            let differ = ends (omega (arith, after, here)) in
-            omega (arith, same, up, on, differ)
-      ] refl
+  next_apart ends i j before after here = grind (arith, ltb, slice_index, ltb-true, ltb-false)
 
   run : List ℕ
   run = slice_range index first end
@@ -225,12 +179,7 @@ module _ (lines : List LineFields) (index : List ℕ) (inside : All (λ i. i < l
 
   run_alike : All (λ i. key_at lines i ≡ key_at lines (slice_index index first)) run
   unfolding run
-  run_alike k d h =
-      let small : k < end - first = omega (arith, h, length-run) in
-      let place : get_or (take (end - first) (drop first index)) k d ≡ slice_index index (first + k) =
-      get_or-take (end - first) (drop first index) k d small ∙ get_or-drop first index k d
-      ∙ get_or_default index (first + k) d 0 (omega (arith, small, within)) in
-      ap (key_at lines) place ∙ alike (first + k) (omega arith) (omega (arith, small))
+  run_alike k d h = grind (arith, length-run, slice_index, get_or-take, get_or-drop, get_or_default)
 
   front_apart : All (λ i. key_at lines i ≢ key_at lines (slice_index index first)) (take first index)
   front_apart k d h e =

@@ -39,9 +39,7 @@ module _ (sources : Sources) (f g : ℕ → Option OrderPlace) (lines : List Lin
 
   pub located_withdrawn : (key : ℕ) → ((q : ℕ) → g q ≡ cond (eqb key q) None (f q)) → Located sources f lines
       → Located sources g (lines_without key lines)
-  located_withdrawn key now each =
-      located_change sources f g lines (lines_without key lines) key None now (lines_gone key key lines refl)
-      (λ q apart. lines_kept q key lines apart) each
+  located_withdrawn key now each = grind (arith, located_change, lines_gone, lines_kept)
 
   pub located_amended : (order : List LineFields) (key : ℕ) (place : OrderPlace)
       → ((q : ℕ) → g q ≡ cond (eqb key q) (Some place) (f q)) → IsAt sources place order → HaveKey key order

@@ -36,8 +36,7 @@ pub prefix_behind : (front shorter longer : List CommitRecord) → IsPrefix shor
 prefix_behind front shorter longer p = grind (arith, append_assoc)
 
 pub beginnings_are_shorter : BeginningsAreShorter
-beginnings_are_shorter shorter longer p = let count : length longer ≡ length (shorter ++ p.rest) = ap length p.whole in
-    omega (arith, count, length-append shorter p.rest)
+beginnings_are_shorter shorter longer p = grind (arith, length-append)
 
 -- the first commits of the whole are the beginning
 pub take_prefix : (shorter longer : List CommitRecord) → IsPrefix shorter longer

@@ -6,8 +6,6 @@ use Rattle.std.specs.Bool.{Decides}
 use Rattle.std.specs.List.{count_by}
 use Rattle.std.proofs.lemmas.List.Sorted.{sum_by-IsPermutation, IsPermutation-refl, IsPermutation-sym}
 use Rattle.std.proofs.lemmas.List.Sorted.{IsPermutation-trans, IsPermutation-cons, IsPermutation-remove}
-use Rattle.ssb_schema.specs.Facts.{facts_of}
-use Rattle.row_store.specs.History.{lines_after}
 use Rattle.row_store.specs.State.{is_same, count_of, state_after}
 use Rattle.row_store.specs.Laws.{StatesFollowCommits, EqualCountsRearrange, OneStateOneAnswer}
 use Rattle.row_store.proofs.FactCountLaws.{count_cons, same_facts_are_equal, counts_tell_occurrences}
@@ -59,10 +57,7 @@ equal_counts_rearrange facts others is = permutation_from_counts is_same same_fa
     ∙ counts_tell_occurrences others fact)
 
 pub one_state_one_answer : OneStateOneAnswer
-one_state_one_answer state history other stands also =
-    equal_counts_rearrange (facts_of (lines_after state.base history)) (facts_of (lines_after state.base other))
-    (ap (λ s. s.counts) (sym stands ∙ also))
+one_state_one_answer state history other stands also = grind (arith, equal_counts_rearrange)
 
 pub states_follow_commits : StatesFollowCommits
-states_follow_commits state history commit stands = ap (λ s. state_after s commit) stands
-    ∙ state_after-state_of state.base history commit
+states_follow_commits state history commit stands = grind (arith, state_after-state_of)

@@ -20,15 +20,14 @@ use Rattle.ssb_schema.specs.Facts.{fact_of, facts_of}
 use Rattle.ssb_schema.specs.Orders.{order_key}
 use Rattle.row_store.specs.Lines.{is_of, lines_without, lines_after_action, lines_after_refresh}
 use Rattle.row_store.specs.History.{CommitRecord, lines_after}
-use Rattle.row_store.specs.State.{Counts, fact_values, fact_from, fact_cmp, count_of, with_fact, counts_without}
+use Rattle.row_store.specs.State.{Counts, fact_values, fact_cmp, count_of, with_fact, counts_without}
 use Rattle.row_store.specs.State.{fact_counts, counts_after_action, state_after, state_of}
 
 pub total_order : IsTotalOrder fact_cmp
 total_order = on_texts fact_values
 
 pub only_equal : (x y : Fact) → fact_cmp x y ≡ Equal → x ≡ y
-only_equal x y e = ap fact_from (map.slice_cmp-IsAntisymmetric map.nat_cmp-IsAntisymmetric (fact_values x)
-    (fact_values y) e)
+only_equal x y e = grind arith
 
 pub tied : (r : Ordering) (x y : Fact) → fact_cmp x y ≡ r → (is_eq r ≡ true) → x ≡ y
 tied Less x y e t = absurd (cc)
@@ -50,9 +49,8 @@ at_put false k fact p v old is here = refl
 at_dropped : (same : Bool) (k fact : Fact) (p : Fact → Bool) (v : ℕ) (old : Option ℕ) → (same ≡ true → fact ≡ k)
     → p k ≡ false
     → cond (p fact) (cond same (Some v) old) None ≡ cond (p fact) old None
-at_dropped true k fact p v old is here = let e : p fact ≡ false = ap p (is refl) ∙ here in
-    ap (λ b. cond b (Some v) None) e ∙ ap (λ b. cond b old None) (sym e)
-at_dropped false k fact p v old is here = refl
+at_dropped true k fact p v old is here = grind arith
+at_dropped false k fact p v old is here = grind arith
 
 -- a fact that stays
 kept-with_fact : (p : Fact → Bool) (counts : Counts) (k : Fact) → p k ≡ true
@@ -108,8 +106,7 @@ counts_without-fact_counts key lines =
 -- the counts of more lines
 fact_counts-append : (lines order : List LineFields) → fold with_fact (fact_counts (facts_of lines))
     (facts_of order) ≡ fact_counts (facts_of (lines ++ order))
-fact_counts-append lines order = sym (ap fact_counts (map-append fact_of lines order)
-    ∙ fold-append with_fact map.empty (facts_of lines) (facts_of order))
+fact_counts-append lines order = grind (arith, map-append, fold-append)
 
 pub counts_after_action-fact_counts : (lines : List LineFields) (action : Action)
     → counts_after_action (fact_counts (facts_of lines)) action ≡ fact_counts
@@ -128,8 +125,7 @@ counts_after-all lines (action ∷ actions) = ap (λ m. fold counts_after_action
 -- the lines after one commit more
 pub lines_after-push : (base : Tables) (history : List CommitRecord) (commit : CommitRecord)
     → lines_after base (history ++ commit ∷ []) ≡ lines_after_refresh (lines_after base history) commit.actions
-lines_after-push base history commit = fold-append (λ lines commit. lines_after_refresh lines commit.actions) base.lines
-    history (commit ∷ [])
+lines_after-push base history commit = grind (arith, fold-append)
 
 -- the state after one commit more
 pub state_after-state_of : (base : Tables) (history : List CommitRecord) (commit : CommitRecord)
