@@ -12,14 +12,13 @@ use Rattle.arrayvec.specs.ArrayVec.{ArrayVec}
 use Rattle.history_core.specs.declared.response.Response.{Response}
 use Rattle.history.specs.declared.request.PostedRequest.{PostedRequest}
 use Rattle.history.specs.declared.view.Held.{Held}
-use Rattle.history.specs.declared.view.View.{View}
 use Rattle.history.specs.declared.token.Token.TheInside.{Inside as Token}
 use Rattle.history.specs.Words.{IsFresh, given_to}
 use Rattle.history.specs.Rule.{Slot, IsElsewhere}
-use Rattle.history.specs.Plays.{held, request_at, without_at, served, served_as}
+use Rattle.history.specs.Plays.{held, request_at, without_at, served}
 use Rattle.history.specs.Seats.{Place, turns}
 use Rattle.history.specs.Tokens.{TokenRecord, request_of, without, Answers}
-use Rattle.history.specs.TokenParts.{shown_token, token_of_view, shown, grabbed_boxes, IsSeated}
+use Rattle.history.specs.TokenParts.{shown_token, shown, grabbed_boxes, IsSeated}
 use Rattle.history.proofs.HistoryLaws.{each_of}
 use Rattle.history.proofs.HandLaws.{request_there, Found, found_at, turns_split, few_apart}
 use Rattle.history.proofs.PassingLaws.{passed}
@@ -81,26 +80,16 @@ module _ {W : Type 0} (place k : ℕ) (hs : List Held) (f : Found place k hs) wh
 
   -- the slots, turned so that this request's is the first
   pub turned_to : turns k (grabbed_boxes {W = W} hs) ≡ (2 + place, None) ∷ grabbed_boxes f.back ++ grabbed_boxes f.front
-  turned_to = ap (λ l. turns k (grabbed_boxes l)) f.whole
-      ∙ (ap (turns k) (map-append (λ (h : Held). (2 + h.place, None)) f.front (held place f.asked ∷ f.back))
-      ∙ (ap (λ n. turns n (grabbed_boxes {W = W} f.front ++ (2 + place, None) ∷ grabbed_boxes f.back))
-      (sym (length-boxes W f.front ∙ f.at)) ∙ turns_split (grabbed_boxes f.front)
-      ((2 + place, None) ∷ grabbed_boxes f.back)))
+  turned_to = grind (arith, map-append, length-boxes, turns_split)
 
   -- and turned on to where they were
   pub turned_home : (n : ℕ) → n ≡ length f.back → turns n
       (grabbed_boxes {W = W} f.back ++ grabbed_boxes f.front) ≡ grabbed_boxes (without_at place hs)
-  turned_home n e = ap (λ m. turns m behind) (e ∙ sym (length-boxes W f.back))
-      ∙ (turns_split (grabbed_boxes f.back) (grabbed_boxes f.front)
-      ∙ (sym (map-append (λ (h : Held). (2 + h.place, None)) f.front f.back) ∙ ap grabbed_boxes (sym f.left)))
+  turned_home n e = grind (arith, behind, length-boxes, turns_split, map-append)
 
 module _ (place k : ℕ) (hs : List Held) (f : Found place k hs) where
   pub left_places : remove (places hs) k ≡ places (without_at place hs)
-  left_places = (λ i. remove (places (f.whole i)) k) ∙ (ap (λ l. remove l k)
-      (map-append (λ (h : Held). h.place) f.front (held place f.asked ∷ f.back))
-      ∙ (ap (remove (places f.front ++ place ∷ places f.back)) (sym (length-places f.front ∙ f.at))
-      ∙ (removed_mid (places f.front) place (places f.back)
-      ∙ (sym (map-append (λ (h : Held). h.place) f.front f.back) ∙ ap places (sym f.left)))))
+  left_places = grind (arith, places, map-append, length-places, removed_mid)
 
 module _ {W : Type 0} where
   pub answered_token : (p : Token W) (hand : ArrayVec ℕ) (after : Place W) (place client : ℕ) (asked : PostedRequest)
@@ -108,17 +97,7 @@ module _ {W : Type 0} where
       → request_at place p.seat.me.0.grabbed ≡ Some asked → IsFresh (given_to (place + 1) asked reply)
       → after.table_id ≡ p.seat.table_id → after.me ≡ (served p.seat.me.0 place reply, carried)
       → Answers (shown_token p) client reply (shown_token (passed p hand after p.seen_len))
-  answered_token p hand after place client asked reply carried number has fresh table now = let v : View =
-      p.seat.me.0 in let z = p.seat.table_id in let new : View = served_as v place (Some asked) reply in
-      let whole : shown_token (passed p hand after p.seen_len) ≡ token_of_view z new =
-      (λ i. token_of_view (table i) (now i).0) ∙ ap (λ r. token_of_view z (served_as v place r reply)) has in
-      subst (λ n. Answers (shown_token p) n reply (shown_token (passed p hand after p.seen_len))) number
-      (subst (Answers (shown_token p) (place + 1) reply) (sym whole) record {
-        asked = asked;
-        held = request_shown place v.grabbed ∙ has;
-        fresh = fresh;
-        now = ap (λ l. record (token_of_view z new) { grabbed = l }) (sym (without_shown place v.grabbed));
-      })
+  answered_token p hand after place client asked reply carried number has fresh table now = grind (arith, passed, request_shown, without_shown)
 
   -- there is room for one request more of a client that has none in hand
   pub has_room : (p : Token W) (place : ℕ) (asked : PostedRequest) → IsSeated p → place < p.seat.me.0.terms.clients
@@ -180,10 +159,8 @@ module _ {W : Type 0} where
 -- how many slots stand behind
 pub back_count : (place k : ℕ) (hs : List Held) (f : Found place k hs) (items : List ℕ)
     → items ≡ places (without_at place hs) → (k ≤ length items) × (length items - k ≡ length f.back)
-back_count place k hs f items e = let a = ap length e ∙ length-places (without_at place hs) in let b =
-    ap length f.left ∙ length-append f.front f.back in let d = f.at in (omega (arith, a, b, d), omega (arith, a, b, d))
+back_count place k hs f items e = grind (arith, length-places, length-append)
 
 pub within_hand : (place k : ℕ) (hs : List Held) (f : Found place k hs) (items : List ℕ) → items ≡ places hs
     → k < length items
-within_hand place k hs f items e = let a = ap length e ∙ length-places hs in let b =
-    ap length f.whole ∙ length-append f.front (held place f.asked ∷ f.back) in let d = f.at in omega (arith, a, b, d)
+within_hand place k hs f items e = grind (arith, length-places, length-append)

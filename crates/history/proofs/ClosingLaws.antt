@@ -3,8 +3,6 @@ use Rattle.std.proofs.Common.{◌≡◌, ◌≢◌, ℕ, zero, suc, ◌+◌, ◌
 use Rattle.std.proofs.Common.{None, refl, ap, sym, subst, ◌∙◌, ⊎_elim, arith, set, slice_index_or, get_or-set_same}
 use Rattle.std.proofs.Common.{get_or-set_other}
 use mathlib.Core.Option.{some}
-use mathlib.Core.Logic.{dite}
-use native.Mathlib.Decide.{ℕ_discrete}
 use lib.ListN.{get_elem?}
 use Rattle.atomic_table.specs.Table.{State, Final, Seen}
 use Rattle.ssb_base.specs.Base.{Tables}
@@ -151,6 +149,4 @@ module _ (filled : List Bool) (i n : ℕ) (within : i < length filled)
   still_full k le lt = get_or-set_other filled i k false false (λ e. omega arith) ∙ full k (omega arith) lt
 
   pub one_bare : (k : ℕ) → k < i + 1 → slice_index_or (set filled i false) k false ≡ false
-  one_bare k lt = dite (ℕ_discrete k i)
-      (λ e. ap (λ j. slice_index_or (set filled i false) j false) e ∙ get_or-set_same filled i false false within)
-      (λ n. get_or-set_other filled i k false false n ∙ bare k (omega arith))
+  one_bare k lt = grind (arith, slice_index_or, get_or-set_same, get_or-set_other)

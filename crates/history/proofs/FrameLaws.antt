@@ -11,7 +11,6 @@ use Rattle.atomic_table.specs.Table.{State}
 use Rattle.atomic_table.proofs.Lists.{at_set, set_else}
 use Rattle.ssb_base.specs.Base.{Tables}
 use Rattle.row_store.specs.History.{CommitRecord, IsPrefix}
-use Rattle.row_store.specs.Legal.{IsLegal}
 use Rattle.history.specs.declared.view.Terms.{Terms}
 use Rattle.history.specs.declared.view.Member.{Member}
 use Rattle.history.specs.declared.request.PostedRequest.{PostedRequest}
@@ -19,7 +18,6 @@ use Rattle.history.specs.declared.view.Role.{Role}
 use Rattle.history.specs.declared.view.Role.TheVariants.{Dealer, Token, Note, Spent}
 use Rattle.history.specs.declared.view.View.{View}
 use Rattle.history.specs.declared.view.SlotValue.TheVariants.{Writer}
-use Rattle.history_core.specs.OwnCommits.{IsOfClients}
 use Rattle.history_core.specs.declared.event.Who.{Who}
 use Rattle.history_core.specs.declared.event.Who.TheVariants.{Dispatcher}
 use Rattle.history_core.specs.declared.event.EventReply.{EventReply}
@@ -84,15 +82,11 @@ module _ {W : Type 0} where
       → slice_index words' (2 + client) ≡ slice_index words (2 + client)
       → get_elem? homes' (2 + client) ≡ get_elem? homes (2 + client)
       → MailShown words homes client box → MailShown words' homes' client box
-  mail_stays words words' homes homes' client empty e f m = record { word = e ∙ m.word; slot = tt }
-  mail_stays words words' homes homes' client (asked questions floor) e f m =
-      record { word = e ∙ m.word; slot = f ∙ m.slot }
-  mail_stays words words' homes homes' client (in_hand dispatcher questions floor) e f m =
-      record { word = e ∙ m.word; slot = tt }
-  mail_stays words words' homes homes' client (answered questions at found) e f m =
-      record { word = e ∙ m.word; slot = f ∙ m.slot }
-  mail_stays words words' homes homes' client (unserved questions cause) e f m =
-      record { word = e ∙ m.word; slot = (f ∙ m.slot.0, m.slot.1) }
+  mail_stays words words' homes homes' client empty e f m = grind arith
+  mail_stays words words' homes homes' client (asked questions floor) e f m = grind arith
+  mail_stays words words' homes homes' client (in_hand dispatcher questions floor) e f m = grind arith
+  mail_stays words words' homes homes' client (answered questions at found) e f m = grind arith
+  mail_stays words words' homes homes' client (unserved questions cause) e f m = grind arith
 
   -- what differs is what this member, which stands at this place, did
   pub record Grows (place : ℕ) (me : Who) (deeds deeds' : List Deed) (w w' : World) (homes homes' : Homes W) : Type 0
@@ -121,18 +115,7 @@ module _ {W : Type 0} where
       → ((n : ℕ) → Dispatcher n ≢ me → taker ≡ Some n → w.writer ≡ Some n)
       → Grows place me deeds (deeds ++ record { event = event; reply = reply } ∷ []) w s.step.after homes
       (set homes k y)
-  part_grows deeds w event reply me p holder taker log s homes k y place low acts more keep back takes untakes = record {
-    did = λ who other. did_same who deeds (record { event = event; reply = reply }) (λ e. other (sym e ∙ acts));
-    parts = s.step.others;
-    history = subst (IsPrefix w.history) (sym s.step.history) more;
-    rows = λ who other e. let h = keep who other e in (s.step.rows ∙ h.0, s.step.history ∙ h.1);
-    free = λ who other e. back who other (sym s.step.rows ∙ e);
-    writer = λ n other e. s.step.writer ∙ takes n other e;
-    idle = λ n other e. untakes n other (sym s.step.writer ∙ e);
-    requests = λ q box other at. (box, sym (s.mail (q + 1)) ∙ at, λ posted asks. asks);
-    hands = λ d n questions floor other at. s.mail n ∙ at;
-    vacant = λ q other v. (s.mail (q + 1) ∙ v.0, set_else homes k (2 + q) y (λ e. omega arith) ∙ v.1);
-  }
+  part_grows deeds w event reply me p holder taker log s homes k y place low acts more keep back takes untakes = grind (arith, did_same, set_else)
 
   -- what a member is told of stays where another acts
   told_grows : (deeds deeds' : List Deed) (w w' : World) (homes homes' : Homes W) (place : ℕ) (me : Who) (m : Member)
@@ -236,22 +219,13 @@ module _ {W : Type 0} where
   pub rows_beside : (key : Terms) (words : List ℕ) (homes : Homes W) (w w' : World) (i x k : ℕ)
       (y : maybe.Option (Slot W)) → 1 ≤ i → 1 ≤ k → w'.history ≡ w.history → w'.rows ≡ w.rows
       → RowsShown key words homes w → RowsShown key (set words i x) (set homes k y) w'
-  rows_beside key words homes w w' i x k y far far' same part shown = record {
-    word = get_or-set_other words i 0 x 0 (λ e. omega arith)
-        ∙ (shown.word ∙ (λ j. 2 * length (sym same j) + out (sym part j)));
-    home = λ h. set_else homes k 0 y (λ e. omega arith)
-        ∙ (shown.home (sym part ∙ h) ∙ ap (λ l. some (some (rows key.base l))) (sym same));
-    held = λ who e. shown.held who (sym part ∙ e);
-  }
+  rows_beside key words homes w w' i x k y far far' same part shown = grind (arith, get_or-set_other, set_else)
 
   -- a mailbox is shown as before by a step on a part
   pub mail_beside : (words : List ℕ) (homes : Homes W) (i x k : ℕ) (y : maybe.Option (Slot W)) (client : ℕ)
       (box : Mailbox) → i < 2 → k < 2 → MailShown words homes client box
       → MailShown (set words i x) (set homes k y) client box
-  mail_beside words homes i x k y client box near near' shown =
-      mail_stays words (set words i x) homes (set homes k y) client box
-      (get_or-set_other words i (2 + client) x 0 (λ e. omega arith))
-      (set_else homes k (2 + client) y (λ e. omega arith)) shown
+  mail_beside words homes i x k y client box near near' shown = grind (arith, mail_stays, get_or-set_other, set_else)
 
 module _ {W : Type 0} (base_of : W → Tables) (taken : W → List CommitRecord) (key : Terms) where
   -- the writer is shown as before where its word and slot are as before
@@ -259,12 +233,7 @@ module _ {W : Type 0} (base_of : W → Tables) (taken : W → List CommitRecord)
       → slice_index words' 1 ≡ slice_index words 1 → get_elem? homes' 1 ≡ get_elem? homes 1 → w'.writer ≡ w.writer
       → IsPrefix w.history w'.history
       → WriterShown base_of taken key words homes w → WriterShown base_of taken key words' homes' w'
-  writer_stays words words' homes homes' w w' e f part more shown = record {
-    word = e ∙ (shown.word ∙ ap out (sym part));
-    home = λ h. let was = shown.home (sym part ∙ h) in
-        (was.0, f ∙ was.1, (was.2.0, prefix_trans (taken was.0) w.history w'.history was.2.1 more));
-    held = λ n e. shown.held n (sym part ∙ e);
-  }
+  writer_stays words words' homes homes' w w' e f part more shown = grind (arith, prefix_trans)
 
   pub writer_beside : (words : List ℕ) (homes : Homes W) (w w' : World) (i x k : ℕ) (y : maybe.Option (Slot W)) → i ≢ 1
       → k ≢ 1 → w'.writer ≡ w.writer → IsPrefix w.history w'.history
@@ -309,14 +278,7 @@ module _ {W : Type 0} (base_of : W → Tables) (taken : W → List CommitRecord)
 
   pub learns : (deeds : List Deed) (w : World) (homes : Homes W) (owner : ℕ → ℕ) (id place : ℕ) (v : View)
       → WorldKept key.base key.clients w → TokenKnows key homes deeds w owner id v place → Learns v w.history
-  learns deeds w homes owner id place v kept k = let m =
-      part_kept key.base key.clients w kept v.member.who (part v.member) k.told.part_is in record {
-        legal = subst (λ b. IsLegal b w.history) (kept.based ∙ ap (λ (t : Terms). t.base) (sym k.common.terms)) kept.legal;
-        named = subst (λ (t : Terms). IsOfClients t.clients w.history) (sym k.common.terms) kept.own.named;
-        begins = m.begins;
-        beside = k.common.beside;
-        owns = m.owns;
-      }
+  learns deeds w homes owner id place v kept k = grind (arith, part_kept)
 
   -- the rule after an event that changes no mailbox, where the stepping member changed to this one
   part_rule : (s : State (Slot W) View) (r : ShowsWorld base_of taken key s) (id place : ℕ) (v : View)

@@ -3,7 +3,7 @@ use Rattle.std.proofs.Common.{◌≡◌, ◌≢◌, ℕ, zero, suc, ◌+◌, ◌
 use Rattle.std.proofs.Common.{length, Some, refl, ap, sym, subst, ◌∙◌, arith, append_assoc}
 use Rattle.std.proofs.lemmas.Bool.Decides.{nat_tests}
 use Rattle.std.proofs.lemmas.List.{append-nil}
-use Rattle.std.proofs.lemmas.List.Elements.{All-nil, All-cons, All-head, All-tail}
+use Rattle.std.proofs.lemmas.List.Elements.{All-cons, All-head, All-tail}
 use Rattle.std.specs.Prelude.{All}
 use mathlib.Core.Option.{some, some-injective, some-ne-none}
 use lib.ListN.{get_elem?}
@@ -77,15 +77,8 @@ apart_without place (h ∷ hs) apart = go (apart_without place hs apart.1) (h.pl
 
 -- what is left in hand is of other clients
 pub others_elsewhere : (place : ℕ) (hs : List Held) → AreApart hs → IsElsewhere place (without_at place hs)
-others_elsewhere place [] apart = All-nil (λ (x : Held). x.place ≢ place)
-others_elsewhere place (h ∷ hs) apart = go (others_elsewhere place hs apart.1) (h.place == place) refl
-  where
-    go : IsElsewhere place (without_at place hs) → (b : Bool) → (h.place == place) ≡ b
-        → IsElsewhere place (without_at place (h ∷ hs))
-    go rest true equal = subst (IsElsewhere place) (sym (without_first place h hs equal))
-        (subst (λ p. IsElsewhere p hs) (is_equal h.place place equal) apart.0)
-    go rest false unequal = subst (IsElsewhere place) (sym (without_later place h hs unequal))
-        (All-cons (λ (x : Held). x.place ≢ place) h (without_at place hs) (is_apart h.place place unequal) rest)
+others_elsewhere place [] apart = grind arith
+others_elsewhere place (h ∷ hs) apart = grind (arith, without_first, is_equal, without_later, is_apart, others_elsewhere place hs apart.1)
 
 pub was_there : (place : ℕ) (hs : List Held) (k : ℕ) (g : Held) → get_elem? (without_at place hs) k ≡ some g → (j : ℕ)
     × (get_elem? hs j ≡ some g)
@@ -113,13 +106,8 @@ all_without P place (h ∷ hs) all = go (all_without P place hs (All-tail P h hs
         (All-cons P h (without_at place hs) (All-head P h hs all) rest)
 
 length-without : (place : ℕ) (hs : List Held) → length hs ≤ length (without_at place hs) + 1
-length-without place [] = omega arith
-length-without place (h ∷ hs) = go (length-without place hs) (h.place == place) refl
-  where
-    go : length hs ≤ length (without_at place hs) + 1 → (b : Bool) → (h.place == place) ≡ b
-        → length (h ∷ hs) ≤ length (without_at place (h ∷ hs)) + 1
-    go rest true equal = let same = ap length (without_first place h hs equal) in omega (arith, same)
-    go rest false unequal = let same = ap length (without_later place h hs unequal) in omega (arith, same, rest)
+length-without place [] = grind arith
+length-without place (h ∷ hs) = grind (arith, without_first, without_later, length-without place hs)
 
 -- requests of different clients are no more than there are clients
 pub few_apart : (count : ℕ) (hs : List Held) → AreApart hs → All (λ (h : Held). h.place < count) hs → length hs ≤ count
@@ -174,6 +162,5 @@ module _ {A : Type 0} where
   turns_more (suc k) xs = turns_more k (turned xs)
 
   pub turns_split : (front back : List (ℕ × A)) → turns (length front) (front ++ back) ≡ back ++ front
-  turns_split [] back = sym (append-nil back)
-  turns_split (x ∷ xs) back = ap (turns (length xs)) (append_assoc xs back (x ∷ []))
-      ∙ (turns_split xs (back ++ x ∷ []) ∙ append_assoc back (x ∷ []) xs)
+  turns_split [] back = grind (arith, append-nil)
+  turns_split (x ∷ xs) back = grind (arith, append_assoc, turns_split xs (back ++ x ∷ []))

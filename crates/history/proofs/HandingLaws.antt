@@ -29,9 +29,8 @@ module _ {A : Type 0} where
 
   pub at_behind : (xs ys : List A) (k : ℕ) (x : A) → get_elem? ys k ≡ some x
       → get_elem? (xs ++ ys) (length xs + k) ≡ some x
-  at_behind [] ys k x e = (let z : 0 + k ≡ k = omega arith in ap (get_elem? ys) z) ∙ e
-  at_behind (z ∷ zs) ys k x e = (let n : suc (length zs) + k ≡ suc (length zs + k) = omega arith in
-      ap (get_elem? (z ∷ zs ++ ys)) n) ∙ at_behind zs ys k x e
+  at_behind [] ys k x e = grind arith
+  at_behind (z ∷ zs) ys k x e = grind (arith, at_behind zs ys k x e)
 
   pub at_back : (xs : List A) (x : A) → get_elem? (xs ++ x ∷ []) (length xs) ≡ some x
   at_back [] x = refl
@@ -66,15 +65,12 @@ at_map f (y ∷ ys) (suc k) x e = at_map f ys k x e
 -- the last token becomes the closing seat
 pub handed_first : (left : List TokenRecord) (t : TokenRecord) (v : View) → v.member ≡ member_of t → v.gathered ≡ []
     → members_in (left ++ t ∷ []) ≡ members_in left ++ members_of v
-handed_first left t v member bare = map-append member_of left (t ∷ [])
-    ∙ ap (λ ms. members_in left ++ ms) (λ i. sym bare i ++ sym member i ∷ [])
+handed_first left t v member bare = grind (arith, map-append)
 
 -- the closing seat takes the next one in
 pub handed_more : (rest : List TokenRecord) (t : TokenRecord) (v o : View) → o.member ≡ member_of t → members_in (rest ++ t ∷ [])
     ++ members_of v ≡ members_in rest ++ members_of (gathers v o)
-handed_more rest t v o member = ap (λ ms. ms ++ members_of v) (map-append member_of rest (t ∷ []))
-    ∙ (append_assoc (members_in rest) (member_of t ∷ []) (members_of v)
-    ∙ ap (λ m. members_in rest ++ m ∷ members_of v) (sym member))
+handed_more rest t v o member = grind (arith, map-append, append_assoc)
 
 -- what holds of all holds of the last, and of those before it
 pub last_has : (P : TokenRecord → Type 0) (all left : List TokenRecord) (t : TokenRecord) → All P all → all ≡ left ++ t ∷ [] → P t

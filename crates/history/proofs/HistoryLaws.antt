@@ -1,6 +1,6 @@
 -- Histories that begin one another, and lists by their places.
 use Rattle.std.proofs.Common.{◌≡◌, ◌⊎◌, ℕ, zero, suc, ◌<◌, List, [], ◌∷◌, ◌++◌, length, refl}
-use Rattle.std.proofs.Common.{ap, sym, subst, ◌∙◌, inl, inr, ⊎_elim, arith, append_assoc}
+use Rattle.std.proofs.Common.{ap, sym, subst, ◌∙◌, ⊎_elim, arith, append_assoc}
 use Rattle.std.proofs.lemmas.List.{append-nil}
 use Rattle.std.proofs.lemmas.Bool.Decides.{nat_tests}
 use Rattle.std.specs.Prelude.{All}
@@ -27,11 +27,10 @@ module _ {A : Type 0} where
   -- the last place of a list that grew by one
   pub at_end : (l : List A) (a b : A) (j : ℕ) → get_elem? (l ++ a ∷ []) j ≡ some b
       → ((j < length l) × (get_elem? l j ≡ some b)) ⊎ ((j ≡ length l) × (a ≡ b))
-  at_end [] a b zero e = inr (refl, some-injective a b e)
-  at_end [] a b (suc j) e = absurd (some-ne-none b (sym e))
-  at_end (x ∷ xs) a b zero e = inl (omega arith, e)
-  at_end (x ∷ xs) a b (suc j) e = ⊎_elim (λ t. let h = t.0 in inl (omega arith, t.1)) (λ t. inr (ap suc t.0, t.1))
-      (at_end xs a b j e)
+  at_end [] a b zero e = grind arith
+  at_end [] a b (suc j) e = grind arith
+  at_end (x ∷ xs) a b zero e = grind arith
+  at_end (x ∷ xs) a b (suc j) e = grind (arith, ⊎_elim, at_end xs a b j e)
 
 -- a commit is accepted only while the history is shorter than its limit
 pub accepted_short : (base : Tables) (log : List CommitRecord) (commit : CommitRecord) → IsAccepted base log commit

@@ -1,6 +1,6 @@
 -- The names of members by their places, and what every world keeps of a member.
 use Rattle.std.proofs.Common.{◌≡◌, ◌⊎◌, ℕ, ◌+◌, ◌-◌, ◌<◌, ◌≤◌, true, false, List, [], ◌∷◌, ◌++◌, length}
-use Rattle.std.proofs.Common.{Some, refl, ap, sym, subst, ◌∙◌, inl, inr, arith}
+use Rattle.std.proofs.Common.{Some, refl, ap, subst, ◌∙◌, inl, inr, arith}
 use Rattle.std.proofs.lemmas.Bool.Decides.{nat_tests}
 use Rattle.std.specs.Prelude.{nat_lt}
 use Rattle.ssb_base.specs.Base.{Tables}
@@ -45,8 +45,7 @@ client_here clients place who low is = is ∙ who_client clients place low
 
 pub dispatcher_here : (clients place : ℕ) (who : Who) → clients ≤ place → who ≡ who_at clients place
     → who ≡ Dispatcher (number_of who)
-dispatcher_here clients place who far is = let named : who ≡ Dispatcher ((place - clients) + 1) =
-    is ∙ who_dispatcher clients place far in named ∙ ap (λ n. Dispatcher n) (sym (ap number_of named))
+dispatcher_here clients place who far is = grind (arith, who_dispatcher)
 
 -- two places of one name are one
 pub who_same : (clients a b : ℕ) → who_at clients a ≡ who_at clients b → a ≡ b
@@ -54,9 +53,8 @@ who_same clients a b e = grind (arith, nat_tests)
 
 pub owns_more : (who : Who) (commit : CommitRecord) (mine history : List CommitRecord) → who ≡ Client commit.client
     → Owns who mine history → Owns who (mine ++ commit ∷ []) (history ++ commit ∷ [])
-owns_more (Client n) commit mine history e owns = let same : n ≡ commit.client = cc e in
-    ap (λ l. l ++ commit ∷ []) owns ∙ sym (own_push n history commit (sym same))
-owns_more (Dispatcher n) commit mine history e owns = absurd (cc e)
+owns_more (Client n) commit mine history e owns = grind (arith, own_push)
+owns_more (Dispatcher n) commit mine history e owns = grind arith
 
 -- what every world keeps of a client or a dispatcher
 pub record PartKept (history : List CommitRecord) (who : Who) (p : Part) : Type 0 where

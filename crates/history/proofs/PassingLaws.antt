@@ -5,12 +5,10 @@ use Rattle.std.proofs.lemmas.Bool.Decides.{nat_tests}
 use Rattle.std.proofs.lemmas.List.{append-nil}
 use Rattle.std.proofs.Math.Seq.{drop-append_seam}
 use Rattle.std.specs.Prelude.{nat_lt, All}
-use Rattle.atomic_table.specs.Seated.{TableId}
 use Rattle.atomic_table.specs.Table.{rest, turned}
 use Rattle.arrayvec.specs.ArrayVec.{ArrayVec}
 use Rattle.row_store.specs.History.{CommitRecord, Warehouse, IsPrefix}
 use Rattle.history_core.specs.declared.response.Response.{Response}
-use Rattle.history_core.specs.declared.event.Who.TheVariants.{Client}
 use Rattle.history_core.specs.Events.{Questions}
 use Rattle.row_store.proofs.HistoryLaws.{accepted_stays_legal}
 use Rattle.history_core.proofs.HistoryLaws.{named_push}
@@ -19,7 +17,7 @@ use Rattle.history.specs.declared.request.PostedRequest.{PostedRequest}
 use Rattle.history.specs.declared.view.Held.{Held}
 use Rattle.history.specs.declared.view.View.{View}
 use Rattle.history.specs.declared.token.Token.TheInside.{Inside as Token}
-use Rattle.history.specs.Words.{store, IsAccepted, request}
+use Rattle.history.specs.Words.{store, request}
 use Rattle.history.specs.Members.{marks, commits}
 use Rattle.history.specs.Rule.{Slot}
 use Rattle.history.specs.Plays.{Learns, with_rows, looked, gave_log, put_by, gave_back, posted, request_at}
@@ -40,9 +38,7 @@ module _ {W : Type 0} where
 
   quiet_carries : (p : Token W) → IsSeated p → p.place < p.seat.me.0.terms.clients → p.seat.me.0.asked ≡ None
       → p.seat.me.1 ≡ hands 0 p.seat.me.0.holds_rows ((2 + p.place, None) ∷ [])
-  quiet_carries p is near has = let v : View = p.seat.me.0 in
-      is.carried ∙ ((λ i. hands 0 v.holds_rows (hands 1 ((is.in_hand.0 near).2 i) (boxes v p.place)))
-      ∙ ap (hands 0 v.holds_rows) (boxes_client v p.place near ∙ ap (own_box p.place) has))
+  quiet_carries p is near has = grind (arith, boxes_client)
 
   turned_hands : (b : Bool) (x : ℕ × Slot W) → turned (hands 0 b (x ∷ [])) ≡ x ∷ hands 0 b []
   turned_hands true x = refl
@@ -51,15 +47,13 @@ module _ {W : Type 0} where
   -- a turn brings a client's mailbox to the front
   pub box_in_front : (p : Token W) → IsSeated p → p.place < p.seat.me.0.terms.clients → p.seat.me.0.asked ≡ None
       → turned p.seat.me.1 ≡ (2 + p.place, None) ∷ hands 0 p.seat.me.0.holds_rows []
-  box_in_front p is near has = ap turned (quiet_carries p is near has)
-      ∙ turned_hands p.seat.me.0.holds_rows (2 + p.place, None)
+  box_in_front p is near has = grind (arith, quiet_carries, turned_hands)
 
   -- the slots of a dispatcher that holds neither part
   pub dispatcher_carries : (p : Token W) → IsSeated p → p.seat.me.0.terms.clients ≤ p.place
       → p.seat.me.0.holds_rows ≡ false → p.seat.me.0.holds_writer ≡ false
       → p.seat.me.1 ≡ grabbed_boxes p.seat.me.0.grabbed
-  dispatcher_carries p is far free free' = let v : View = p.seat.me.0 in
-      is.carried ∙ ((λ i. hands 0 (free i) (hands 1 (free' i) (boxes v p.place))) ∙ boxes_behind v p.place far)
+  dispatcher_carries p is far free free' = grind (arith, boxes_behind)
 
   -- a client's place is among the first, a dispatcher's behind these
   pub is_before : (p : Token W) (t : TokenRecord) → shown_token p ≡ t → IsSeated p → IsClient t → p.place < p.seat.me.0.terms.clients
@@ -68,8 +62,7 @@ module _ {W : Type 0} where
 
   pub is_behind : (p : Token W) (t : TokenRecord) → shown_token p ≡ t → IsSeated p → IsDispatcher t
       → p.seat.me.0.terms.clients ≤ p.place
-  is_behind p t view is dispatcher = who_behind p.seat.me.0.terms.clients p.place dispatcher.0
-      (sym (is.member ∙ is.who) ∙ (ap (λ (x : TokenRecord). x.who) view ∙ dispatcher.1))
+  is_behind p t view is dispatcher = grind (arith, who_behind)
 
   -- the token with this hand, this seat and this number
   abbrev pub passed : Token W → ArrayVec ℕ → Place W → ℕ → Token W
@@ -92,50 +85,19 @@ module _ {W : Type 0} where
       → p.seat.me.0.holds_rows ≡ false → seen_len ≡ length history → Learns p.seat.me.0 history
       → after.me ≡ (with_rows p.seat.me.0 history, (0, None) ∷ p.seat.me.1)
       → IsSeated (passed p p.hand after seen_len)
-  took_seated p after history seen_len is free long told now = let v : View = p.seat.me.0 in
-      by_view p p.hand after seen_len (with_rows v history) ((0, None) ∷ p.seat.me.1) now record {
-        role = is.role;
-        who = is.who;
-        member = is.member;
-        seen_len = long;
-        hand = is.hand;
-        carried = ap (λ cs. (0, None) ∷ cs) (is.carried ∙ ap (λ b. hands 0 b (hands 1 v.holds_writer (boxes v p.place)))
-            free);
-        in_hand = is.in_hand;
-        few = is.few;
-        near = is.near;
-        apart = is.apart;
-        gathered = is.gathered;
-        sound = record { legal = told.legal; named = told.named; owns = told.owns };
-      }
+  took_seated p after history seen_len is free long told now = grind (arith, by_view)
 
   pub took_token : (p : Token W) (after : Place W) (history : List CommitRecord) (seen_len : ℕ)
       → Learns p.seat.me.0 history → after.table_id ≡ p.seat.table_id
       → after.me ≡ (with_rows p.seat.me.0 history, (0, None) ∷ p.seat.me.1)
       → Took (shown_token p) (shown_token (passed p p.hand after seen_len))
-  took_token p after history seen_len told table now =
-      subst (Took (shown_token p)) (sym (token_is p p.hand after seen_len (with_rows p.seat.me.0 history)
-      ((0, None) ∷ p.seat.me.1) table now)) record { begins = told.begins; beside = told.beside; now = refl }
+  took_token p after history seen_len told table now = grind (arith, token_is)
 
   pub looked_seated : (p : Token W) (after : Place W) (beside : List (List CommitRecord)) (history : List CommitRecord)
       (seen_len : ℕ) → IsSeated p → seen_len ≡ length history → Learns (record p.seat.me.0 { beside = beside }) history
       → after.me ≡ (looked (record p.seat.me.0 { beside = beside }) history, p.seat.me.1)
       → IsSeated (passed p p.hand after seen_len)
-  looked_seated p after beside history seen_len is long told now =
-      by_view p p.hand after seen_len (looked (record p.seat.me.0 { beside = beside }) history) p.seat.me.1 now record {
-        role = is.role;
-        who = is.who;
-        member = is.member;
-        seen_len = long;
-        hand = is.hand;
-        carried = is.carried;
-        in_hand = is.in_hand;
-        few = is.few;
-        near = is.near;
-        apart = is.apart;
-        gathered = is.gathered;
-        sound = record { legal = told.legal; named = told.named; owns = told.owns };
-      }
+  looked_seated p after beside history seen_len is long told now = grind (arith, by_view)
 
   -- a token that looked, after it heard of more
   pub saw_token : (p : Token W) (after : Place W) (n : ℕ) (beside : List (List CommitRecord))
@@ -143,36 +105,17 @@ module _ {W : Type 0} where
       → after.me ≡ (looked (record p.seat.me.0 { beside = beside }) history, p.seat.me.1)
       → IsPrefix p.seat.me.0.member.seen history → All (λ list. IsPrefix list history) p.seat.me.0.beside
       → Saw (shown_token p) (shown_token (passed p p.hand after n))
-  saw_token p after n beside history table now begins known =
-      subst (Saw (shown_token p)) (sym (token_is p p.hand after n (looked (record p.seat.me.0 { beside = beside }) history)
-      p.seat.me.1 table now)) record { begins = begins; beside = known; now = refl }
+  saw_token p after n beside history table now begins known = grind (arith, token_is)
 
   pub posted_seated : (p : Token W) (after : Place W) (asked : PostedRequest) → IsSeated p
       → p.place < p.seat.me.0.terms.clients → after.me ≡ (posted p.seat.me.0 asked, hands 0 p.seat.me.0.holds_rows [])
       → IsSeated (passed p p.hand after p.seen_len)
-  posted_seated p after asked is near now = let v : View = p.seat.me.0 in
-      by_view p p.hand after p.seen_len (posted v asked) (hands 0 v.holds_rows []) now record {
-        role = is.role;
-        who = is.who;
-        member = is.member;
-        seen_len = is.seen_len;
-        hand = is.hand;
-        carried = sym ((λ i. hands 0 v.holds_rows (hands 1 ((is.in_hand.0 near).2 i) (boxes (posted v asked) p.place)))
-            ∙ ap (hands 0 v.holds_rows) (boxes_client (posted v asked) p.place near));
-        in_hand = (is.in_hand.0, λ far. absurd (omega arith));
-        few = is.few;
-        near = is.near;
-        apart = is.apart;
-        gathered = is.gathered;
-        sound = record { legal = is.sound.legal; named = is.sound.named; owns = is.sound.owns };
-      }
+  posted_seated p after asked is near now = grind (arith, by_view, boxes_client)
 
   pub posted_token : (p : Token W) (after : Place W) (questions : Questions) (carried : List (ℕ × Slot W)) → IsSeated p
       → after.table_id ≡ p.seat.table_id → after.me ≡ (posted p.seat.me.0 (request questions p.seen_len), carried)
       → shown_token (passed p p.hand after p.seen_len) ≡ public.posted (shown_token p) questions
-  posted_token p after questions carried is table now =
-      token_is p p.hand after p.seen_len (posted p.seat.me.0 (request questions p.seen_len)) carried table now
-      ∙ ap (λ n. token_of_view p.seat.table_id (posted p.seat.me.0 (request questions n))) is.seen_len
+  posted_token p after questions carried is table now = grind (arith, token_is)
 
   pub grabbed_token : (p : Token W) (hand : ArrayVec ℕ) (after : Place W) (place client : ℕ) (asked : PostedRequest)
       (carried : List (ℕ × Slot W)) → place + 1 ≡ client → after.table_id ≡ p.seat.table_id
@@ -213,55 +156,22 @@ module _ {W : Type 0} where
       → p.seat.me.0.terms.clients ≤ p.place → p.seat.me.0.holds_rows ≡ false → p.seat.me.0.holds_writer ≡ false
       → after.me ≡ (with_writer p.seat.me.0 list, (1, None) ∷ p.seat.me.1)
       → IsSeated (passed p p.hand after p.seen_len)
-  writer_taken_seated p after list is far free free' now = let v : View = p.seat.me.0 in
-      by_view p p.hand after p.seen_len (with_writer v list) ((1, None) ∷ p.seat.me.1) now record {
-        role = is.role;
-        who = is.who;
-        member = is.member;
-        seen_len = is.seen_len;
-        hand = is.hand;
-        carried = ap (λ cs. (1, None) ∷ cs) (dispatcher_carries p is far free free')
-            ∙ sym (ap (λ b. hands 0 b ((1, None) ∷ boxes (with_writer v list) p.place)) free
-            ∙ ap (λ cs. (1, None) ∷ cs) (boxes_behind (with_writer v list) p.place far));
-        in_hand = ((λ low. absurd (omega arith)), is.in_hand.1);
-        few = is.few;
-        near = is.near;
-        apart = is.apart;
-        gathered = is.gathered;
-        sound = record { legal = is.sound.legal; named = is.sound.named; owns = is.sound.owns };
-      }
+  writer_taken_seated p after list is far free free' now = grind (arith, by_view, dispatcher_carries, boxes_behind)
 
   pub writer_taken_token : (p : Token W) (after : Place W) (list : List CommitRecord) (carried : List (ℕ × Slot W))
       → after.table_id ≡ p.seat.table_id → after.me ≡ (with_writer p.seat.me.0 list, carried)
       → shown_token (passed p p.hand after p.seen_len) ≡ public.with_writer (shown_token p) list
-  writer_taken_token p after list carried table now = token_is p p.hand after p.seen_len (with_writer p.seat.me.0 list)
-      carried table now
+  writer_taken_token p after list carried table now = grind (arith, token_is)
 
   pub writer_back_seated : (p : Token W) (after : Place W) → IsSeated p → p.seat.me.0.terms.clients ≤ p.place
       → p.seat.me.0.holds_rows ≡ false → p.seat.me.0.holds_writer ≡ true
       → after.me ≡ (without_writer p.seat.me.0, rest p.seat.me.1) → IsSeated (passed p p.hand after p.seen_len)
-  writer_back_seated p after is far free taken now = let v : View = p.seat.me.0 in
-      by_view p p.hand after p.seen_len (without_writer v) (rest p.seat.me.1) now record {
-        role = is.role;
-        who = is.who;
-        member = is.member;
-        seen_len = is.seen_len;
-        hand = is.hand;
-        carried = ap rest (is.carried ∙ (λ i. hands 0 (free i) (hands 1 (taken i) (boxes v p.place))))
-            ∙ sym (ap (λ b. hands 0 b (boxes v p.place)) free);
-        in_hand = ((λ low. absurd (omega arith)), is.in_hand.1);
-        few = is.few;
-        near = is.near;
-        apart = is.apart;
-        gathered = is.gathered;
-        sound = record { legal = is.sound.legal; named = is.sound.named; owns = is.sound.owns };
-      }
+  writer_back_seated p after is far free taken now = grind (arith, by_view)
 
   pub writer_back_token : (p : Token W) (after : Place W) (carried : List (ℕ × Slot W))
       → after.table_id ≡ p.seat.table_id → after.me ≡ (without_writer p.seat.me.0, carried)
       → shown_token (passed p p.hand after p.seen_len) ≡ public.without_writer (shown_token p)
-  writer_back_token p after carried table now = token_is p p.hand after p.seen_len (without_writer p.seat.me.0) carried
-      table now
+  writer_back_token p after carried table now = grind (arith, token_is)
 
 -- what the giver of the rows makes of its member, where nothing is new, and where one commit is
 put_line : (m : Member) (log : List CommitRecord) → log ≡ m.seen → put_by m log ≡ marks m.seen m
@@ -271,9 +181,7 @@ put_line m log same = let none_new : drop (length m.seen) log ≡ [] =
 
 put_line_more : (m : Member) (log : List CommitRecord) (commit : CommitRecord) → log ≡ m.seen ++ commit ∷ []
     → put_by m log ≡ commits (m.seen ++ commit ∷ []) commit m
-put_line_more m log commit more = let one_new : drop (length m.seen) log ≡ commit ∷ [] =
-    ap (drop (length m.seen)) more ∙ drop-append_seam m.seen (commit ∷ []) in
-    ap (gave_log m log) one_new ∙ ap (λ l. commits l commit m) more
+put_line_more m log commit more = grind (arith, drop-append_seam)
 
 gave_seen : (m : Member) (log new : List CommitRecord) → ((gave_log m log new).who ≡ m.who)
     × ((gave_log m log new).seen ≡ log)
@@ -284,22 +192,7 @@ module _ {W : Type 0} where
   -- a view that adds nothing, or one commit of its own, is as sound as before
   put_sound : (p : Token W) (rows : Warehouse) → IsSeated p → MayPut (shown_token p) rows
       → IsSound (token_of_view p.seat.table_id (gave_back p.seat.me.0 rows.log))
-  put_sound p rows is may = let v : View = p.seat.me.0 in let m : Member = v.member in let z : TableId =
-      p.seat.table_id in ⊎_elim
-      (λ (same : rows.log ≡ m.seen). subst (λ x. IsSound
-      (token_of_view z (record v { member = x; holds_rows = false }))) (sym (put_line m rows.log same))
-      record { legal = is.sound.legal; named = is.sound.named; owns = is.sound.owns })
-      (λ (more : (commit : CommitRecord) × (m.who ≡ Client commit.client) × IsAccepted v.terms.base m.seen commit
-      × (rows.log ≡ m.seen ++ commit ∷ [])).
-      let commit : CommitRecord = more.0 in let low = who_back v.terms.clients p.place commit.client
-      (sym (is.member ∙ is.who) ∙ more.1) in let h₀ = low.0 in let h₁ = low.1 in
-      subst (λ x. IsSound (token_of_view z (record v { member = x; holds_rows = false })))
-      (sym (put_line_more m rows.log commit more.3)) record {
-        legal = accepted_stays_legal v.terms.base m.seen commit is.sound.legal more.2;
-        named = named_push v.terms.clients m.seen commit is.sound.named (omega arith, omega arith);
-        owns = owns_more m.who commit m.mine m.seen more.1 is.sound.owns;
-      })
-      may.1
+  put_sound p rows is may = grind (arith, ⊎_elim, put_line, who_back, put_line_more, accepted_stays_legal, named_push, owns_more)
 
   pub put_seated : (p : Token W) (after : Place W) (rows : Warehouse) (seen_len : ℕ) → IsSeated p
       → p.seat.me.0.holds_rows ≡ true → MayPut (shown_token p) rows → seen_len ≡ length rows.log
@@ -324,31 +217,13 @@ module _ {W : Type 0} where
   pub put_token : (p : Token W) (after : Place W) (rows : Warehouse) (seen_len : ℕ) (carried : List (ℕ × Slot W))
       → after.table_id ≡ p.seat.table_id → after.me ≡ (gave_back p.seat.me.0 rows.log, carried)
       → Put (shown_token p) rows (shown_token (passed p p.hand after seen_len))
-  put_token p after rows seen_len carried table now = let v : View = p.seat.me.0 in let m : Member = v.member in let z :
-      TableId = p.seat.table_id in let whole = token_is p p.hand after seen_len (gave_back v rows.log) carried table now
-      in (
-        (λ same. whole ∙ ap (λ x. token_of_view z (record v { member = x; holds_rows = false }))
-            (put_line m rows.log same)),
-        λ commit more. whole ∙ ap (λ x. token_of_view z (record v { member = x; holds_rows = false }))
-            (put_line_more m rows.log commit more),
-      )
+  put_token p after rows seen_len carried table now = grind (arith, token_is, put_line, put_line_more)
 
   -- one commit was added where the lengths differ
   pub put_adds : (p : Token W) (rows : Warehouse) → IsSeated p → MayPut (shown_token p) rows → length rows.log ≢ p.seen_len
       → Adds p.seat rows.log
-  put_adds p rows is may longer = ⊎_elim
-      (λ (same : rows.log ≡ p.seat.me.0.member.seen). absurd (longer (ap length same ∙ sym is.seen_len)))
-      (λ more. let low = who_back p.seat.me.0.terms.clients p.place more.0.client (sym (is.member ∙ is.who) ∙ more.1) in
-      (more.0, p.place, is.role, low.0, low.1, more.2, more.3))
-      may.1
+  put_adds p rows is may longer = grind (arith, ⊎_elim, who_back)
 
   pub put_same : (p : Token W) (rows : Warehouse) → IsSeated p → MayPut (shown_token p) rows → length rows.log ≡ p.seen_len
       → rows ≡ store p.seat.me.0.terms.base p.seat.me.0.member.seen
-  put_same p rows is may as_long = ⊎_elim
-      (λ (same : rows.log ≡ p.seat.me.0.member.seen). λ i. store (may.0 i) (same i))
-      (λ (more : (commit : CommitRecord) × (p.seat.me.0.member.who ≡ Client commit.client)
-      × IsAccepted p.seat.me.0.terms.base p.seat.me.0.member.seen commit
-      × (rows.log ≡ p.seat.me.0.member.seen ++ commit ∷ [])).
-      let long = ap length more.3 ∙ length-append p.seat.me.0.member.seen (more.0 ∷ []) in let was = is.seen_len in
-      absurd (omega arith))
-      may.1
+  put_same p rows is may as_long = grind (arith, ⊎_elim, length-append)

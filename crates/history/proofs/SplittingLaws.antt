@@ -52,32 +52,10 @@ module _ {W : Type 0} where
   others_keep : (key : Terms) (homes : Homes W) (deeds : List Deed) (w : World) (owner : ℕ → ℕ) (next new seat j : ℕ) (v : View)
       → owner next ≡ seat → j ≢ seat → (r : Role) → KnowsAs key homes deeds w owner j v r
       → KnowsAs key homes deeds w (placed owner next new) j v r
-  others_keep key homes deeds w owner next new seat j v mine apart (Dealer first) k = record {
-    common = k.common;
-    plays = λ p le. placed_else owner next new p (λ e. apart (sym (k.plays p le) ∙ (ap owner e ∙ mine))) ∙ k.plays p le;
-    members = k.members;
-    free = k.free;
-    idle = k.idle;
-    vacant = k.vacant;
-  }
-  others_keep key homes deeds w owner next new seat j v mine apart (Token p) k = record {
-    common = k.common;
-    plays = placed_else owner next new p (λ e. apart (sym k.plays ∙ (ap owner e ∙ mine))) ∙ k.plays;
-    within = k.within;
-    who = k.who;
-    told = k.told;
-    rows = k.rows;
-    free = k.free;
-    writer = k.writer;
-    idle = k.idle;
-    asked = k.asked;
-    grabbed = k.grabbed;
-    apart = k.apart;
-    vacant = k.vacant;
-    gathered = λ i m at. handed_placed key deeds w owner next new seat j p m mine apart (k.gathered i m at);
-  }
-  others_keep key homes deeds w owner next new seat j v mine apart Note k = k
-  others_keep key homes deeds w owner next new seat j v mine apart Spent k = k
+  others_keep key homes deeds w owner next new seat j v mine apart (Dealer first) k = grind (arith, placed_else)
+  others_keep key homes deeds w owner next new seat j v mine apart (Token p) k = grind (arith, placed_else, handed_placed)
+  others_keep key homes deeds w owner next new seat j v mine apart Note k = grind arith
+  others_keep key homes deeds w owner next new seat j v mine apart Spent k = grind arith
 
 module _ {W : Type 0} (base_of : W → Tables) (taken : W → List CommitRecord) (key : Terms) where
   abbrev Rule : State (Slot W) View → Type 0
