@@ -1,5 +1,5 @@
 -- The groups of a question can be numbered and summed.
-use Rattle.std.proofs.Common.{ℕ, zero, suc, ◌≡◌, ◌*◌, ◌<◌, List, [], ◌∷◌, length, map, get_or, refl, sym, ap, ◌∙◌}
+use Rattle.std.proofs.Common.{ℕ, zero, suc, ◌≡◌, ◌*◌, ◌<◌, List, [], ◌∷◌, length, map, get_or, sym, ap, ◌∙◌}
 use Rattle.std.proofs.Common.{subst, arith}
 use Rattle.std.specs.List.{All, AllByRecursion}
 use Rattle.std.proofs.lemmas.List.{length-map}
@@ -8,7 +8,6 @@ use Rattle.ssb_schema.specs.declared.column.Column.{Column}
 use Rattle.ssb_schema.specs.declared.table.Table.{Table}
 use Rattle.ssb_schema.specs.declared.table.Table.TheVariants as table
 use Rattle.ssb_questions.specs.declared.value.Value.{Value}
-use Rattle.ssb_answers.specs.RowValues.{customer_value, supplier_value, part_value, date_value}
 use Rattle.dimension_index.specs.Codes.{codes_of, distinct, code_in}
 use Rattle.dimension_index.specs.Values.{values_of, values_at}
 use Rattle.fact_columns.specs.declared.place.Place.{Place}
@@ -37,15 +36,11 @@ module _ (base : Tables) (places : List Place) (lines : LineColumns) (within : A
 
   rows_there : (t : Table) (place : ℕ) → (t ≡ table.Lineorder → ⊥)
       → All (λ p. position_of_table p t < length (values_at base t place)) places
-  rows_there table.Customer place dim = λ k e below. let h = (within k e below).customer in
-      omega (arith, h, length-map base.dimensions.customers (customer_value place))
-  rows_there table.Supplier place dim = λ k e below. let h = (within k e below).supplier in
-      omega (arith, h, length-map base.dimensions.suppliers (supplier_value place))
-  rows_there table.Part place dim = λ k e below. let h = (within k e below).part in
-      omega (arith, h, length-map base.dimensions.parts (part_value place))
-  rows_there table.Date place dim = λ k e below. let h = (within k e below).date in
-      omega (arith, h, length-map base.dimensions.dates (date_value place))
-  rows_there table.Lineorder place dim = absurd (dim refl)
+  rows_there table.Customer place dim = grind (arith, length-map)
+  rows_there table.Supplier place dim = grind (arith, length-map)
+  rows_there table.Part place dim = grind (arith, length-map)
+  rows_there table.Date place dim = grind (arith, length-map)
+  rows_there table.Lineorder place dim = grind arith
 
   can_number : (masks : Masks) (k : ℕ) (column : Column) (values : List Value) (step : ℕ) (part : List ℕ)
       (group : GroupColumn) → (column.table ≡ table.Lineorder → ⊥)

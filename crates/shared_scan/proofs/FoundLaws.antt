@@ -1,6 +1,6 @@
 -- Which question has too many groups.
 use Rattle.std.proofs.Common.{ℕ, suc, ◌≡◌, ◌+◌, ◌≤◌, Bool, true, false, cond, not, Some, None, List, [], ◌∷◌, length}
-use Rattle.std.proofs.Common.{map, get_or, arith, ap, sym, subst, refl, Result, Ok, Err, ◌∙◌}
+use Rattle.std.proofs.Common.{map, arith, ap, sym, subst, refl, Result, Ok, Err, ◌∙◌}
 use Rattle.std.specs.Prelude.{nat_lt, slice_get, position}
 use Rattle.std.specs.List.{All, position_or_len}
 use Rattle.std.specs.Option.{option_map}
@@ -37,9 +37,7 @@ none_found test xs none = ltb-false (position_or_len test xs) (length xs)
 -- where no question has many groups, each has few
 pub few_unless_many : (base : Tables) (questions : List (Query × List Value))
     → position (has_many_groups base) questions ≡ None → All (HasFewGroups base) questions
-few_unless_many base questions none k question below = ltb-false 65536 (most_groups base (get_or questions k question))
-    (fails_before_first (has_many_groups base) questions k question
-    (omega (arith, below, none_found (has_many_groups base) questions none)))
+few_unless_many base questions none k question below = grind (arith, ltb-false, fails_before_first, none_found)
 
 -- the first place is found by what each element says
 said_place : {X : Type 0} (test : X → Bool) (xs : List X)

@@ -32,9 +32,8 @@ use Rattle.scan_kernel.specs.Places.{mask_in}
 use Rattle.scan_kernel.specs.declared.masks.Masks.{Masks}
 use Rattle.shared_scan.specs.Batch.{IsReady}
 use Rattle.shared_scan.specs.Grouped.{ArePrepared}
-use Rattle.shared_scan.specs.GroupCounts.{values_passing, passing_values, count_passing, most_groups_of, most_groups}
+use Rattle.shared_scan.specs.GroupCounts.{values_passing, passing_values, count_passing, most_groups}
 use Rattle.shared_scan.specs.Numbering.{IsPreparedColumn}
-use Rattle.shared_scan.specs.Parts.{parts_in}
 use Rattle.shared_scan.specs.Prepared.{AreMasksOf, masks_in}
 use Rattle.shared_scan.specs.declared.ready.Ready.{Ready}
 use Rattle.shared_scan.proofs.ClassedLaws.{among_all, class_there}
@@ -62,11 +61,7 @@ module _ {R : Type 0} (value : ℕ → R → Value) (tests : List Test) (place :
 
   passing_row : (rows : List R) (v : Value) → Has (values_passing tests value rows place) v → (p : ℕ) × (row : R)
       × (slice_get rows p ≡ Some row) × (passes row ≡ true) × (v ≡ value place row)
-  passing_row rows v h =
-      let mapped = has_from_map (value place) (filter passes rows) v h in
-      let kept = kept_has passes rows mapped.0 mapped.1 in
-      let found = has_index rows mapped.0 kept.0 in
-      (found.0, mapped.0, found.1, kept.1, mapped.2)
+  passing_row rows v h = grind (arith, has_from_map, passes, kept_has, has_index)
 
   -- rows among which each row of the others has its like, and no others, have the same values
   alike_many : (rows : List R) (n : ℕ)
@@ -117,11 +112,7 @@ module _ {R : Type 0} (value : ℕ → R → Value) (rows : List R) (tests : Pla
       (made.adds found.0 (value place found.1) at bit).0)
 
   counted : length values ≡ length (distinct (values_passing (tests plan) value rows place))
-  counted = equally_many values (distinct (values_passing (tests plan) value rows place)) made.apart
-      (distinct_apart (values_passing (tests plan) value rows place)) (record {
-        forth = λ v h. distinct_has (values_passing (tests plan) value rows place) v (taken_pass v h);
-        back = λ v h. passing_taken v (distinct_only (values_passing (tests plan) value rows place) v h);
-      })
+  counted = grind (arith, equally_many, distinct_apart, distinct_has, taken_pass, passing_taken, distinct_only)
 
 -- a column of the fact table has no values
 unread : (masks : Option (List ℕ)) (k step : ℕ) (values : List Value) (parts : List ℕ)
@@ -160,12 +151,7 @@ module _ (base : Tables) (masks : Masks) (plans : List Plan) (tell : AreMasksOf 
   -- a question that is made ready has as many groups
   pub ready_counted : (question : Query × List Value) (ready : Ready) → plan ≡ plan_over question.0 question.1
       → IsReady base masks k question ready → ready.groups.size ≡ most_groups base question
-  ready_counted question ready is made =
-      let P : Plan → Type 0 = λ p. ArePrepared base masks k p.groups ready.groups.columns.items 1
-      (parts_in ready.groups.parts) in
-      let prepared : P plan = subst P (made.plan_is ∙ sym is) made.prepared in
-      made.size_is ∙ ap size_of (columns_counted plan.groups ready.groups.columns.items 1
-      (parts_in ready.groups.parts) prepared) ∙ ap (most_groups_of base.dimensions) is
+  ready_counted question ready is made = grind (arith, columns_counted)
 
 -- each row has its like among the rows that begin a class
 module _ (d : Dimensions) (p : ℕ) where

@@ -7,7 +7,6 @@ use Rattle.ssb_schema.specs.declared.column.Column.{Column}
 use Rattle.ssb_schema.specs.declared.table.Table.TheVariants.{Customer, Supplier, Part, Date, Lineorder}
 use Rattle.ssb_answers.proofs.MemberLaws.{all_at, all_weaker}
 use Rattle.ssb_questions.proofs.StarLaws.{groups_read}
-use Rattle.ssb_questions.specs.Members.{Has}
 use Rattle.ssb_questions.specs.Queries.{plan_over}
 use Rattle.ssb_questions.specs.declared.query.Query.{Query}
 use Rattle.ssb_questions.specs.declared.value.Value.{Value}
@@ -32,6 +31,4 @@ of_dimensions = grind (arith, no_customer, no_supplier, no_part, no_date)
 
 pub dimensions_alone : (query : Query) (constants : List Value)
     → AllByRecursion (λ column. column.table ≡ Lineorder → ⊥) (plan_over query constants).groups
-dimensions_alone query constants =
-    all_weaker (Has query_columns) IsOfDimension (λ column has. all_at IsOfDimension query_columns column of_dimensions has)
-    (plan_over query constants).groups (groups_read query constants)
+dimensions_alone query constants = grind (arith, all_weaker, IsOfDimension, all_at, of_dimensions, groups_read)

@@ -1,8 +1,7 @@
 -- Masks as their bits are set one after another.
 use Rattle.std.proofs.Common.{ℕ, ◌≡◌, ◌+◌, ◌*◌, ◌-◌, ◌%◌, ◌^◌, ◌<◌, ◌≤◌, Bool, true, false, cond, List, length, get_or}
 use Rattle.std.proofs.Common.{Some, sym, refl, ap, ◌∙◌, arith, bit_or}
-use Rattle.std.specs.Prelude.{slice_get, nat_eq}
-use Rattle.std.specs.Cmp.{unsigned_Decides}
+use Rattle.std.specs.Prelude.{slice_get}
 use Rattle.std.specs.Int.{bit_at, w16}
 use Rattle.std.proofs.lemmas.Nat.Bits.{bit_at_set_same, bit_at_set_other, bit_at_ones}
 use Rattle.std.proofs.lemmas.Option.{slice_get_within}
@@ -25,22 +24,12 @@ module _ (passes : Plan → Bool) (plans : List Plan) (number mask : ℕ) (this 
 
   -- what holds of the new place and of those before it holds of all up to it
   split : (P : ℕ → Type 0) (k : ℕ) → (k ≡ number → P k) → ((k ≡ number → ⊥) → P k) → P k
-  split P k same other =
-      elim (nat_eq k number) as (λ b. nat_eq k number ≡ b → P k) [
-        | true ↦ λ t. same ((unsigned_Decides k number).0 t)
-        | false ↦ λ f. other (λ e. let t : nat_eq k number ≡ true = (unsigned_Decides k number).1 e in cc)
-      ] refl
+  split P k same other = grind arith
 
   -- a bit of the new mask, where the new bit is right and the others stay
   next : (new : ℕ) → bit_at new number ≡ cond (passes this) 1 0
       → ((k : ℕ) → (k ≡ number → ⊥) → bit_at new k ≡ bit_at mask k) → IsMaskUpTo passes plans (number + 1) new
-  next new here others = record {
-    bits = λ k plan below at. split (λ j. bit_at new j ≡ cond (passes plan) 1 0) k
-        (λ same. ap (bit_at new) same ∙ here ∙ ap (λ (p : Plan). cond (passes p) 1 0)
-        (sym (same_plan plan (sym (ap (slice_get plans) same) ∙ at))))
-        (λ other. others k other ∙ h.bits k plan (omega (arith, below, other)) at);
-    above = λ k from. others k (λ e. omega (arith, from, e)) ∙ h.above k (omega (arith, from));
-  }
+  next new here others = grind (arith, split, same_plan)
 
   pub mask_sets : number < 16 → passes this ≡ true → IsMaskUpTo passes plans (number + 1)
       (bit_or mask (1 * 2 ^ number % 2 ^ 16))

@@ -14,7 +14,6 @@ use Rattle.ssb_schema.specs.declared.table.Table.{Table}
 use Rattle.ssb_schema.specs.declared.table.Table.TheVariants as table
 use Rattle.ssb_questions.specs.declared.value.Value.{Value}
 use Rattle.ssb_answers.specs.Combination.{Combination, value_at}
-use Rattle.ssb_answers.specs.RowValues.{customer_value, supplier_value, part_value, date_value}
 use Rattle.dimension_index.specs.Values.{values_of}
 use Rattle.fact_columns.specs.declared.place.Place.{Place}
 use Rattle.scan_kernel.specs.declared.columns.LineColumns.{LineColumns}
@@ -65,15 +64,11 @@ module _ (base : Tables) (masks : Masks) (k : ℕ) (places : List Place) (lines 
   value_there : (t : Table) (place : ℕ) (c : Combination) → StandAt base.dimensions c here → (t ≡ table.Lineorder → ⊥)
       → slice_get (values_of base (record { table = t; place = place })) (position_of_table here t) ≡ Some
       (value_at (record { table = t; place = place }) c)
-  value_there table.Customer place c stand dim = mapped_at (customer_value place) base.dimensions.customers
-      here.customer c.customer stand.customer
-  value_there table.Supplier place c stand dim = mapped_at (supplier_value place) base.dimensions.suppliers
-      here.supplier c.supplier stand.supplier
-  value_there table.Part place c stand dim = mapped_at (part_value place) base.dimensions.parts here.part c.part
-      stand.part
-  value_there table.Date place c stand dim = mapped_at (date_value place) base.dimensions.dates here.date c.date
-      stand.date
-  value_there table.Lineorder place c stand dim = absurd (dim refl)
+  value_there table.Customer place c stand dim = grind (arith, mapped_at, here)
+  value_there table.Supplier place c stand dim = grind (arith, mapped_at, here)
+  value_there table.Part place c stand dim = grind (arith, mapped_at, here)
+  value_there table.Date place c stand dim = grind (arith, mapped_at, here)
+  value_there table.Lineorder place c stand dim = grind arith
 
   bit_there : (t : Table) → (t ≡ table.Lineorder → ⊥) → bit_at (place_mask masks here) k ≡ 1
       → bit_at (mask_in (masks_in t masks) (position_of_table here t)) k ≡ 1

@@ -28,23 +28,7 @@ module _ (rows : List Value) (masks : Option (List ℕ)) (k step : ℕ) (numbers
   value_at n below = get_or-map (λ code. get_or (distinct rows) code (Number 0)) kept n 0 (Number 0) below
 
   kept_apart : AreApart kept_values
-  kept_apart i j i_below j_below same =
-      let i_in : i < length kept = omega (
-        arith,
-        i_below,
-        length-map kept (λ code. get_or (distinct rows) code (Number 0)),
-      ) in
-      let j_in : j < length kept = omega (
-        arith,
-        j_below,
-        length-map kept (λ code. get_or (distinct rows) code (Number 0)),
-      ) in
-      let i_back = numbered.back i i_in in
-      let j_back = numbered.back j j_in in
-      let codes : get_or kept i 0 ≡ get_or kept j 0 =
-      distinct_apart rows (get_or kept i 0) (get_or kept j 0) (omega (arith, i_back.0, len))
-      (omega (arith, j_back.0, len)) (sym (value_at i i_in) ∙ same ∙ value_at j j_in) in
-      sym i_back.1 ∙ ap (λ (c : ℕ). get_or numbers c 0) codes ∙ j_back.1
+  kept_apart i j i_below j_below same = grind (arith, length-map, distinct_apart, value_at)
 
   -- the value of a code that is kept is that of a row that the question takes
   kept_taken : (n : ℕ) (value : Value) → slice_get kept_values n ≡ Some value → IsTakenValue rows masks k value

@@ -53,9 +53,7 @@ pub dense_columns : (base : Tables) (lines : LineColumns) (ready : Ready) (parts
     (groups : List GroupColumn) → ready.groups.parts ≡ parts → parts_in parts ≡ list
     → AreGroupColumns base lines ready.plan.groups list groups
     → AreGroupColumns base lines ready.plan.groups (parts_in ready.groups.parts) groups
-dense_columns base lines ready parts list groups e same columns =
-    let P : List (List ℕ) → Type 0 = λ ps. AreGroupColumns base lines ready.plan.groups ps groups in
-    subst P (sym (ap parts_in e ∙ same)) columns
+dense_columns base lines ready parts list groups e same columns = grind arith
 
 -- the groups of a question can be numbered, and each has a number below their count
 pub can_group : (base : Tables) (masks : Masks) (k : ℕ) (places : List Place) (lines : LineColumns) (plans : List Plan)

@@ -1,6 +1,6 @@
 -- A line's rows by position are those that it names.
-use Rattle.std.proofs.Common.{◌||◌, ℕ, zero, suc, ◌≡◌, ◌<◌, List, [], ◌∷◌, Bool, true, false, cond, Option, Some}
-use Rattle.std.proofs.Common.{length, refl, sym, ap, ◌∙◌, arith}
+use Rattle.std.proofs.Common.{◌||◌, ℕ, zero, suc, ◌≡◌, ◌<◌, List, [], ◌∷◌, Bool, true, cond, Option, Some}
+use Rattle.std.proofs.Common.{length, refl, ap, ◌∙◌, arith}
 use Rattle.std.specs.Prelude.{nat_eq, slice_get, unwrap_or}
 use Rattle.std.specs.Option.{option_map_or}
 use Rattle.std.specs.Cmp.{unsigned_Decides}
@@ -23,14 +23,9 @@ module _ {R : Type 0} (key : R → ℕ) where
       (omega (arith, below)) at_i at_j) at
 
   pub own_key : (rows : List R) (p : ℕ) (row : R) → slice_get rows p ≡ Some row → has_key key rows (key row) ≡ true
-  own_key [] p row at = cc
-  own_key (r ∷ rows) zero row at =
-      let same : r ≡ row = cc in
-      let t : nat_eq (key r) (key row) ≡ true = (unsigned_Decides (key r) (key row)).1 (ap key same) in
-      ap (λ (b : Bool). b || has_key key rows (key row)) t
-  own_key (r ∷ rows) (suc p) row at =
-      let rest = own_key rows p row at in
-      elim (nat_eq (key r) (key row)) as (λ b. (b || has_key key rows (key row)) ≡ true) [ true ↦ refl | false ↦ rest ]
+  own_key [] p row at = grind arith
+  own_key (r ∷ rows) zero row at = grind arith
+  own_key (r ∷ rows) (suc p) row at = grind (arith, own_key rows p row at)
 
   pub row_there : (rows : List R) (p : ℕ) → p < length rows → (row : R) × (slice_get rows p ≡ Some row)
   row_there [] p below = absurd (omega (arith, below))
@@ -40,11 +35,7 @@ module _ {R : Type 0} (key : R → ℕ) where
   -- the row at a position is the one whose key is read back there
   pub named_row : (rows : List R) (p : ℕ) (row blank : R) → AreDistinct (has_key_of key) rows
       → slice_get rows p ≡ Some row → slice_get rows p ≡ Some (unwrap_or (row_with key rows (key_at key rows p)) blank)
-  named_row rows p row blank distinct at =
-      let k : key_at key rows p ≡ key row = ap (λ (o : Option R). option_map_or key o 0) at in
-      let found : row_with key rows (key_at key rows p) ≡ Some row =
-      ap (row_with key rows) k ∙ own_row rows p row distinct at in
-      at ∙ sym (ap (λ (o : Option R). Some (unwrap_or o blank)) found)
+  named_row rows p row blank distinct at = grind (arith, own_row)
 
   pub known_key : (rows : List R) (p : ℕ) → p < length rows → has_key key rows (key_at key rows p) ≡ true
   known_key rows p below =

@@ -22,12 +22,9 @@ use Rattle.scan_kernel.specs.declared.columns.LineColumns.{LineColumns}
 use Rattle.scan_kernel.specs.declared.columns.Grouping.{Grouping}
 use Rattle.scan_kernel.specs.declared.masks.Masks.{Masks}
 use Rattle.scan_kernel.specs.declared.totals.Totals.{Totals}
-use Rattle.scan_kernel.specs.declared.columns.GroupColumn.{GroupColumn}
-use Rattle.scan_kernel.specs.Places.{CanNumber, group_at}
 use Rattle.scan_kernel.specs.Totals.{CanSum, CanSumAll, AreTotals, AreBatchTotals}
 use Rattle.shared_scan.specs.Answers.{answers_over}
 use Rattle.shared_scan.specs.Prepared.{AreMasksOf, IsGroupingBy, IsGroupingOf}
-use Rattle.shared_scan.specs.Parts.{parts_in, IsFew}
 use Rattle.shared_scan.specs.declared.parts.Parts.{Parts}
 use Rattle.shared_scan.specs.declared.parts.Parts.TheVariants.{Narrow, Wide}
 use Rattle.shared_scan.specs.Summed.{AreSummed}
@@ -86,14 +83,7 @@ module _ (base : Tables) (masks : Masks) (all : List Ready) (ready : AreReady ba
 
   -- each question has the parts of its group columns
   pub parts_all : All HasParts all
-  parts_all k r below =
-      let one = ready_at k r below in
-      let this = get_or all k r in
-      record {
-        one_each = (prepared_lengths base masks k this.plan.groups this.groups.columns.items 1
-            (parts_in this.groups.parts) one.prepared).1;
-        few = one.few;
-      }
+  parts_all k r below = grind (arith, ready_at, prepared_lengths)
 
 -- of one question
 module _ (base : Tables) (places : List Place) (lines : LineColumns) (masks : Masks) (all : List Ready)
@@ -102,23 +92,8 @@ module _ (base : Tables) (places : List Place) (lines : LineColumns) (masks : Ma
   pub can_sum_with : (k : ℕ) (r : Ready) (g : Grouping) → slice_get (plans_of (questions_of all)) k ≡ Some
       (plan_over r.question.0 r.question.1) → IsReady base masks k r.question r
       → (parts : Parts) → r.groups.parts ≡ parts → IsGroupingWith base lines r parts g → CanSum lines masks k g
-  can_sum_with k r g at_k is (Narrow parts) e one =
-      let columns = dense_columns base lines r (Narrow parts) parts.items g.columns.items e refl one.columns_are in
-      let can = can_group base masks k places lines (plans_of (questions_of all)) r.question r g.columns.items sound
-      within are at_k tell is columns in
-      let few : r.groups.size ≤ 2 ^ 32 = subst (λ (p : Parts). IsFew p r.groups.size) e is.few in
-      record {
-        columns = can.0;
-        groups = λ i below bit. omega (arith, can.1 i below bit, one.size_is);
-        few = omega (arith, one.size_is, few);
-      }
-  can_sum_with k r g at_k is (Wide parts) e one = record {
-    columns = subst (All (CanNumber (length lines.customer.now))) (sym one.ungrouped)
-        (λ i d below. absurd (omega (arith, below)));
-    groups = λ i below bit. subst (λ (cs : List GroupColumn). group_at cs i < g.size) (sym one.ungrouped)
-        (omega (arith, one.one));
-    few = omega (arith, one.one);
-  }
+  can_sum_with k r g at_k is (Narrow parts) e one = grind (arith, dense_columns, can_group)
+  can_sum_with k r g at_k is (Wide parts) e one = grind arith
 
   module _ (few : length (live_facts base.dimensions places) ≤ 33554432) where
     grouping_of : (k : ℕ) (r : Ready) (g : Grouping) (parts : Vec (List ℕ) Global) → IsReady base masks k r.question r
@@ -165,24 +140,7 @@ module _ (base : Tables) (places : List Place) (lines : LineColumns) (masks : Ma
         → slice_get (plans_of (questions_of all)) k ≡ Some (plan_over r.question.0 r.question.1)
         → IsReady base masks k r.question r → AreTotals lines masks k g (range_with_len 0 (length places)) t
         → IsGroupingWith base lines r r.groups.parts g → CanAnswer base lines masks k r t
-    can_answer_one k r g t at_k is sums one =
-        let lengths = prepared_lengths base masks k r.plan.groups r.groups.columns.items 1 (parts_in r.groups.parts)
-        is.prepared in
-        record {
-          columns = lengths.0 ∙ ap (λ (plan : Plan). length plan.groups) is.plan_is;
-          scanned = record {
-            plans = plans_of (questions_of all);
-            places = places;
-            sound = sound;
-            within = within;
-            few_live = few;
-            are = are;
-            at_k = at_k;
-            tell = tell;
-            is_ready = is;
-          };
-          fit = fits_with k r g t at_k is sums r.groups.parts refl one;
-        }
+    can_answer_one k r g t at_k is sums one = grind (arith, prepared_lengths, fits_with)
 
     pub answer_with : (k : ℕ) (r : Ready) (g : Grouping) (t : Totals) (rows : List ResultRow)
         → slice_get (plans_of (questions_of all)) k ≡ Some (plan_over r.question.0 r.question.1)

@@ -1,6 +1,6 @@
 -- The sums of the groups that lines have are those of a question.
-use Rattle.std.proofs.Common.{ℕ, ◌≡◌, ◌+◌, ◌<◌, ◌≤◌, ◌^◌, List, [], ◌∷◌, ◌++◌, length, map, take, get_or, Some, None}
-use Rattle.std.proofs.Common.{refl, sym, ap, ◌∙◌, subst, arith}
+use Rattle.std.proofs.Common.{ℕ, ◌≡◌, ◌+◌, ◌<◌, ◌≤◌, ◌^◌, List, [], ◌∷◌, ◌++◌, length, map, take, get_or, Some}
+use Rattle.std.proofs.Common.{sym, ap, ◌∙◌, subst, arith}
 use Rattle.std.specs.Prelude.{nat_eq, slice_get, unwrap_or}
 use Rattle.std.specs.List.{All}
 use Rattle.std.specs.Map.{keys_of, values_of, lookup}
@@ -15,7 +15,7 @@ use Rattle.scan_kernel.specs.declared.columns.GroupColumn.{GroupColumn}
 use Rattle.scan_kernel.specs.declared.masks.Masks.{Masks}
 use Rattle.scan_kernel.specs.declared.sparse.SparseColumn.{SparseColumn}
 use Rattle.scan_kernel.specs.declared.sparse.GroupSums.{GroupSums}
-use Rattle.scan_kernel.specs.Places.{group_at, gain_at, loss_at}
+use Rattle.scan_kernel.specs.Places.{group_at}
 use Rattle.scan_kernel.specs.Totals.{taken}
 use Rattle.scan_kernel.specs.Sparse.{as_group_column, as_group_columns, nothing, sums_in, AreSumsOf, AreSparseTotals}
 use Rattle.scan_kernel.specs.SparseRows.{beside}
@@ -61,26 +61,14 @@ module _ {S : Type 0} (totals : IndexMap ℕ GroupSums S) (size : ℕ) where
   module _ (lines : LineColumns) (masks : Masks) (k : ℕ) (measure : Measure) (groups : List GroupColumn)
       (places : List ℕ) (are : AreSparseTotals lines measure groups (taken lines masks k places) size totals) where
     none_past : (g : ℕ) → size ≤ g → sums_in totals g ≡ nothing
-    none_past g past = by_get (get nat_eq totals g) refl where
-      by_get : (o : _) → get nat_eq totals g ≡ o → unwrap_or o nothing ≡ nothing
-      by_get None is = refl
-      by_get (Some sums) is = absurd (omega (arith, past, are.below g sums is))
+    none_past g past = grind arith
 
     one_summed : (amount : ℕ → ℕ) (of : GroupSums → ℕ) → of nothing ≡ 0
         → AreSumsOf amount (group_at groups) (taken lines masks k places) (λ g. of (sums_in totals g))
         → ((g : ℕ) → of (sums_in totals g) < 2 ^ 64)
         → IsSummed amount (group_at groups) size (taken lines masks k places) (λ g. of (sums_in totals g))
-    one_summed amount of zero sums fits = record {
-      each = λ g below. sums g;
-      past = λ g past. ap of (none_past g past)
-          ∙ zero;
-      fits = fits;
-    }
+    one_summed amount of zero sums fits = grind (arith, none_past)
 
     pub summed_sparse : AreSummed lines masks k measure groups size places (λ g. (sums_in totals g).count)
         (λ g. (sums_in totals g).gain) (λ g. (sums_in totals g).loss)
-    summed_sparse = record {
-      counts = one_summed (λ place. 1) (λ s. s.count) refl are.counts_are (λ g. (are.fits g).count);
-      gains = one_summed (gain_at lines measure) (λ s. s.gain) refl are.gains_are (λ g. (are.fits g).gain);
-      losses = one_summed (loss_at lines measure) (λ s. s.loss) refl are.losses_are (λ g. (are.fits g).loss);
-    }
+    summed_sparse = grind (arith, one_summed)

@@ -1,5 +1,5 @@
 -- Totals over lines, one line more and one line less.
-use Rattle.std.proofs.Common.{ℕ, ◌≡◌, ◌+◌, ◌%◌, ◌^◌, ◌<◌, ◌≤◌, ◌≢◌, ◌⊎◌, inl, inr, Bool, true, false, cond, eqb, List}
+use Rattle.std.proofs.Common.{ℕ, ◌≡◌, ◌+◌, ◌%◌, ◌^◌, ◌<◌, ◌≤◌, ◌≢◌, ◌⊎◌, Bool, true, false, cond, eqb, List}
 use Rattle.std.proofs.Common.{[], ◌∷◌, ◌++◌, length, get_or, drop, min, zero, suc, refl, sym, ap, ◌∙◌, subst, arith}
 use Rattle.std.specs.List.{sum_by}
 use Rattle.std.specs.Prelude.{nat_eq}
@@ -25,9 +25,7 @@ sum_one_more f x before after = grind (arith, sum_by-append, sum_by-cons)
 
 pub one_more_sum : (f : ScannedLine → ℕ) (line : ScannedLine) (fewer more : List ScannedLine)
     → IsOneMore line fewer more → sum_by f more ≡ f line + sum_by f fewer
-one_more_sum f line fewer more one =
-    ap (sum_by f) one.more_is ∙ sum_one_more f line one.before one.after
-    ∙ ap (λ (v : ℕ). f line + v) (sym (ap (sum_by f) one.fewer_is))
+one_more_sum f line fewer more one = grind (arith, sum_one_more)
 
 -- what is added and what takes it off cancel, in every group
 cancels : (b : Bool) (delta amount m : ℕ) → 0 % m ≡ 0 → (delta + amount) % m ≡ 0
@@ -93,17 +91,11 @@ module _ (takes : ScannedLine → Bool) (group amount : ScannedLine → ℕ) (li
 
   pub sums_pass_by : (size : ℕ) → AreSumsOf takes group amount size fewer numbers
       → AreSumsOf takes group amount size more numbers
-  sums_pass_by size sums = record {
-    len = sums.len;
-    each = λ g below. sums.each g below ∙ ap (λ (v : ℕ). v % 2 ^ 64) (sym (same_sum g));
-  }
+  sums_pass_by size sums = grind (arith, same_sum)
 
   pub sums_pass_off : (size : ℕ) → AreSumsOf takes group amount size more numbers
       → AreSumsOf takes group amount size fewer numbers
-  sums_pass_off size sums = record {
-    len = sums.len;
-    each = λ g below. sums.each g below ∙ ap (λ (v : ℕ). v % 2 ^ 64) (same_sum g);
-  }
+  sums_pass_off size sums = grind (arith, same_sum)
 
 -- the totals of a question, with a line more
 pub totals_come : (base : Tables) (masks : Masks) (k : ℕ) (ready : Ready) (line : ScannedLine)
@@ -160,24 +152,7 @@ module _ (numbers : List ℕ) (group delta : ℕ) where
       ap (λ (v : ℕ). v % 2 ^ 64) (sym (ap (λ (v : ℕ). get_or numbers g 0 + v) none ∙ omega arith))
 
   pub shifted_at : group < length numbers → Shifts group delta numbers (add_at numbers group delta)
-  shifted_at within = record {
-    len = length-set numbers group _;
-    each = λ g below. go g below (eqb_tells group g);
-  } where
-    go : (g : ℕ) → g < length numbers → ((eqb group g ≡ true) × (group ≡ g)) ⊎ ((eqb group g ≡ false) × (group ≢ g))
-        → get_or (add_at numbers group delta) g 0 % 2 ^ 64 ≡ (get_or numbers g 0 + share true group g delta) % 2 ^ 64
-    go g below (inl (is, same)) =
-        let here : share true group g delta ≡ delta = ap (λ (b : Bool). cond b delta 0) is in
-        ap (λ (j : ℕ). get_or (add_at numbers group delta) j 0 % 2 ^ 64) (sym same)
-        ∙ ap (λ (v : ℕ). v % 2 ^ 64) (get_or-set_same numbers group
-        ((get_or numbers group 0 + delta) % 2 ^ 64) 0 within)
-        ∙ mod-mod (get_or numbers group 0 + delta) (2 ^ 64)
-        ∙ ap (λ (j : ℕ). (get_or numbers j 0 + delta) % 2 ^ 64) same
-        ∙ ap (λ (v : ℕ). (get_or numbers g 0 + v) % 2 ^ 64) (sym here)
-    go g below (inr (is, other)) =
-        ap (λ (v : ℕ). v % 2 ^ 64) (get_or-set_other numbers group g ((get_or numbers group 0 + delta) % 2 ^ 64) 0
-        (λ e. other (sym e)))
-        ∙ went g is
+  shifted_at within = grind (arith, length-set, eqb_tells, eqb, get_or-set_same, mod-mod, get_or-set_other, went)
 
 -- the next group column adds its part
 pub parts_step : (base : Tables) (columns : List Column) (parts : List (List ℕ)) (line : ScannedLine) (i : ℕ)
@@ -212,6 +187,4 @@ parts_end base (column ∷ columns) (part ∷ parts) line (suc i) past = grind (
 -- a part is added, modulo 2^64
 pub part_added : (group part rest total : ℕ) → (group + (part + rest)) % 2 ^ 64 ≡ total % 2 ^ 64
     → ((group + part) % 2 ^ 64 + rest) % 2 ^ 64 ≡ total % 2 ^ 64
-part_added group part rest total so_far =
-    let turn : group + part + rest ≡ group + (part + rest) = omega arith in
-    mod-add-mod (group + part) (2 ^ 64) rest ∙ ap (λ (v : ℕ). v % 2 ^ 64) turn ∙ so_far
+part_added group part rest total so_far = grind (arith, mod-add-mod)

@@ -1,9 +1,8 @@
 -- Totals over all places of the columns are those of the live lines, and the other way round.
-use Rattle.std.proofs.Common.{ℕ, suc, ◌≡◌, ◌+◌, ◌%◌, ◌^◌, ◌<◌, ◌&&◌, Bool, true, false, cond, not, List, [], ◌∷◌}
+use Rattle.std.proofs.Common.{ℕ, suc, ◌≡◌, ◌+◌, ◌%◌, ◌^◌, ◌<◌, ◌&&◌, Bool, true, false, cond, List, [], ◌∷◌}
 use Rattle.std.proofs.Common.{length, map, get_or, replicate, refl, sym, ap, ◌∙◌, subst, arith, zero-add}
 use Rattle.std.specs.Prelude.{nat_eq, filter}
 use Rattle.std.specs.Int.{bit_at}
-use Rattle.std.specs.Cmp.{unsigned_Decides}
 use Rattle.std.specs.List.{range_with_len, sum_by}
 use Rattle.std.proofs.Math.ListN.{get_or-map}
 use Rattle.std.proofs.Math.Nat.{mod-eq_of_lt}
@@ -18,7 +17,7 @@ use Rattle.ssb_questions.specs.declared.plan.Measure.TheVariants.{PriceTimesDisc
 use Rattle.ssb_questions.specs.declared.plan.Plan.{Plan}
 use Rattle.fact_columns.specs.declared.place.Place.{Place}
 use Rattle.fact_columns.specs.declared.scanned_line.ScannedLine.{ScannedLine}
-use Rattle.fact_columns.specs.Places.{is_live, quantity_in, fact_at}
+use Rattle.fact_columns.specs.Places.{is_live, fact_at}
 use Rattle.fact_columns.specs.Columns.{AreColumnsOf}
 use Rattle.scan_kernel.specs.declared.columns.LineColumns.{LineColumns}
 use Rattle.scan_kernel.specs.declared.columns.Grouping.{Grouping}
@@ -161,10 +160,7 @@ module _ (base : Tables) (places : List Place) (lines : LineColumns) (are : AreC
 
   part_is : (column : Column) (part : List ℕ) (group : GroupColumn) (i : ℕ)
       → IsGroupColumn base lines column part group → part_at i group ≡ part_of_line base column part (at i)
-  part_is column part group i is =
-      let position : get_or group.positions.now i 0 ≡ class_in column.table (at i) =
-      ap (λ (xs : List ℕ). get_or xs i 0) is.positions_are ∙ class_is column.table i in
-      λ j. get_or (is.parts_are j) (get_or (is.codes_are j) (position j) 0) 0
+  part_is column part group i is = grind (arith, at, class_is)
 
   parts_are : (columns : List Column) (parts : List (List ℕ)) (groups : List GroupColumn) (i : ℕ)
       → AreGroupColumns base lines columns parts groups
@@ -183,17 +179,8 @@ module _ (base : Tables) (places : List Place) (lines : LineColumns) (are : AreC
     group_same_with : (parts : Parts) → IsGroupingWith base lines ready parts grouping → (i : ℕ) → i < length places
         → has_bit lines masks k i ≡ true
         → group_at grouping.columns.items i ≡ group_with base ready.plan.groups parts (at i)
-    group_same_with (Narrow parts) is i below bit =
-        let there : i < length lines.customer.now = omega (
-          arith,
-          below,
-          ap length are.customers,
-          length-map places (λ (p : Place). p.customer_class),
-        ) in
-        let small : group_at grouping.columns.items i < 2 ^ 64 = omega (arith, can.groups i there bit, can.few) in
-        sym (mod-eq_of_lt small)
-        ∙ ap (λ (v : ℕ). v % 2 ^ 64) (parts_are ready.plan.groups parts.items grouping.columns.items i is.columns_are)
-    group_same_with (Wide parts) is i below bit = ap (λ (cs : List GroupColumn). group_at cs i) is.ungrouped
+    group_same_with (Narrow parts) is i below bit = grind (arith, length-map, mod-eq_of_lt, parts_are)
+    group_same_with (Wide parts) is i below bit = grind arith
 
     size_same_with : (parts : Parts) → IsGroupingWith base lines ready parts grouping
         → size_with parts ready.groups.size ≡ grouping.size
@@ -209,17 +196,7 @@ module _ (base : Tables) (places : List Place) (lines : LineColumns) (are : AreC
       dead : (amount : ScannedLine → ℕ) (g : ℕ) (place : Place) → is_live place ≡ false
           → share (takes_line masks k (scanned_line place)) (group_of_line base ready (scanned_line place)) g
           (amount (scanned_line place)) ≡ 0
-      dead amount g place e =
-          let free : quantity_in place.terms ≡ 0 = (unsigned_Decides (quantity_in place.terms) 0).0
-          (turned (nat_eq (quantity_in place.terms) 0) e) in
-          let none : takes_line masks k (scanned_line place) ≡ false = ap (λ (m : ℕ). nat_eq m 1)
-          (free_mask plans base.dimensions masks (classed place) k tell free) in
-          ap (λ (b : Bool). share b (group_of_line base ready (scanned_line place)) g
-          (amount (scanned_line place))) none
-        where
-          turned : (b : Bool) → not b ≡ false → b ≡ true
-          turned true e = refl
-          turned false e = cc
+      dead amount g place e = grind (arith, free_mask)
 
       -- what question k sums up over all places is the sum over the live lines
       sum_same : (amount : ℕ → ℕ) (of_line : ScannedLine → ℕ) → ((i : ℕ) → amount i ≡ of_line (at i)) → (g : ℕ)

@@ -44,10 +44,7 @@ all_of f (own ∷ places) each = joined (f own) (list_all f places) (each own) (
 module _ (value : ℕ → Value) where
   own_tests : (test : Test) → (not (nat_eq test.column.place test.column.place) || holds test.cond
       (value test.column.place)) ≡ true → holds test.cond (value test.column.place) ≡ true
-  own_tests test h =
-      let own : nat_eq test.column.place test.column.place ≡ true =
-      (unsigned_Decides test.column.place test.column.place).1 refl in
-      sym (ap (λ (b : Bool). not b || holds test.cond (value test.column.place)) own) ∙ h
+  own_tests test h = grind (arith, nat_eq)
 
   -- all tests of each tested column hold: so does each test
   each_holds : (tests all : List Test) (places : List ℕ)
@@ -86,9 +83,7 @@ module _ (value : ℕ → Value) where
   pub pass_by_places : (tests : List Test) (places : List ℕ)
       → All (λ test. is_place places test.column.place ≡ true) tests
       → list_all (λ place. passes_at tests place (value place)) places ≡ pass tests value
-  pass_by_places tests places covered = same_bool _ _
-      (λ hold. each_holds tests tests places hold (λ test place h. h) covered)
-      (λ hold. all_of (λ place. passes_at tests place (value place)) places (λ place. column_holds tests place hold))
+  pass_by_places tests places covered = grind (arith, same_bool, each_holds, all_of, column_holds)
 
 -- what a row has in each column
 pub row_reads : {R : Type 0} (value : ℕ → R → Value) (rows : List R) (p : ℕ) (row : R) → slice_get rows p ≡ Some row
