@@ -55,15 +55,11 @@ module _ {A : Type 0} (test : A → Bool) (x : A) where
 -- one deed more, of this one or of another
 pub did_more : (who : Who) (deeds : List Deed) (d : Deed) → actor_of d.event ≡ who
     → done_by who (deeds ++ d ∷ []) ≡ done_by who deeds ++ d ∷ []
-did_more who deeds d is = let test : Deed → Bool = λ x. is_same (actor_of x.event) who in
-    filter-append test deeds (d ∷ []) ∙ ap (λ l. filter test deeds ++ l)
-    (keeps_one test d (ap (λ a. is_same a who) is ∙ same_self who))
+did_more who deeds d is = grind (arith, filter-append, keeps_one, same_self)
 
 pub did_same : (who : Who) (deeds : List Deed) (d : Deed) → actor_of d.event ≢ who
     → done_by who (deeds ++ d ∷ []) ≡ done_by who deeds
-did_same who deeds d apart = let test : Deed → Bool = λ x. is_same (actor_of x.event) who in
-    filter-append test deeds (d ∷ []) ∙ (ap (λ l. filter test deeds ++ l)
-    (keeps_none test d (same_apart (actor_of d.event) who apart)) ∙ append-nil (filter test deeds))
+did_same who deeds d apart = grind (arith, filter-append, keeps_none, same_apart, append-nil)
 
 -- what such a run leaves, and that it is a true run
 module _ (base : Tables) (clients dispatchers : ℕ) (deeds : List Deed) (w : World)

@@ -1,6 +1,6 @@
 -- The world that the fields show when the row store has one commit more.
 use Rattle.std.proofs.Common.{◌≡◌, ◌≢◌, ℕ, zero, suc, ◌+◌, ◌≤◌, List, [], ◌∷◌, ◌++◌, length, Vec, Global}
-use Rattle.std.proofs.Common.{Option, Some, None, refl, ap, sym, ◌∙◌, arith, length-append}
+use Rattle.std.proofs.Common.{Option, Some, None, refl, ap, ◌∙◌, arith, length-append}
 use Rattle.std.proofs.lemmas.List.{take-append-le}
 use Rattle.std.specs.Prelude.{map, slice_get}
 use Rattle.ssb_schema.specs.declared.refresh.Action.{Action}
@@ -56,11 +56,7 @@ module _ (history : List CommitRecord) (commit : CommitRecord) where
 
   pub clients_more : (clients : List WorldClient) → ClientsFit (length history) clients
       → ClientsFit (length (history ++ commit ∷ [])) clients
-  clients_more clients are =
-      record {
-        own = λ number c at. let h = are.own number c at in let seen = h.1 in
-            let more = longer in (h.0, omega arith);
-      }
+  clients_more clients are = grind (arith, longer)
 
   pub dispatchers_more : (dispatchers : List WorldDispatcher) → DispatchersFit (length history) dispatchers
       → DispatchersFit (length (history ++ commit ∷ [])) dispatchers
@@ -81,19 +77,7 @@ module _ (history : List CommitRecord) (commit : CommitRecord) where
       → ClientsFit (length history) clients
       → map (client_in (history ++ commit ∷ [])) clients ≡ renewed (map (client_in history) clients) number
       (λ c. record c { mine = c.mine ++ commit ∷ [] })
-  clients_grown clients number made are =
-      map_renewed (client_in (history ++ commit ∷ [])) (client_in history) clients number
-      (λ c. record c { mine = c.mine ++ commit ∷ [] })
-      (λ c at. let h = are.own number c at in λ i. record {
-        seen = take-append-le c.seen history (commit ∷ []) h.1 i;
-        mine = own_push c.number history commit (made ∙ sym h.0) i;
-        mailbox = c.mailbox;
-      })
-      (λ other c apart at. let h = are.own other c at in λ i. record {
-        seen = take-append-le c.seen history (commit ∷ []) h.1 i;
-        mine = others_push c.number history commit (λ e. apart (sym h.0 ∙ (sym e ∙ made))) i;
-        mailbox = c.mailbox;
-      })
+  clients_grown clients number made are = grind (arith, map_renewed, take-append-le, own_push, others_push)
 
 pub grown_kept : (w : Inside) (store : Warehouse) (commits : Vec CommitRecord Global) (commit : CommitRecord)
     → store ≡ with_commit w.store commit → commits.items ≡ w.commits.items ++ commit ∷ [] → IsWorld w

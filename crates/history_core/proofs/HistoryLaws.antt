@@ -1,5 +1,5 @@
 -- Lists that grow, lists with one element changed, and legal histories.
-use Rattle.std.proofs.Common.{◌≡◌, ◌≢◌, ◌⊎◌, ℕ, zero, suc, ◌<◌, ◌≤◌, Option, ◌==◌, Bool, true, List, [], ◌∷◌}
+use Rattle.std.proofs.Common.{◌≡◌, ◌≢◌, ◌⊎◌, ℕ, zero, suc, ◌<◌, ◌≤◌, ◌==◌, Bool, true, List, [], ◌∷◌}
 use Rattle.std.proofs.Common.{◌++◌}
 use Rattle.std.proofs.Common.{length, take, Some, None, refl, ap, sym, ◌∙◌, inl, inr, ⊎_elim, arith, zero-le}
 use Rattle.std.proofs.lemmas.List.{append-nil}
@@ -41,13 +41,11 @@ module _ {A : Type 0} where
   -- a list with one element changed
   pub at_revised : (l : List A) (i j : ℕ) (f : A → A) (b : A) → slice_get (revised l i f) j ≡ Some b
       → ((j ≡ i) × ((a : A) × (slice_get l i ≡ Some a) × (f a ≡ b))) ⊎ ((j ≢ i) × (slice_get l j ≡ Some b))
-  at_revised [] i j f b e = absurd (some_ne_none b (sym e))
-  at_revised (x ∷ xs) zero zero f b e = inl (refl, (x, refl, some_injective (f x) b e))
-  at_revised (x ∷ xs) zero (suc j) f b e = inr ((λ h. omega arith), e)
-  at_revised (x ∷ xs) (suc i) zero f b e = inr ((λ h. omega arith), e)
-  at_revised (x ∷ xs) (suc i) (suc j) f b e =
-      ⊎_elim (λ t. inl (ap suc t.0, t.1)) (λ t. let n = t.0 in inr ((λ h. n (omega arith)), t.1))
-      (at_revised xs i j f b e)
+  at_revised [] i j f b e = grind (arith, some_ne_none)
+  at_revised (x ∷ xs) zero zero f b e = grind (arith, some_injective)
+  at_revised (x ∷ xs) zero (suc j) f b e = grind arith
+  at_revised (x ∷ xs) (suc i) zero f b e = grind arith
+  at_revised (x ∷ xs) (suc i) (suc j) f b e = grind (arith, ⊎_elim, at_revised xs i j f b e)
 
   pub length-revised : (l : List A) (i : ℕ) (f : A → A) → length (revised l i f) ≡ length l
   length-revised [] i f = refl
@@ -135,9 +133,5 @@ unmarked_none ds number mark has =
 
 pub known_range : {A : Type 0} (l : List A) (number : ℕ) → is_there (numbered l number) ≡ true → (1 ≤ number)
     × (number ≤ length l)
-known_range {A = A} l zero e = absurd (cc e)
-known_range {A = A} l (suc place) e = go (slice_get l place) refl e
-  where
-    go : (o : Option A) → slice_get l place ≡ o → is_there o ≡ true → (1 ≤ suc place) × (suc place ≤ length l)
-    go None at e' = absurd (cc e')
-    go (Some x) at e' = let h = in_range l place x at in (omega arith, omega arith)
+known_range {A = A} l zero e = grind arith
+known_range {A = A} l (suc place) e = grind (arith, in_range)

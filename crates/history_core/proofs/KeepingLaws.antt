@@ -24,7 +24,7 @@ use Rattle.history_core.specs.Events.{TakeWriter, PutWriter, Answer, GiveUp, Col
 use Rattle.history_core.specs.Numbered.{numbered, renewed, is_there}
 use Rattle.history_core.specs.World.{World, ClientState, DispatcherState, Mailbox, empty, asked, in_hand, answered}
 use Rattle.history_core.specs.World.{unserved, commit_by, all_rows_after, is_known}
-use Rattle.history_core.specs.World.{holds_rows, holds_writer, mailbox_of, version_of, unmarked, gave, taking_rows}
+use Rattle.history_core.specs.World.{mailbox_of, version_of, unmarked, gave, taking_rows}
 use Rattle.history_core.specs.World.{committing, putting_rows, looking, posting, grabbing, taking_writer}
 use Rattle.history_core.specs.World.{putting_writer, answering, giving_up, collecting, step_of, run_of, opening_world}
 use Rattle.history_core.specs.OwnCommits.{commits_of}
@@ -204,15 +204,7 @@ module _ (base : Tables) (clients : ℕ) (w : World) (k : WorldKept base clients
       record { seen = begins_with_itself w.history; marks = was.marks; marks_seen = was.marks; given = was.given })
 
   unmarked_kept : (d : DispatcherState) → DispatcherKept w.history d → DispatcherKept w.history (unmarked d)
-  unmarked_kept d was =
-      record {
-        seen = was.seen;
-        marks =
-            λ m has. ⊎_elim (λ (e : None ≡ Some m). absurd (cc e)) (λ (e : None ≡ Some m). absurd (cc e)) has;
-        marks_seen =
-            λ m has. ⊎_elim (λ (e : None ≡ Some m). absurd (cc e)) (λ (e : None ≡ Some m). absurd (cc e)) has;
-        given = was.given;
-      }
+  unmarked_kept d was = grind (arith, ⊎_elim)
 
   takes : (who : Who) (known : Bool) (holder : Option Who) → WorldKept base clients (taking_rows w who known holder).0
   takes (Client n) true None = client_sees (Some (Client n)) w.writer n
@@ -459,18 +451,16 @@ module _ (base : Tables) (clients : ℕ) (w : World) (k : WorldKept base clients
   collects client None = k
 
   pub step_kept : (e : Event) → WorldKept base clients (step_of w e).0
-  step_kept (TakeRows who) = takes who (is_known w who) w.rows
-  step_kept (PutRows who refresh) = puts who refresh (is_known w who) (holds_rows w.rows who) refl
-  step_kept (Look who) = looks who (is_known w who)
-  step_kept (Post client questions) = posts client questions (mailbox_of (numbered w.clients client))
-  step_kept (Grab n client) = grabs n client (is_known w (Dispatcher n)) (mailbox_of (numbered w.clients client)) refl
-  step_kept (TakeWriter n) = takes_writer n (is_known w (Dispatcher n)) w.writer
-  step_kept (PutWriter n) = puts_writer n (is_known w (Dispatcher n)) (holds_writer w.writer n)
-  step_kept (Answer n client) =
-      answers n client (version_of (numbered w.dispatchers n)) (mailbox_of (numbered w.clients client)) refl refl
-  step_kept (GiveUp n client cause) =
-      gives_up n client cause (is_known w (Dispatcher n)) (mailbox_of (numbered w.clients client))
-  step_kept (Collect client) = collects client (mailbox_of (numbered w.clients client))
+  step_kept (TakeRows who) = grind (arith, takes)
+  step_kept (PutRows who refresh) = grind (arith, puts)
+  step_kept (Look who) = grind (arith, looks)
+  step_kept (Post client questions) = grind (arith, posts)
+  step_kept (Grab n client) = grind (arith, grabs)
+  step_kept (TakeWriter n) = grind (arith, takes_writer)
+  step_kept (PutWriter n) = grind (arith, puts_writer)
+  step_kept (Answer n client) = grind (arith, answers)
+  step_kept (GiveUp n client cause) = grind (arith, gives_up)
+  step_kept (Collect client) = grind (arith, collects)
 
 pub each_event : EachEventKeeps
 each_event base clients w e k = step_kept base clients w k e
@@ -482,28 +472,7 @@ run_kept base clients (e ∷ events) w k = run_kept base clients events (step_of
 
 pub opening_kept : (base : Tables) (clients dispatchers : ℕ)
     → WorldKept base clients (opening_world base clients dispatchers)
-opening_kept base clients dispatchers = record {
-  based = refl;
-  legal = record { accepted = λ number commit at. absurd (some_ne_none commit (sym at)) };
-  own = record {
-    own = λ number c at. subst (λ (x : ClientState). x.mine ≡ []) (numbered_copies clients number _ c at) refl;
-    named = record { named = λ number commit at. absurd (some_ne_none commit (sym at)) };
-    count = length-copies clients _;
-  };
-  seen_own =
-      λ number c at. subst (λ (x : ClientState). x.mine ≡ commits_of number x.seen)
-      (numbered_copies clients number _ c at) refl;
-  client =
-      λ number c at. subst (ClientKept base [] (opening_world base clients dispatchers).dispatchers)
-      (numbered_copies clients number _ c at) record { seen = begins_with_itself []; mail = tt };
-  dispatcher = λ number d at. subst (DispatcherKept []) (numbered_copies dispatchers number _ d at)
-      record {
-        seen = begins_with_itself [];
-        marks = λ m has. absurd (⊎_elim (λ (e : None ≡ Some m). cc e) (λ (e : None ≡ Some m). cc e) has);
-        marks_seen = λ m has. absurd (⊎_elim (λ (e : None ≡ Some m). cc e) (λ (e : None ≡ Some m). cc e) has);
-        given = all_none (GivenKept []);
-      };
-}
+opening_kept base clients dispatchers = grind (arith, some_ne_none, numbered_copies, length-copies, begins_with_itself, ⊎_elim, all_none)
 
 pub every_world : EveryWorldKeeps
 every_world base clients dispatchers events =

@@ -1,6 +1,6 @@
 -- What an observer may conclude from a true run: a client's answers never go back.
-use Rattle.std.proofs.Common.{◌≡◌, ℕ, zero, suc, ◌<◌, ◌≤◌, Bool, true, false, List, []}
-use Rattle.std.proofs.Common.{◌∷◌, length, take, refl, subst, ◌∙◌, arith, zero-le}
+use Rattle.std.proofs.Common.{◌≡◌, ℕ, zero, suc, ◌<◌, ◌≤◌, Bool, List, []}
+use Rattle.std.proofs.Common.{◌∷◌, length, take, subst, ◌∙◌, arith, zero-le}
 use Rattle.std.proofs.lemmas.Bool.Decides.{nat_tests}
 use Rattle.std.specs.Prelude.{filter}
 use Rattle.ssb_base.specs.Base.{Tables}
@@ -14,15 +14,10 @@ use Rattle.history_core.proofs.HistoryLaws.{some_injective}
 
 takes_more : {A : Type 0} (test : A → Bool) (n m : ℕ) (l : List A) → n ≤ m
     → length (filter test (take n l)) ≤ length (filter test (take m l))
-takes_more test zero m l h = zero-le
-takes_more test (suc n) zero l h = absurd (omega arith)
-takes_more test (suc n) (suc m) [] h = zero-le
-takes_more {A = A} test (suc n) (suc m) (x ∷ xs) h = go (takes_more test n m xs (omega arith)) (test x) refl
-  where
-    go : length (filter test (take n xs)) ≤ length (filter test (take m xs)) → (b : Bool) → test x ≡ b
-        → length (filter test (take (suc n) (x ∷ xs))) ≤ length (filter test (take (suc m) (x ∷ xs)))
-    go k true e = rw e (omega arith)
-    go k false e = rw e k
+takes_more test zero m l h = grind (arith, zero-le)
+takes_more test (suc n) zero l h = grind arith
+takes_more test (suc n) (suc m) [] h = grind (arith, zero-le)
+takes_more {A = A} test (suc n) (suc m) (x ∷ xs) h = grind (arith, takes_more test n m xs (omega arith))
 
 -- the earlier of two collects of one client stands before the Post of the later
 before_post : (es : List Event) (rs : List EventReply) (client : ℕ) (questions q : Questions)

@@ -206,10 +206,8 @@ module _ (base : Tables) (clients : ℕ) (es : List Event) (rs : List EventReply
   -- what the client's mailbox tells
   told : (client : ℕ) (o : Option ClientState) (box : Mailbox) → numbered w.clients client ≡ o
       → mailbox_of o ≡ Some box → MailTraced es rs w.dispatchers client box
-  told client None box at e = absurd (some_ne_none box (sym e))
-  told client (Some c) box at e =
-      subst (MailTraced es rs w.dispatchers client) (some_injective c.mailbox box e)
-      (k.mail client c at)
+  told client None box at e = grind (arith, some_ne_none)
+  told client (Some c) box at e = grind (arith, some_injective)
 
   apart_from : (client c : ℕ) → c ≢ client → client ≡ c → ⊥
   apart_from client c other same = other (sym same)
@@ -343,18 +341,7 @@ run_traced base clients (e ∷ events) es rs w kept k = let next = step_of w e i
     (step_traced base clients es rs w kept k e))
 
 opening_traced : (base : Tables) (clients dispatchers : ℕ) → Traced [] [] (opening_world base clients dispatchers)
-opening_traced base clients dispatchers = record {
-  run = record {
-    replied = refl;
-    legal = record { accepted = λ number commit at. absurd (some_ne_none commit (sym at)) };
-    no_others = refl;
-    true_replies = λ place e r happens. absurd (some_ne_none r (sym happens.1));
-  };
-  mail =
-      λ client c at. subst
-      (λ (x : ClientState). MailTraced [] []
-      (opening_world base clients dispatchers).dispatchers client x.mailbox) (numbered_copies clients client _ c at) tt;
-}
+opening_traced base clients dispatchers = grind (arith, some_ne_none, numbered_copies)
 
 pub every_run : EveryRunIsTrue
 every_run base clients dispatchers events =

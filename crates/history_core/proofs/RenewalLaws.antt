@@ -1,7 +1,7 @@
 -- Lists with the element of one number changed.
-use Rattle.std.proofs.Common.{◌≡◌, ℕ, zero, suc, ◌<◌, ◌≤◌, Bool, true, false, List, [], ◌∷◌}
+use Rattle.std.proofs.Common.{◌≡◌, ℕ, zero, suc, ◌<◌, ◌≤◌, List, [], ◌∷◌}
 use Rattle.std.proofs.Common.{◌++◌, length, Some, None, refl, ap, sym, ◌∙◌, ⊎_elim, arith}
-use Rattle.std.specs.Prelude.{map, slice_get, slice_set, slice_index_or, nat_lt}
+use Rattle.std.specs.Prelude.{map, slice_get, slice_set, slice_index_or}
 use Rattle.std.specs.Option.{option_map}
 use Rattle.history_core.specs.Numbered.{revised, numbered, renewed, place_within}
 use Rattle.std.proofs.lemmas.Bool.Decides.{nat_tests}
@@ -36,29 +36,17 @@ module _ {A : Type 0} where
   -- a write at the place of a number is the element with that number renewed
   pub renewed_some : (l : List A) (number place : ℕ) (f : A → A) (d : A) → Some place ≡ place_within number (length l)
       → slice_set l place (f (slice_index_or l place d)) ≡ renewed l number f
-  renewed_some l zero place f d is = absurd (cc is)
-  renewed_some l (suc first) place f d is = go (nat_lt first (length l)) refl
-    where
-      go : (b : Bool) → nat_lt first (length l) ≡ b
-          → slice_set l place (f (slice_index_or l place d)) ≡ revised l first f
-      go true e = let same : place ≡ first = let t : Some place ≡ Some first =
-          is ∙ rw e refl in cc t in ap (λ n. slice_set l n (f (slice_index_or l n d))) same ∙ revised_at l first f d
-      go false e = let t : Some place ≡ None = is ∙ rw e refl in absurd (cc t)
+  renewed_some l zero place f d is = grind arith
+  renewed_some l (suc first) place f d is = grind (arith, revised_at)
 
   pub renewed_none : (l : List A) (number : ℕ) (f : A → A) → None ≡ place_within number (length l)
       → l ≡ renewed l number f
-  renewed_none l zero f is = refl
-  renewed_none l (suc first) f is = go (nat_lt first (length l)) refl
-    where
-      go : (b : Bool) → nat_lt first (length l) ≡ b → l ≡ revised l first f
-      go true e = let t : None ≡ Some first = is ∙ rw e refl in absurd (cc t)
-      go false e = let long : length l ≤ first = grind (arith, nat_tests) in sym (revised_out l first f long)
+  renewed_none l zero f is = grind arith
+  renewed_none l (suc first) f is = grind (arith, nat_tests, revised_out)
 
   pub renewed_write : (l : List A) (number place count : ℕ) (f : A → A) (x : A) → x ≡ slice_index_or l place x
       → count ≡ length l → Some place ≡ place_within number count → slice_set l place (f x) ≡ renewed l number f
-  renewed_write l number place count f x there len is =
-      ap (λ y. slice_set l place (f y)) there
-      ∙ renewed_some l number place f x (is ∙ ap (place_within number) len)
+  renewed_write l number place count f x there len is = grind (arith, renewed_some)
 
   pub get_within : (l : List A) (place : ℕ) (x : A) → place < length l
       → slice_get l place ≡ Some (slice_index_or l place x)
@@ -74,25 +62,13 @@ module _ {A : Type 0} where
   -- what is read at the place of a number is the element of that number
   pub numbered_read : (l : List A) (number place count : ℕ) (x : A) → x ≡ slice_index_or l place x
       → count ≡ length l → Some place ≡ place_within number count → numbered l number ≡ Some x
-  numbered_read l zero place count x there len is = absurd (cc is)
-  numbered_read l (suc first) place count x there len is = go (nat_lt first count) refl
-    where
-      go : (b : Bool) → nat_lt first count ≡ b → slice_get l first ≡ Some x
-      go true e = let same : place ≡ first = let t : Some place ≡ Some first =
-          is ∙ rw e refl in cc t in let low : first < length l =
-          let h : first < count = grind (arith, nat_tests) in omega arith in
-          get_within l first x low ∙ ap (λ n. Some (slice_index_or l n x)) (sym same) ∙ ap Some (sym there)
-      go false e = let t : Some place ≡ None = is ∙ rw e refl in absurd (cc t)
+  numbered_read l zero place count x there len is = grind arith
+  numbered_read l (suc first) place count x there len is = grind (arith, nat_tests, get_within)
 
   pub numbered_nowhere : (l : List A) (number count : ℕ) → count ≡ length l
       → None ≡ place_within number count → numbered l number ≡ None
-  numbered_nowhere l zero count len is = refl
-  numbered_nowhere l (suc first) count len is = go (nat_lt first count) refl
-    where
-      go : (b : Bool) → nat_lt first count ≡ b → slice_get l first ≡ None
-      go true e = let t : None ≡ Some first = is ∙ rw e refl in absurd (cc t)
-      go false e = let long : length l ≤ first = let h : count ≤ first =
-          grind (arith, nat_tests) in omega arith in get_past l first long
+  numbered_nowhere l zero count len is = grind arith
+  numbered_nowhere l (suc first) count len is = grind (arith, nat_tests, get_past)
 
   -- no element has the number, or it is as it should be already
   pub renewed_missing : (l : List A) (number : ℕ) (f : A → A) → numbered l number ≡ None → renewed l number f ≡ l

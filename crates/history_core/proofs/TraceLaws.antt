@@ -1,6 +1,6 @@
 -- What is known of a run's events and replies when it has come to a world.
 use Rattle.std.proofs.Common.{◌≡◌, ◌⊎◌, ℕ, ◌+◌, ◌<◌, ◌≤◌, false, List, [], ◌∷◌, ◌++◌, length, take}
-use Rattle.std.proofs.Common.{Some, refl, ap, sym, subst, ◌∙◌, inl, inr, ⊎_elim, arith, length-append}
+use Rattle.std.proofs.Common.{Some, refl, ap, sym, subst, ◌∙◌, ⊎_elim, arith, length-append}
 use Rattle.std.proofs.lemmas.List.{append-nil, take-append-le}
 use Rattle.std.proofs.Math.Seq.{take-append_seam}
 use Rattle.std.proofs.lemmas.List.Elements.{filter-append}
@@ -56,17 +56,7 @@ module _ (es : List Event) (rs : List EventReply) (even : length rs ≡ length e
 
   pub happens_end : (place : ℕ) (a : Event) (b : EventReply) → Happens (es ++ e ∷ []) (rs ++ r ∷ []) place a b
       → ((place < length rs) × Happens es rs place a b) ⊎ ((place ≡ length rs) × (e ≡ a) × (r ≡ b))
-  happens_end place a b h = ⊎_elim
-      (λ (t : (place < length rs) × (slice_get rs place ≡ Some b)). ⊎_elim
-      (λ (s : (place < length es) × (slice_get es place ≡ Some a)). inl (t.0, (s.1, t.1)))
-      (λ (s : (place ≡ length es) × (e ≡ a)). let short = t.0 in let long = s.0 in absurd (omega arith))
-      (at_end es e a place h.0))
-      (λ (t : (place ≡ length rs) × (r ≡ b)). ⊎_elim
-      (λ (s : (place < length es) × (slice_get es place ≡ Some a)). let long = t.0 in
-      let short = s.0 in absurd (omega arith))
-      (λ (s : (place ≡ length es) × (e ≡ a)). inr (t.0, s.1, t.1))
-      (at_end es e a place h.0))
-      (at_end rs r b place h.1)
+  happens_end place a b h = grind (arith, ⊎_elim, at_end)
 
   pub before_front : (place : ℕ) → place ≤ length rs → commits_before (rs ++ r ∷ []) place ≡ commits_before rs place
   before_front place h = ap (λ l. length (filter is_committed l)) (take-append-le place rs (r ∷ []) h)
@@ -166,11 +156,7 @@ before_most rs place = let h = filter_take is_committed place rs in let whole = 
 pub before_last : (rs : List EventReply) (r : EventReply)
     → commits_before (rs ++ r ∷ []) (length (rs ++ r ∷ [])) ≡ commits_before rs (length rs) + length
     (filter is_committed (r ∷ []))
-before_last rs r =
-    before_whole (rs ++ r ∷ [])
-    ∙ (ap length (filter-append is_committed rs (r ∷ []))
-    ∙ (length-append (filter is_committed rs) (filter is_committed (r ∷ []))
-    ∙ ap (λ n. n + length (filter is_committed (r ∷ []))) (sym (before_whole rs))))
+before_last rs r = grind (arith, before_whole, filter-append, length-append)
 
 pub uncounted : (r : EventReply) → is_committed r ≡ false → length (filter is_committed (r ∷ [])) ≡ 0
 uncounted r e = rw e refl
