@@ -43,6 +43,16 @@ pub struct StreamEnd<O: Drop, D: Drop> {
     pub output: Option<O>,
     /// The journal's file, where there is one, and a server was opened and closed.
     pub disk: Option<D>,
+    /// Whether the input ended before its first request.
+    pub was_unasked: bool,
+}
+
+// Whether a session was served to its end, and that was before its first request.
+fn was_unasked(ended: &Result<Served, SessionError>) -> bool {
+    match ended {
+        Ok(served) => served.answered == 0,
+        Err(_) => false,
+    }
 }
 
 // What the only client's session left, and the journal, where there is one.
@@ -192,12 +202,14 @@ where
                 status: tell_end(&ended, written, &mut err),
                 output: Some(output),
                 disk: disk_of(kept),
+                was_unasked: was_unasked(&ended),
             }
         }
         Err(fault) => StreamEnd {
             status: fault.tell(&mut err),
             output: None,
             disk: None,
+            was_unasked: false,
         },
     }
 }
