@@ -28,6 +28,11 @@ def generate(*words):
     subprocess.run([generator, *words], check=True, stderr=subprocess.DEVNULL)
 
 
+def journal_words(path):
+    """The words of `serve` for a journal at a path: one that is there is gone on with, else it begins."""
+    return ["--journal" if pathlib.Path(path).exists() else "--new-journal", path]
+
+
 def make_tables(scale):
     """The folder with the tables of a scale, made unless it is there."""
     data = WORK / f"data/sf{scale}"

@@ -1,11 +1,12 @@
 """Journals that are cut, changed or of something else, for `crash --damage`: each has to come back with the groups that
 are whole, or to be refused by its name, with nothing served and the file as it was."""
 import errno
+import hashlib
 import os
 import shutil
 import time
 
-from common import make_tables
+from common import journal_words, make_tables
 from journals import CHECKSUM_BYTES, HEAD_BYTES, groups_of, head_text
 from judge import Disagreement
 from pipes import PATIENCE, Asker, Server, refreshes
@@ -38,7 +39,7 @@ class Damaged:
     def make(self):
         """A journal of some groups, each of one commit: its bytes, and where its last group begins."""
         tables = Tables(self.data)
-        server = Server(self.data, self.folder, 1, "--journal", self.journal)
+        server = Server(self.data, self.folder, 1, *journal_words(self.journal))
         client = Asker(server.ends[0])
         for number in range(GROUPS):
             client.ask(refreshes(tables, 10**12 + number, 1))
@@ -102,6 +103,12 @@ def changed(content, place):
     return content[:place] + bytes([content[place] ^ 1]) + content[place + 1:]
 
 
+def of_form(content, head, form):
+    """The journal with another form in its head, of one digit, and the checksum of that."""
+    text = content[HEAD_BYTES + CHECKSUM_BYTES:head].replace(b"journal 2", b"journal %d" % form, 1)
+    return content[:HEAD_BYTES] + hashlib.md5(text).hexdigest().encode() + b"\n" + text + content[head:]
+
+
 def be_damaged(data, folder, step):
     """Tries each kind of damage, at each byte or every so many; gives how often each was tried."""
     damaged = Damaged(data, folder)
@@ -115,6 +122,7 @@ def be_damaged(data, folder, step):
         damaged.is_refused("a byte of its last group changed: 93", changed(content, place), f"93 Damaged {GROUPS}")
     damaged.is_refused("a byte of its head changed: 93", changed(content, HEAD_BYTES + CHECKSUM_BYTES), "93 Damaged 0")
     damaged.is_refused("of other tables: 91", content, "91 OtherTables lineorder", make_tables(OTHER_SCALE))
+    damaged.is_refused("of a newer form: 66", of_form(content, head, 3), "66 NewerForm 3")
     damaged.is_refused("a table in its place: 90", (data / "supplier.tbl").read_bytes(), "90 NotAJournal")
     for end in sorted({0, 1, 2, HEAD_BYTES, HEAD_BYTES + CHECKSUM_BYTES, head - 1, head}):
         damaged.comes_back("a beginning of the head alone", (b"0" + content[1:head])[:end], 0, 0)

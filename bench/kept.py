@@ -4,7 +4,7 @@ import re
 import shutil
 import subprocess
 
-from common import LIVE
+from common import LIVE, journal_words
 from journals import JournalReader
 from judge import ANSWERED, COMMITTED, Disagreement
 from traffic import Question
@@ -81,7 +81,7 @@ class KeptJournal:
         told."""
         expected = f"ssb_live: journal: {reader.count} commits"
         expected += f", {len(reader.torn)} bytes cut off\n" if reader.torn else "\n"
-        torn, words = reader.torn, [LIVE, "serve", "--data", self.data, "--journal", self.path]
+        torn, words = reader.torn, [LIVE, "serve", "--data", self.data, *journal_words(self.path)]
         start = subprocess.run(words, stdin=subprocess.DEVNULL, capture_output=True, text=True, timeout=PATIENCE)
         if start.returncode == 1 and REFUSED.fullmatch(start.stderr) and not has_told:
             return None

@@ -9,7 +9,7 @@ DOCUMENTS = {"SERVING.md": "How to serve clients, at a terminal or over pipes, a
              "FAULTS.md": "Every error, by its number."}
 SERVICE_FILES = ["  /var/lib/ssb_live/tables     the five tables", "  /var/lib/ssb_live/journal    the commits",
                  "  /run/ssb_live                the pipes in-1 and out-1 to in-4 and out-4"]
-WORD = re.compile(r" +(?:-\w, )?--([a-z]+)((?: <\w+>)*)")
+WORD = re.compile(r" +(?:-\w, )?--([a-z]+(?:-[a-z]+)*)((?: <\w+>)*)")
 
 
 @dataclasses.dataclass(frozen=True)

@@ -292,8 +292,8 @@ class Refreshes(Trial):
 
     def test_a_journal_keeps_the_commits_for_the_next_server(self):
         self.live.close()
-        for commits in (1, 2):
-            self.serve("--journal", self.folder / "journal")
+        for commits, word in ((1, "--new-journal"), (2, "--journal")):
+            self.serve(word, self.folder / "journal")
             with self.connect() as live:
                 with live.refresh() as refresh:
                     refresh.add(line(100 + commits))

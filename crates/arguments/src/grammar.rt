@@ -308,6 +308,27 @@ fn metrics_argument<'a>(alloc: Global) -> Arg<'a> {
     )
 }
 
+// The journal of a server, which is gone on with.
+fn journal_argument<'a>(alloc: Global) -> Arg<'a> {
+    path_argument(
+        alloc,
+        "journal",
+        "FILE",
+        "Where the commits are kept: a journal that is there; replies wait for the disk; the next server goes on from there",
+    )
+}
+
+// The journal of a server, which begins.
+fn new_journal_argument<'a>(alloc: Global) -> Result<Arg<'a>, AllocError> {
+    path_argument(
+        alloc,
+        "new-journal",
+        "FILE",
+        "The same of a journal that begins: FILE is missing or empty, and is made",
+    )
+    .conflicts_with("journal")
+}
+
 // The words of `serve`.
 fn serve_command<'a>(alloc: Global) -> Result<Command<'a>, AllocError> {
     let command = over_tables(
@@ -324,12 +345,8 @@ fn serve_command<'a>(alloc: Global) -> Result<Command<'a>, AllocError> {
             "keep",
             "Opens a client's named pipes again for its next session; a signal ends the server",
         ))?
-        .arg(path_argument(
-            alloc,
-            "journal",
-            "FILE",
-            "Where the commits are kept; replies wait for the disk; the next server goes on from there",
-        ))?
+        .arg(journal_argument(alloc))?
+        .arg(new_journal_argument(alloc)?)?
         .arg(metrics_argument(alloc))?
         .arg(standing_argument(alloc))?;
     with_telling(alloc, command)

@@ -119,9 +119,10 @@ after the same commits. A request with a fault is answered 'fault: ..', and does
 replies are written: report, table, csv, json, markdown or bars. The end of the input ends the session. At a terminal
 the word 'help' shows the queries and their constants.
 
-With --journal the commits are kept in FILE, which is created if it does not exist. 'committed N' is sent when commit N
-is on the disk; an answer is sent when all commits that it contains are. The next server with this FILE and the same
-tables goes on from there, whatever has ended this one.
+With --new-journal a journal begins in FILE, which is created if it does not exist, and the commits are kept there. With
+--journal the next server with this FILE and the same tables goes on from there, whatever has ended the one before; if
+FILE does not exist, that is refused. 'committed N' is sent when commit N is on the disk; an answer is sent when all
+commits that it contains are.
 
 With --standing the questions of FILE stand: each keeps totals that follow the commits, and is answered from these, so
 that a report which is asked again and again takes no pass over the lines. Replies are the same without it.
@@ -132,6 +133,7 @@ to have such a text; it is written as FILE.new, and renamed.
 
 Examples:
   ssb_live serve --data tables
+  ssb_live serve --data tables --new-journal orders.journal < /dev/null
   ssb_live serve --data tables --journal orders.journal
   ssb_live serve --data tables --standing reports.txt
   mkfifo in out; ssb_live serve --data tables --keep --client in out";

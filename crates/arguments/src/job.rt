@@ -52,6 +52,24 @@ pub enum StandingWord<'a> {
     File(&'a str),
 }
 
+/// The journal of a server.
+#[derive(Clone, Copy)]
+pub enum JournalWord<'a> {
+    /// The one at this path, which is gone on with.
+    GoesOn(&'a str),
+    /// One that begins at this path.
+    Begins(&'a str),
+}
+
+impl<'a> JournalWord<'a> {
+    /// Where it is.
+    pub fn path(self) -> &'a str {
+        match self {
+            JournalWord::GoesOn(path) | JournalWord::Begins(path) => path,
+        }
+    }
+}
+
 /// Whether help stands below a fault.
 #[derive(Clone, Copy)]
 pub enum HintsWord {
@@ -127,7 +145,7 @@ pub struct ServeWords<'a> {
     /// IN and OUT of each client in turn; none where standard input and output are served.
     pub clients: Vec<&'a str>,
     pub keep: bool,
-    pub journal: Option<&'a str>,
+    pub journal: Option<JournalWord<'a>>,
     /// The file of the server's figures.
     pub metrics: Option<&'a str>,
     pub standing: Option<StandingWord<'a>>,
@@ -226,6 +244,14 @@ fn standing_of<'a>(matches: &ArgMatches<'a>) -> Option<StandingWord<'a>> {
     match matches.get_str("standing")? {
         "benchmark" => Some(StandingWord::Benchmark),
         path => Some(StandingWord::File(path)),
+    }
+}
+
+// The journal that the words name, if they name one; the grammar lets no two through.
+fn journal_of<'a>(matches: &ArgMatches<'a>) -> Option<JournalWord<'a>> {
+    match matches.get_str("new-journal") {
+        Some(path) => Some(JournalWord::Begins(path)),
+        None => Some(JournalWord::GoesOn(matches.get_str("journal")?)),
     }
 }
 
@@ -337,7 +363,7 @@ fn serve_words<'a>(alloc: Global, matches: &ArgMatches<'a>) -> Result<ServeWords
         layout: layout_of(alloc, matches)?,
         clients: words_of(alloc, matches, "clients")?,
         keep: matches.get_flag("keep"),
-        journal: matches.get_str("journal"),
+        journal: journal_of(matches),
         metrics: matches.get_str("metrics"),
         standing: standing_of(matches),
         dispatchers: matches.get_one::<u32>("dispatchers").unwrap_or(1),

@@ -23,7 +23,7 @@ mod notice;
 
 pub use help::TERMINAL_HELP;
 pub use job::{
-    AuditWords, ExplainWords, ExportWords, FormatWord, HintsWord, Job, QueryWords, RunWords,
-    ServeWords, StandingWord, job_of,
+    AuditWords, ExplainWords, ExportWords, FormatWord, HintsWord, Job, JournalWord, QueryWords,
+    RunWords, ServeWords, StandingWord, job_of,
 };
 pub use notice::Notice;

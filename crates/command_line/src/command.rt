@@ -1,17 +1,18 @@
 //! What the words of a command line do.
 
 use crate::job_help::tell_help;
+use crate::journal::NamedJournal;
 use crate::measured::measure_serving;
 use crate::metrics::{MetricsFile, push_metrics};
-use crate::pipes::{lock_pipes, report_pipes};
 use crate::streams::{Streams, tell};
 use crate::terminal_view::TerminalView;
+use crate::{journal, pipes};
 use arguments::{
-    AuditWords, ExplainWords, ExportWords, FormatWord, HintsWord, Job, QueryWords, RunWords,
-    ServeWords, StandingWord, job_of,
+    AuditWords, ExplainWords, ExportWords, FormatWord, HintsWord, Job, JournalWord, QueryWords,
+    RunWords, ServeWords, StandingWord, job_of,
 };
 use audit_command::run_audit;
-use export_command::{ExportPlace, run_export};
+use export_command::{ExportFault, ExportPlace, ExportRefusal, run_export};
 use journal_file::{JournalFile, torn_path};
 use journal_opening::{JournalPath, ReadPath};
 use query_command::{
@@ -20,8 +21,8 @@ use query_command::{
 };
 use run_command::{RunInput, RunSettings, demo, open_trace, run_scripts};
 use serve_command::{
-    Attendant, EndPaths, JournalPlace, MOST_CLIENTS, PathClients, ServeSettings, StreamClient,
-    report_no_pipes, serve_clients, serve_stream,
+    Attendant, EndPaths, JournalPlace, MOST_CLIENTS, PathClients, ServeFault, ServeRefusal,
+    ServeSettings, StreamClient, report_no_pipes, serve_clients, serve_stream,
 };
 use server_figures::LiveFigures;
 use ssb_files::{
@@ -313,7 +314,7 @@ pub(crate) struct OpenedServer<O: Drop> {
     settings: ServeSettings,
     tables: Tables<O>,
     clients: Vec<EndPaths>,
-    journal: Option<String>,
+    journal: Option<NamedJournal>,
 }
 
 // Looks whether a live server would write over a file that it reads or writes, or that a client is answered to.
@@ -327,7 +328,8 @@ fn check_server_paths<F: Files + AllocGlobal>(
         paths.push(UsedPath::find(files, ends[0], PathUse::Input)?)?;
         paths.push(UsedPath::find(files, ends[1], PathUse::Output)?)?;
     }
-    if let Some(journal) = words.journal {
+    if let Some(word) = words.journal {
+        let journal = word.path();
         let torn = torn_path(files.alloc(), journal)?;
         paths.push(UsedPath::find(files, journal, PathUse::Write)?)?;
         paths.push(UsedPath::find(files, torn.as_str(), PathUse::Write)?)?;
@@ -336,27 +338,40 @@ fn check_server_paths<F: Files + AllocGlobal>(
     check_paths(paths.as_slice())
 }
 
+// Looks whether the journal is there, where one is to be gone on with.
+fn check_journal<F: Files + AllocGlobal>(
+    files: &F,
+    words: &ServeWords<'_>,
+) -> Result<(), ServeFault> {
+    match words.journal {
+        Some(JournalWord::GoesOn(path)) => match journal::check_is_there(files, path) {
+            Ok(()) => Ok(()),
+            Err(fault) => Err(ServeFault::Found(ServeRefusal::Journal(fault))),
+        },
+        Some(JournalWord::Begins(_)) | None => Ok(()),
+    }
+}
+
 // Opens the tables of a live server, and reads the questions that are to stand. Its clients open their own ends. Where
-// there are too many of them, that is told, and nothing is opened: so neither their paths nor the questions are looked
-// at.
+// there are too many of them, that is told, and nothing is opened: so neither their paths nor the questions nor the
+// journal are looked at.
 fn open_server<R: RandomSource, F: Files + AllocGlobal>(
     rt: &R,
     files: &F,
     words: &ServeWords<'_>,
-) -> Result<OpenedServer<F::File>, Fault> {
+) -> Result<OpenedServer<F::File>, ServeFault> {
     let tables = open_tables(files, words.data)?;
     let source = open_standing(files, words.standing)?;
     let clients = clients_of(files.alloc(), words.clients.as_slice())?;
     let standing = if clients.len() <= MOST_CLIENTS {
         check_server_paths(files, words)?;
-        questions_of(files.alloc(), source)?
+        let standing = questions_of(files.alloc(), source)?;
+        check_journal(files, words)?;
+        standing
     } else {
         Vec::new(files.alloc())
     };
-    let journal = match words.journal {
-        Some(path) => Some(String::from_str(files.alloc(), path)?),
-        None => None,
-    };
+    let journal = NamedJournal::of(files, words)?;
     let hashing = hashing_of(rt)?;
     let settings = ServeSettings {
         hashing,
@@ -370,31 +385,6 @@ fn open_server<R: RandomSource, F: Files + AllocGlobal>(
         tables,
         clients,
         journal,
-    })
-}
-
-// The journal's file, where the words name one.
-fn journal_path<'a, F: Files + AllocGlobal>(
-    files: &'a F,
-    path: Option<&'a String>,
-) -> Option<JournalPath<'a, F>> {
-    Some(JournalPath {
-        files,
-        alloc: files.alloc(),
-        path: path?.as_str(),
-    })
-}
-
-// The journal's place, where there is a file.
-fn journal_place<'a, 'f, F: Files + AllocGlobal>(
-    file: Option<&'a JournalPath<'f, F>>,
-    bytes: &'a TableBytes,
-    quiet: bool,
-) -> Option<JournalPlace<'a, JournalPath<'f, F>>> {
-    Some(JournalPlace {
-        file: file?,
-        bytes,
-        tells: !quiet,
     })
 }
 
@@ -496,8 +486,8 @@ where
         tables: count_tables(&bytes, tables),
         layout: words.layout,
     };
-    let path = journal_path(files, journal.as_ref());
-    let place = journal_place(path.as_ref(), &bytes, words.quiet);
+    let path = journal::journal_path(files, journal.as_ref());
+    let place = journal::journal_place(path.as_ref(), &bytes, !words.quiet);
     if !clients.is_empty() {
         let Ok(attendant) = Attendant::<F::File>::new(rt.alloc(), clients.as_slice(), !words.quiet)
         else {
@@ -553,7 +543,7 @@ where
         Ok(opened) => opened,
         Err(fault) => return fault.tell(&mut io::writer(errors)),
     };
-    let locks = match lock_pipes(files, clients.as_slice(), errors) {
+    let locks = match pipes::lock_pipes(files, clients.as_slice(), errors) {
         Ok(locks) => locks,
         Err(fault) => return fault.tell(&mut io::writer(errors)),
     };
@@ -616,6 +606,9 @@ where
     F::File: JournalFile,
 {
     let tables = open_tables(files, words.data)?;
+    if let Err(fault) = journal::check_is_there(files, words.journal) {
+        return Ok(ExportFault::Found(ExportRefusal::Journal(fault)).tell(err));
+    }
     let hashing = hashing_of(rt)?;
     let screen = screen_of(rt, words.quiet, terminal);
     let tables = watch_tables(screen.as_ref(), tables);
@@ -660,8 +653,8 @@ where
     };
     let view = TerminalView::of(files, &settings, hints)?;
     let bytes = TableBytes::new();
-    let path = journal_path(files, None);
-    let place = journal_place(path.as_ref(), &bytes, true);
+    let path = journal::journal_path(files, None);
+    let place = journal::journal_place(path.as_ref(), &bytes, false);
     let tables = TableFiles::benchmark(small_data::tables());
     Ok(serve_typed(rt, settings, tables, place, &view, streams))
 }
@@ -707,7 +700,7 @@ where
         columns,
     } = streams;
     let err = &mut io::writer(errors);
-    report_pipes(files, job, err)?;
+    pipes::report_pipes(files, job, err)?;
     match job {
         Job::Script => report_script(rt, input, &mut output, err),
         Job::Query(words) => answer_query(rt, files, words, terminal, &mut output, err),

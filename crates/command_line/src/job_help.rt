@@ -38,7 +38,7 @@ fn named_by<'a>(job: &'a Job<'_>) -> Named<'a> {
         Job::Serve(words) => Named {
             data: Some(tables_named(words.data, words.layout)),
             standing: standing_path(words.standing),
-            journal: words.journal,
+            journal: words.journal.map(|word| word.path()),
             clients: words.clients.as_slice(),
             ..nothing
         },

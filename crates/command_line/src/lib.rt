@@ -20,6 +20,7 @@
 mod command;
 mod end_bell;
 mod job_help;
+mod journal;
 mod measured;
 mod memory;
 mod metrics;

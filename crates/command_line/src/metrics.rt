@@ -143,7 +143,8 @@ impl<'a, F: Files + AllocGlobal> MetricsFile<'a, F> {
     ) -> Result<Option<MetricsFile<'a, F>>, MetricsFault> {
         match words.metrics {
             Some(path) if words.clients.len() / 2 <= MOST_CLIENTS => {
-                let file = MetricsFile::find(files, path, words.journal, figures)?;
+                let journal = words.journal.map(|word| word.path());
+                let file = MetricsFile::find(files, path, journal, figures)?;
                 Ok(Some(file))
             }
             _ => Ok(None),

@@ -12,6 +12,7 @@ use Rattle.journal_file.specs.declared.file_disk.OpenError.{OpenError}
 use Rattle.journal_file.specs.declared.file_disk.OpenError.TheVariants as open_error
 use Rattle.journal_opening.specs.Kept.{IsKnown}
 use Rattle.journal_opening.specs.Marks.{AreMarks, HaveChecksums}
+use Rattle.journal_opening.specs.Opens.{TellsMissing}
 use Rattle.journal_opening.specs.declared.fault.OpeningFault.TheVariants as opening
 use Rattle.ssb_journal.specs.Opening.{IsKept}
 use Rattle.ssb_journal.specs.Replays.{IsReplayFault}
@@ -118,18 +119,19 @@ has_so_many marks file kept count (inl new) many = grind arith
 has_so_many marks file kept count (inr is) many = grind arith
 
 -- what the faults of an export's steps tell of the texts and of the journal's file
-pub find_fault_tells : (texts : Table → List ℕ) (known : Option (List ℕ)) (Taken : Type 0) (why : JobFault ExportRefusal)
-    → IsFindFault why → TellsExportFault texts known Taken why
-find_fault_tells texts known Taken (job.Program why) is = λ one. absurd (omega (arith, is, one))
-find_fault_tells texts known Taken (job.Found (refusal.Folder why)) is = tt
-find_fault_tells texts known Taken (job.Found (refusal.CannotWrite path)) is = tt
-find_fault_tells texts known Taken (job.Found (refusal.Journal why)) is = absurd is
+pub find_fault_tells : (texts : Table → List ℕ) (known : Option (List ℕ)) (Taken Missing : Type 0) (why : JobFault ExportRefusal)
+    → IsFindFault why → TellsExportFault texts known Taken Missing why
+find_fault_tells texts known Taken Missing (job.Program why) is = λ one. absurd (omega (arith, is, one))
+find_fault_tells texts known Taken Missing (job.Found (refusal.Folder why)) is = tt
+find_fault_tells texts known Taken Missing (job.Found (refusal.CannotWrite path)) is = tt
+find_fault_tells texts known Taken Missing (job.Found (refusal.Journal why)) is = absurd is
 
-pub file_fault_tells : (texts : Table → List ℕ) (known : Option (List ℕ)) (Taken : Type 0) (why : OpenError)
-    → (why ≡ open_error.InUse → Taken)
-    → TellsExportFault texts known Taken (job.Found (refusal.Journal (opening.File why)))
-file_fault_tells texts known Taken open_error.InUse taken = taken refl
-file_fault_tells texts known Taken (open_error.Io error) taken = tt
+pub file_fault_tells : (texts : Table → List ℕ) (known : Option (List ℕ)) (Taken Missing : Type 0) (why : OpenError)
+    → (why ≡ open_error.InUse → Taken) → TellsMissing Missing why
+    → TellsExportFault texts known Taken Missing (job.Found (refusal.Journal (opening.File why)))
+file_fault_tells texts known Taken Missing open_error.InUse taken missing = taken refl
+file_fault_tells texts known Taken Missing (open_error.NoJournal told) taken missing = missing
+file_fault_tells texts known Taken Missing (open_error.Io error) taken missing = tt
 
 over_texts : (texts : Table → List ℕ) (known : Option (List ℕ)) (base held : Tables) (marks : List TableMark)
     (file : List ℕ) (why : JobFault ExportRefusal) → IsLoadedToServe texts base → AreMarks base marks
@@ -145,25 +147,27 @@ over_texts texts known base held marks file why loaded marked checked is_file sa
   told = subst (λ (b : Tables). TellsJournalFault b marks file why) same told;
 }
 
-pub fill_fault_tells : (texts : Table → List ℕ) (known : Option (List ℕ)) (Taken : Type 0) (base held : Tables)
+pub fill_fault_tells : (texts : Table → List ℕ) (known : Option (List ℕ)) (Taken Missing : Type 0) (base held : Tables)
     (marks : List TableMark) (file : List ℕ) (why : JobFault ExportRefusal) → IsLoadedToServe texts base
     → AreMarks base marks → HaveChecksums texts marks → IsKnown known file → held ≡ base → IsFillFault why → TellsJournalFault held marks file why
-    → TellsExportFault texts known Taken why
-fill_fault_tells texts known Taken base held marks file (job.Program why) loaded marked checked is_file same is told =
+    → TellsExportFault texts known Taken Missing why
+fill_fault_tells texts known Taken Missing base held marks file (job.Program why) loaded marked checked is_file same is told =
     λ one. absurd (omega (arith, is, one))
-fill_fault_tells texts known Taken base held marks file (job.Found (refusal.Journal (opening.File why))) loaded marked checked
+fill_fault_tells texts known Taken Missing base held marks file (job.Found (refusal.Journal (opening.File why))) loaded marked checked
     is_file same is told = absurd is
-fill_fault_tells texts known Taken base held marks file (job.Found (refusal.Journal (opening.Kept why))) loaded marked checked
+fill_fault_tells texts known Taken Missing base held marks file (job.Found (refusal.Journal (opening.HasBytes path))) loaded
+    marked checked is_file same is told = absurd is
+fill_fault_tells texts known Taken Missing base held marks file (job.Found (refusal.Journal (opening.Kept why))) loaded marked checked
     is_file same is told =
     over_texts texts known base held marks file (job.Found (refusal.Journal (opening.Kept why))) loaded marked checked is_file
     same told
-fill_fault_tells texts known Taken base held marks file (job.Found (refusal.Journal (opening.Replay why))) loaded marked checked
+fill_fault_tells texts known Taken Missing base held marks file (job.Found (refusal.Journal (opening.Replay why))) loaded marked checked
     is_file same is told =
     over_texts texts known base held marks file (job.Found (refusal.Journal (opening.Replay why))) loaded marked checked is_file
     same told
-fill_fault_tells texts known Taken base held marks file (job.Found (refusal.CannotWrite path)) loaded marked checked is_file same
+fill_fault_tells texts known Taken Missing base held marks file (job.Found (refusal.CannotWrite path)) loaded marked checked is_file same
     is told = tt
-fill_fault_tells texts known Taken base held marks file (job.Found (refusal.Folder why)) loaded marked checked is_file same is
+fill_fault_tells texts known Taken Missing base held marks file (job.Found (refusal.Folder why)) loaded marked checked is_file same is
     told = absurd is
 
 pub if_err : {X E : Type 0} (P Q R : E → Type 0) (result : Result X E) → ((why : E) → P why → Q why → R why)

@@ -80,6 +80,7 @@ IsFillFault (job.Program why) = status_of why ≡ 4
 IsFillFault (job.Found (refusal.Journal (opening.Kept why))) = Unit {0}
 IsFillFault (job.Found (refusal.Journal (opening.Replay why))) = Unit {0}
 IsFillFault (job.Found (refusal.Journal (opening.File why))) = ⊥
+IsFillFault (job.Found (refusal.Journal (opening.HasBytes path))) = ⊥
 IsFillFault (job.Found (refusal.CannotWrite path)) = Unit {0}
 IsFillFault (job.Found (refusal.Folder why)) = ⊥
 
@@ -102,18 +103,21 @@ pub record TellsOverTexts (texts : Table → List ℕ) (known : Option (List ℕ
     pub is_file : IsKnown known file
     pub told : TellsJournalFault base marks file why
 
--- what the fault of an export tells: that the texts are refused; that another has the journal's file; or what the file is
--- over the base that the texts spell
-abbrev pub TellsExportFault : (Table → List ℕ) → Option (List ℕ) → Type 0 → JobFault ExportRefusal → Type 0
-TellsExportFault texts known Taken (job.Program why) = status_of why ≡ 1 → AreRefusedToServe texts
-TellsExportFault texts known Taken (job.Found (refusal.Journal (opening.File open_error.InUse))) = Taken
-TellsExportFault texts known Taken (job.Found (refusal.Journal (opening.File (open_error.Io error)))) = Unit {0}
-TellsExportFault texts known Taken (job.Found (refusal.Journal (opening.Kept why))) =
+-- what the fault of an export tells: that the texts are refused; that another has the journal's file; that this is not
+-- there; or what it is over the base that the texts spell
+abbrev pub TellsExportFault : (Table → List ℕ) → Option (List ℕ) → Type 0 → Type 0 → JobFault ExportRefusal → Type 0
+TellsExportFault texts known Taken Missing (job.Program why) = status_of why ≡ 1 → AreRefusedToServe texts
+TellsExportFault texts known Taken Missing (job.Found (refusal.Journal (opening.File open_error.InUse))) = Taken
+TellsExportFault texts known Taken Missing (job.Found (refusal.Journal (opening.File (open_error.NoJournal told)))) =
+    Missing
+TellsExportFault texts known Taken Missing (job.Found (refusal.Journal (opening.File (open_error.Io error)))) = Unit {0}
+TellsExportFault texts known Taken Missing (job.Found (refusal.Journal (opening.HasBytes path))) = ⊥
+TellsExportFault texts known Taken Missing (job.Found (refusal.Journal (opening.Kept why))) =
     TellsOverTexts texts known (job.Found (refusal.Journal (opening.Kept why)))
-TellsExportFault texts known Taken (job.Found (refusal.Journal (opening.Replay why))) =
+TellsExportFault texts known Taken Missing (job.Found (refusal.Journal (opening.Replay why))) =
     TellsOverTexts texts known (job.Found (refusal.Journal (opening.Replay why)))
-TellsExportFault texts known Taken (job.Found (refusal.Folder why)) = Unit {0}
-TellsExportFault texts known Taken (job.Found (refusal.CannotWrite path)) = Unit {0}
+TellsExportFault texts known Taken Missing (job.Found (refusal.Folder why)) = Unit {0}
+TellsExportFault texts known Taken Missing (job.Found (refusal.CannotWrite path)) = Unit {0}
 
 -- texts are read back as these tables, of which nothing is refused
 pub record AreReadBack (texts : Table → List ℕ) (tables : Tables) : Type 0 where

@@ -220,7 +220,8 @@ pub fn export<R: Threads + Sync + AllocGlobal, F: Files, P: OpensJournal, I: Rea
     ensures exported { OnOk result ((texts : Table → List ℕ) → AreRows I.remaining tables texts
         → Exports texts (P.holds place.now.journal.now)) }
     ensures fault { IfErr result (λ fault. (texts : Table → List ℕ) → AreRows I.remaining tables texts
-        → TellsExportFault texts (P.holds place.now.journal.now) (P.is_taken place.now.journal.now) fault) }
+        → TellsExportFault texts (P.holds place.now.journal.now) (P.is_taken place.now.journal.now)
+        (P.is_missing place.now.journal.now) fault) }
     ensures words { IfErr result (λ fault. export_status fault ≢ 2) }
     ensures trace { IfErr result (λ fault. export_status fault ≢ 3) }
 {

@@ -2,7 +2,7 @@
 
 use crate::help::push_help;
 use export_command::NotEmpty;
-use journal_file::OpenError;
+use journal_file::{NoJournal, OpenError};
 use query_command::{BoardLineFault, NoReports};
 use row_store::Cause;
 use server_figures::NotMetrics;
@@ -202,7 +202,8 @@ impl ListsFaults for JournalFault {
 
     fn next(&self) -> Option<JournalFault> {
         match self {
-            JournalFault::NotAJournal => Some(JournalFault::OtherTables(Table::Customer)),
+            JournalFault::NotAJournal => Some(JournalFault::NewerForm(3)),
+            JournalFault::NewerForm(_) => Some(JournalFault::OtherTables(Table::Customer)),
             JournalFault::OtherTables(_) => Some(JournalFault::Damaged(3)),
             JournalFault::Damaged(_) | JournalFault::OutOfMemory => None,
         }
@@ -230,10 +231,21 @@ impl ListsFaults for OpenError {
         OpenError::InUse
     }
 
+    // That a file is not there has a path, and stands below.
     fn next(&self) -> Option<OpenError> {
         match self {
-            OpenError::InUse | OpenError::Io(_) => None,
+            OpenError::InUse | OpenError::Io(_) | OpenError::NoJournal(_) => None,
         }
+    }
+}
+
+impl ListsFaults for NoJournal<&'static str> {
+    fn first() -> NoJournal<&'static str> {
+        NoJournal { path: "answers" }
+    }
+
+    fn next(&self) -> Option<NoJournal<&'static str>> {
+        None
     }
 }
 
@@ -329,6 +341,7 @@ pub fn all_lines(alloc: Global) -> Result<Vec<String>, AllocError> {
     push_lines::<JournalFault>(alloc, &mut lines)?;
     push_lines::<ReplayFault>(alloc, &mut lines)?;
     push_lines::<OpenError>(alloc, &mut lines)?;
+    push_lines::<NoJournal<&'static str>>(alloc, &mut lines)?;
     push_lines::<NotEmpty>(alloc, &mut lines)?;
     push_lines::<PathFault<&'static str>>(alloc, &mut lines)?;
     push_lines::<QuestionsError>(alloc, &mut lines)?;

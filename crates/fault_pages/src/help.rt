@@ -142,17 +142,20 @@ impl ListsFaults for ScriptHelp<'static> {
 
 impl ListsFaults for JournalHelp<'static> {
     fn first() -> JournalHelp<'static> {
-        JournalHelp::NotAJournal("answers")
+        JournalHelp::NoJournal
     }
 
     fn next(&self) -> Option<JournalHelp<'static>> {
         Some(match self {
+            JournalHelp::NoJournal => JournalHelp::NewerForm("answers", "3"),
+            JournalHelp::NewerForm(path, _) => JournalHelp::NotAJournal(path),
             JournalHelp::NotAJournal(path) => JournalHelp::OtherTables(path, "customer"),
             JournalHelp::OtherTables(path, _) => JournalHelp::Refused(path),
             JournalHelp::Refused(path) => JournalHelp::Damaged(path),
             JournalHelp::Damaged(path) => JournalHelp::InUse(path),
             JournalHelp::InUse(path) => JournalHelp::NotATrace(path),
-            JournalHelp::NotATrace(_) => return None,
+            JournalHelp::NotATrace(path) => JournalHelp::HasBytes(path),
+            JournalHelp::HasBytes(_) => return None,
         })
     }
 }

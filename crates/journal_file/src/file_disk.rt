@@ -1,13 +1,16 @@
 //! Each method makes one call of the system, and then notes it with its answer.
-ghost use Rattle.std.specs.Prelude.{◌≡◌, length, IsSome, IfOk};
+ghost use Rattle.std.specs.Prelude.{◌≡◌, length, IsSome, IfOk, IfErr};
 ghost use Rattle.std.specs.Option.{ForSome};
 ghost use Rattle.journal.specs.Calls.{seen_after, left_after, left_during, failures, counts, only};
+ghost use Rattle.journal_file.specs.Missing.{NamesMissing};
+ghost use Rattle.journal_file.specs.declared.file_disk.OpenError.TheVariants.{Io};
 
+use crate::no_journal::NoJournal;
 use crate::transcript::Transcript;
 use journal::{Disk, DiskError};
 use std::alloc::Global;
 use std::fs::{self, File, OpenFile, OpenOptions, TryLockError};
-use std::io::{self, Read};
+use std::io::{self, ErrorKind, Read};
 use std::os::unix::fs::FileExt;
 use std::path::Path;
 use std::rt::Files;
@@ -18,16 +21,58 @@ use thiserror::Error;
 pub enum OpenError {
     /// The system refuses a call, or memory ran out.
     #[error(transparent)]
-    Io(#[from] io::Error),
+    Io(io::Error),
     /// Another process, or another handle of this one, has the file.
     #[error("94 InUse")]
     InUse,
+    /// There is no such file, and none is made.
+    #[error("{0}")]
+    NoJournal(NoJournal<String>),
+}
+
+impl From<io::Error> for OpenError {
+    ghost from_gives = { λ error e. e ≡ Io error };
+
+    fn from(error: io::Error) -> OpenError {
+        OpenError::Io(error)
+    }
+}
+
+impl OpenError {
+    // Why the file of this path, which is not to be made, was not opened.
+    fn of_path(alloc: Global, path: &str, error: io::Error) -> OpenError
+        ensures { NamesMissing path.now result }
+    {
+        if error.kind() != ErrorKind::NotFound {
+            return OpenError::Io(error);
+        }
+        match String::from_str(alloc, path) {
+            Ok(path) => OpenError::NoJournal(NoJournal { path }),
+            Err(error) => OpenError::Io(error.into()),
+        }
+    }
+}
+
+/// Looks whether there is a file of this path. Whether it is a journal, or may be opened, is not looked at.
+pub fn find_journal<R: Files>(files: &R, alloc: Global, path: &str) -> Result<(), OpenError>
+    ensures { IfErr result (NamesMissing path.now) }
+{
+    match fs::metadata(files, path) {
+        Err(error) if error.kind() == ErrorKind::NotFound => {
+            Err(OpenError::of_path(alloc, path, error))
+        },
+        _ => Ok(()),
+    }
 }
 
 /// A file that may keep a journal.
 pub trait JournalFile: FileExt {
+    ghost use Rattle.std.specs.Prelude.{IfErr};
+    ghost use Rattle.journal_file.specs.Missing.{IsOfAFile};
+
     /// Locks the file, until it is dropped, against other processes and other handles of this one.
-    fn lock_alone(&self) -> Result<(), OpenError>;
+    fn lock_alone(&self) -> Result<(), OpenError>
+        ensures { IfErr result IsOfAFile };
 }
 
 impl JournalFile for File {
@@ -62,14 +107,16 @@ pub fn sync_name<R: Files>(files: &R, path: &str) -> io::Result<()> {
 
 impl<O: Read + OpenFile + JournalFile + Drop> FileDisk<O> {
     ghost use Rattle.journal_file.specs.FileDisk.{IsFresh};
+    ghost use Rattle.journal_file.specs.Missing.{IsOfAFile};
 
     /// Opens a journal's file, and makes it where there is none. It is locked until the result is dropped.
-    pub fn open<R: Files<File = O>>(
+    pub fn make<R: Files<File = O>>(
         files: &R,
         alloc: Global,
         path: &str,
     ) -> Result<FileDisk<O>, OpenError>
-        ensures { IfOk result IsFresh }
+        ensures fresh { IfOk result IsFresh }
+        ensures made { IfErr result IsOfAFile }
     {
         let file = OpenOptions::new()
             .read(true)
@@ -79,16 +126,34 @@ impl<O: Read + OpenFile + JournalFile + Drop> FileDisk<O> {
         Self::locked(files, alloc, path, file)
     }
 
+    /// Opens a journal's file that is there; where there is none, none is made. It is locked likewise.
+    pub fn open<R: Files<File = O>>(
+        files: &R,
+        alloc: Global,
+        path: &str,
+    ) -> Result<FileDisk<O>, OpenError>
+        ensures fresh { IfOk result IsFresh }
+        ensures missing { IfErr result (NamesMissing path.now) }
+    {
+        match OpenOptions::new().read(true).write(true).open(files, path) {
+            Ok(file) => Self::locked(files, alloc, path, file),
+            Err(error) => Err(OpenError::of_path(alloc, path, error)),
+        }
+    }
+
     /// Opens a journal's file that is there, to be read alone: no write to it succeeds. It is locked likewise.
     pub fn open_to_read<R: Files<File = O>>(
         files: &R,
         alloc: Global,
         path: &str,
     ) -> Result<FileDisk<O>, OpenError>
-        ensures { IfOk result IsFresh }
+        ensures fresh { IfOk result IsFresh }
+        ensures missing { IfErr result (NamesMissing path.now) }
     {
-        let file = fs::open(files, path)?;
-        Self::locked(files, alloc, path, file)
+        match fs::open(files, path) {
+            Ok(file) => Self::locked(files, alloc, path, file),
+            Err(error) => Err(OpenError::of_path(alloc, path, error)),
+        }
     }
 
     // Locks a file that was just opened, and reads it.
@@ -98,7 +163,8 @@ impl<O: Read + OpenFile + JournalFile + Drop> FileDisk<O> {
         path: &str,
         mut file: O,
     ) -> Result<FileDisk<O>, OpenError>
-        ensures { IfOk result IsFresh }
+        ensures fresh { IfOk result IsFresh }
+        ensures there { IfErr result IsOfAFile }
     {
         file.lock_alone()?;
         file.sync_all()?;

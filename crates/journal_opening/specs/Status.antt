@@ -13,6 +13,7 @@ use Rattle.ssb_journal.specs.declared.replaying.ReplayFault.TheVariants as repla
 -- 1: the file is refused; 4: a call of the system failed, or memory ran out
 abbrev pub file_status : OpenError → ℕ
 file_status file.InUse = 1
+file_status (file.NoJournal told) = 1
 file_status (file.Io error) = 4
 
 abbrev pub kept_status : JournalOpenFault → ℕ
@@ -27,4 +28,5 @@ replay_status _ = 1
 abbrev pub opening_status : OpeningFault → ℕ
 opening_status (opening.File why) = file_status why
 opening_status (opening.Kept why) = kept_status why
+opening_status (opening.HasBytes path) = 1
 opening_status (opening.Replay why) = replay_status why

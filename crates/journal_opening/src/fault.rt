@@ -5,7 +5,7 @@ ghost use Rattle.journal_opening.specs.Status.{opening_status};
 
 use journal::DiskError;
 use journal_file::OpenError;
-use ssb_files::Finding;
+use ssb_files::{Finding, PathFault};
 use ssb_journal::{JournalFault, JournalOpenFault, ReplayFault};
 use std::fmt;
 use std::io::ErrorKind;
@@ -13,8 +13,10 @@ use std::io::ErrorKind;
 /// Why the commits of a journal are not at hand, over the tables that were loaded.
 #[derive(Debug, Drop)]
 pub enum OpeningFault {
-    /// The system does not open the file, or another process has it.
+    /// The system does not open the file, another process has it, or it is not there.
     File(OpenError),
+    /// A journal is to begin, and the file of this path has commits, or is no journal over these tables.
+    HasBytes(String),
     /// The file is no journal over these tables, or could not be read.
     Kept(JournalOpenFault),
     /// Its commits are no history over the tables.
@@ -26,8 +28,9 @@ impl Finding for OpeningFault {
 
     fn status(&self) -> u8 {
         match self {
-            OpeningFault::File(OpenError::InUse) => 1,
-            OpeningFault::File(_) => 4,
+            OpeningFault::File(OpenError::InUse | OpenError::NoJournal(_)) => 1,
+            OpeningFault::File(OpenError::Io(_)) => 4,
+            OpeningFault::HasBytes(_) => 1,
             OpeningFault::Kept(JournalOpenFault::Journal(JournalFault::OutOfMemory)) => 4,
             OpeningFault::Kept(JournalOpenFault::Journal(_)) => 1,
             OpeningFault::Kept(_) => 4,
@@ -47,6 +50,9 @@ impl fmt::Display for OpeningFault {
                 f.write_str("out of memory")
             },
             OpeningFault::File(fault) => write!(f, "journal: {fault}"),
+            OpeningFault::HasBytes(path) => {
+                write!(f, "journal: {}", PathFault::HasBytes(path.as_str()))
+            },
             OpeningFault::Kept(fault) => write!(f, "journal: {fault}"),
             OpeningFault::Replay(fault) => write!(f, "journal: {fault}"),
         }

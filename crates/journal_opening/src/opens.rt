@@ -1,8 +1,12 @@
 //! Where a journal is: a file that is opened once the tables are loaded.
-ghost use Rattle.std.specs.Prelude.{ℕ, List, Option, None, IfOk, IsErrOf};
+ghost use Rattle.std.specs.Prelude.{◌≡◌, ℕ, List, Option, None, IfOk, IfErr, IsErrOf};
 ghost use Rattle.journal.specs.Disk.{Only};
 ghost use Rattle.journal_opening.specs.Kept.{IsKnown};
+ghost use Rattle.journal_opening.specs.Opens.{TellsMissing};
+ghost use Rattle.journal_opening.specs.declared.start.JournalStart.{JournalStart as Start};
+ghost use Rattle.journal_opening.specs.declared.start.JournalStart.TheVariants.{GoesOn};
 
+use crate::start::JournalStart;
 use journal::{Disk, KeepsTorn};
 use journal_file::{FileDisk, JournalFile, OpenError, TornFile, keep_torn};
 use std::alloc::Global;
@@ -20,21 +24,36 @@ pub trait OpensJournal {
     /// Another has the file.
     ghost is_taken: { Self → Type 0 };
 
+    /// The file is not there, and is not to be made.
+    ghost is_missing: { Self → Type 0 };
+
+    /// Whether the journal is gone on with or begun.
+    ghost starts: { Self → Start };
+
+    /// The path of the file.
+    fn path(&self) -> &str;
+
+    /// Whether the journal is gone on with or begun.
+    fn start(&self) -> JournalStart
+        ensures { result ≡ starts self.now };
+
     /// Opens the file: it can be read, and is on the disk as it reads.
     fn open(&self, alloc: Global) -> Result<Self::Opened, OpenError>
         ensures readable { IfOk result Self.Opened.is_readable }
         ensures durable { IfOk result (λ disk. Only (Self.Opened.seen disk) (Self.Opened.may_leave disk)) }
         ensures held { IfOk result (λ disk. IsKnown (holds self.now) (Self.Opened.seen disk)) }
-        ensures taken { IsErrOf result OpenError.InUse → is_taken self.now };
+        ensures taken { IsErrOf result OpenError.InUse → is_taken self.now }
+        ensures missing { IfErr result (TellsMissing (is_missing self.now)) };
 }
 
-/// A journal's file by its path, to be gone on with: it is made where there is none. What a crash has torn of it is
-/// kept beside it. What it holds, and who has it, is in no contract.
+/// A journal's file by its path, to be written: it is made where there is none and the journal begins. What a crash has
+/// torn of it is kept beside it. What it holds, who has it, and whether it is there, is in no contract.
 #[derive(Drop)]
 pub struct JournalPath<'a, F: Files> {
     pub files: &'a F,
     pub alloc: Global,
     pub path: &'a str,
+    pub start: JournalStart,
 }
 
 impl<'a, F: Files> OpensJournal for JournalPath<'a, F>
@@ -47,8 +66,23 @@ where
 
     ghost is_taken = { λ _. Unit {0} };
 
+    ghost is_missing = { λ _. Unit {0} };
+
+    ghost starts = { λ place. place.start };
+
+    fn path(&self) -> &str {
+        self.path
+    }
+
+    fn start(&self) -> JournalStart {
+        self.start
+    }
+
     fn open(&self, alloc: Global) -> Result<FileDisk<F::File>, OpenError> {
-        FileDisk::open(self.files, alloc, self.path)
+        match self.start {
+            JournalStart::GoesOn => FileDisk::open(self.files, alloc, self.path),
+            JournalStart::Begins => FileDisk::make(self.files, alloc, self.path),
+        }
     }
 }
 
@@ -62,8 +96,8 @@ impl<'a, F: Files> KeepsTorn for JournalPath<'a, F> {
     }
 }
 
-/// The file of a journal that is there, by its path, to be read alone. What it holds, and who has it, is in no
-/// contract.
+/// The file of a journal that is there, by its path, to be read alone. What it holds, who has it, and whether it is
+/// there, is in no contract.
 #[derive(Drop)]
 pub struct ReadPath<'a, F: Files> {
     pub files: &'a F,
@@ -79,6 +113,18 @@ where
     ghost holds = { λ _. None };
 
     ghost is_taken = { λ _. Unit {0} };
+
+    ghost is_missing = { λ _. Unit {0} };
+
+    ghost starts = { λ _. GoesOn };
+
+    fn path(&self) -> &str {
+        self.path
+    }
+
+    fn start(&self) -> JournalStart {
+        JournalStart::GoesOn
+    }
 
     fn open(&self, alloc: Global) -> Result<FileDisk<F::File>, OpenError> {
         FileDisk::open_to_read(self.files, alloc, self.path)

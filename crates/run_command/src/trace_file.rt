@@ -116,6 +116,8 @@ fn replaced<O: OpenFile + JournalFile + Drop>(
             return Err(Fault::Paths(PathFault::InUse(path)));
         }
         Err(OpenError::Io(error)) => return Err(failed(error)),
+        // Nobody locks a file that is not there.
+        Err(OpenError::NoJournal(_)) => return Err(Fault::WriteFailed),
     };
     match found.replace() {
         Ok(()) => Ok(found.into_empty()),

@@ -7,7 +7,12 @@ use Rattle.std.specs.Option.{option_map}
 use Rattle.journal.specs.Groups.{recovered}
 use Rattle.journal_opening.specs.Kept.{HasCommits, IsKnown}
 use Rattle.journal_opening.specs.Marks.{AreMarks, HaveChecksums}
-use Rattle.journal_opening.specs.Status.{kept_status}
+use Rattle.journal_opening.specs.Opens.{IsNotNew, TellsStartFault}
+use Rattle.journal_opening.specs.Status.{kept_status, opening_status}
+use Rattle.journal_opening.specs.declared.fault.OpeningFault.{OpeningFault}
+use Rattle.journal_opening.specs.declared.fault.OpeningFault.TheVariants as opening
+use Rattle.journal_opening.specs.declared.start.JournalStart.{JournalStart}
+use Rattle.journal_opening.specs.declared.start.JournalStart.TheVariants as start
 use Rattle.row_store.specs.History.{CommitRecord}
 use Rattle.serve_command.specs.JournaledRun.{IsJournaledFault}
 use Rattle.serve_command.specs.Journals.{AreOnDisk, AreRefused, GoesOn, GoesOnFrom, IsRefusedFile, Journal, RefusesFile}
@@ -46,50 +51,78 @@ memory_is_four fault is one =
     omega (arith, one, four)
 
 -- a refused journal is told of a refused file
-pub refused_open : (base : Tables) (marks : List TableMark) (file : List ℕ) (why : JournalOpenFault)
-    → TellsOpenFault marks file why → kept_status why ≡ 1 → IsRefusedFile base marks file
-refused_open base marks file (kept.Disk error) tells status = absurd (omega (arith, status))
-refused_open base marks file (kept.Journal fault) (inl memory) status = absurd (memory_is_four fault memory status)
-refused_open base marks file (kept.Journal fault) (inr is) status = inl (fault, is)
+refused_kept : (base : Tables) (marks : List TableMark) (Begins : Type 0) (file : List ℕ) (why : JournalOpenFault)
+    → TellsOpenFault marks file why → kept_status why ≡ 1 → IsRefusedFile base marks Begins file
+refused_kept base marks Begins file (kept.Disk error) tells status = absurd (omega (arith, status))
+refused_kept base marks Begins file (kept.Journal fault) (inl memory) status =
+    absurd (memory_is_four fault memory status)
+refused_kept base marks Begins file (kept.Journal fault) (inr is) status = inl (fault, is)
 
-pub refused_replay : (base : Tables) (marks : List TableMark) (file : List ℕ) (commits : List CommitRecord)
-    (dispatchers : ℕ) (why : JournaledFault) → HasCommits marks commits file
-    → IsJournaledFault base commits dispatchers why → journaled_status why ≡ 1 → IsRefusedFile base marks file
-refused_replay base marks file commits dispatchers (journaled.Replay (replay.Refused number action cause)) has is
-    status = inr (record { commits = commits; has = has; number = number; action = action; cause = cause; first = is })
-refused_replay base marks file commits dispatchers (journaled.Replay replay.OutOfMemory) has is status =
+refused_begun : (base : Tables) (marks : List TableMark) (file : List ℕ) → IsNotNew marks file
+    → IsRefusedFile base marks (start.Begins ≡ start.Begins) file
+refused_begun base marks file (inl some) = inr (inr (refl, some))
+refused_begun base marks file (inr is) = inl is
+
+pub refused_open : (base : Tables) (marks : List TableMark) (how : JournalStart) (path file : List ℕ)
+    (why : OpeningFault) → TellsStartFault how path marks file why → opening_status why ≡ 1
+    → IsRefusedFile base marks (how ≡ start.Begins) file
+refused_open base marks start.GoesOn path file (opening.Kept why) tells status = refused_kept base marks _ file why tells status
+refused_open base marks start.Begins path file (opening.Kept (kept.Disk error)) tells status = absurd (omega (arith, status))
+refused_open base marks start.Begins path file (opening.Kept (kept.Journal fault)) tells status =
+    absurd (memory_is_four fault tells status)
+refused_open base marks start.Begins path file (opening.HasBytes name) tells status =
+    refused_begun base marks file tells.1
+refused_open base marks start.GoesOn path file (opening.HasBytes name) tells status = absurd tells
+refused_open base marks start.GoesOn path file (opening.File why) tells status = absurd tells
+refused_open base marks start.Begins path file (opening.File why) tells status = absurd tells
+refused_open base marks start.GoesOn path file (opening.Replay why) tells status = absurd tells
+refused_open base marks start.Begins path file (opening.Replay why) tells status = absurd tells
+
+pub refused_replay : (base : Tables) (marks : List TableMark) (Begins : Type 0) (file : List ℕ)
+    (commits : List CommitRecord) (dispatchers : ℕ) (why : JournaledFault) → HasCommits marks commits file
+    → IsJournaledFault base commits dispatchers why → journaled_status why ≡ 1 → IsRefusedFile base marks Begins file
+refused_replay base marks Begins file commits dispatchers (journaled.Replay (replay.Refused number action cause)) has is
+    status =
+    inr (inl (record { commits = commits; has = has; number = number; action = action; cause = cause; first = is }))
+refused_replay base marks Begins file commits dispatchers (journaled.Replay replay.OutOfMemory) has is status =
     absurd (omega (arith, status))
-refused_replay base marks file commits dispatchers (journaled.NotRun why) has is status = absurd (omega (arith, status))
-refused_replay base marks file commits dispatchers journaled.Disturbed has is status = absurd (omega (arith, status))
-refused_replay base marks file commits dispatchers journaled.Write has is status = absurd (omega (arith, status))
-refused_replay base marks file commits dispatchers journaled.OutOfMemory has is status = absurd (omega (arith, status))
+refused_replay base marks Begins file commits dispatchers (journaled.NotRun why) has is status =
+    absurd (omega (arith, status))
+refused_replay base marks Begins file commits dispatchers journaled.Disturbed has is status =
+    absurd (omega (arith, status))
+refused_replay base marks Begins file commits dispatchers journaled.Write has is status = absurd (omega (arith, status))
+refused_replay base marks Begins file commits dispatchers journaled.OutOfMemory has is status =
+    absurd (omega (arith, status))
 
 -- what speaks against a base is refused with a journal, and without one
-pub refused_base : (texts : Table → List ℕ) (standing : List (Query × List Value)) (server : Journal) (Taken : Type 0)
-    → AreRefusedToServe texts ⊎ MayNotStandToServe texts standing → AreRefused texts standing server Taken
-refused_base texts standing None Taken is = is
-refused_base texts standing (Some known) Taken (inl refused) = inl refused
-refused_base texts standing (Some known) Taken (inr many) = inr (inl many)
+pub refused_base : (texts : Table → List ℕ) (standing : List (Query × List Value)) (server : Journal)
+    (NotOpened Begins : Type 0) → AreRefusedToServe texts ⊎ MayNotStandToServe texts standing
+    → AreRefused texts standing server NotOpened Begins
+refused_base texts standing None NotOpened Begins is = is
+refused_base texts standing (Some known) NotOpened Begins (inl refused) = inl refused
+refused_base texts standing (Some known) NotOpened Begins (inr many) = inr (inl many)
 
--- and so is a file that another has, or that is refused over the base
+-- and so is a file that is not opened, or that is refused over the base
 pub refused_file : (texts : Table → List ℕ) (standing : List (Query × List Value)) (known : Option (List ℕ))
-    (Taken : Type 0) (base : Tables) (marks : List TableMark) → IsLoadedToServe texts base → AreMarks base marks
-    → HaveChecksums texts marks → Taken ⊎ RefusesFile base marks known → AreRefused texts standing (Some known) Taken
-refused_file texts standing known Taken base marks loaded marked checked (inl taken) = inr (inr (inl taken))
-refused_file texts standing known Taken base marks loaded marked checked (inr file) =
+    (NotOpened Begins : Type 0) (base : Tables) (marks : List TableMark) → IsLoadedToServe texts base
+    → AreMarks base marks → HaveChecksums texts marks → NotOpened ⊎ RefusesFile base marks Begins known
+    → AreRefused texts standing (Some known) NotOpened Begins
+refused_file texts standing known NotOpened Begins base marks loaded marked checked (inl not) = inr (inr (inl not))
+refused_file texts standing known NotOpened Begins base marks loaded marked checked (inr file) =
     inr (inr (inr (record { base = base; loaded = loaded; marks = marks; marked = marked; checked = checked; file = file })))
 
 -- the same of a run that failed, over the base that the texts spell
 pub each_refused : {X E : Type 0} (status : E → ℕ) (result : Result X E) (Are : (Table → List ℕ) → Type 0)
-    (standing : List (Query × List Value)) (known : Option (List ℕ)) (Taken : Type 0) (base : Tables)
+    (standing : List (Query × List Value)) (known : Option (List ℕ)) (NotOpened Begins : Type 0) (base : Tables)
     (marks : List TableMark) → ((texts : Table → List ℕ) → Are texts → IsLoadedToServe texts base)
     → AreMarks base marks → ((texts : Table → List ℕ) → Are texts → HaveChecksums texts marks)
-    → IfErr result (λ why. status why ≡ 1 → Taken ⊎ RefusesFile base marks known)
+    → IfErr result (λ why. status why ≡ 1 → NotOpened ⊎ RefusesFile base marks Begins known)
     → IfErr result (λ why. status why ≡ 1 → (texts : Table → List ℕ) → Are texts
-    → AreRefused texts standing (Some known) Taken)
-each_refused status (Ok run) Are standing known Taken base marks loaded marked checked is = tt
-each_refused status (Err why) Are standing known Taken base marks loaded marked checked is = λ one texts are.
-    refused_file texts standing known Taken base marks (loaded texts are) marked (checked texts are) (is one)
+    → AreRefused texts standing (Some known) NotOpened Begins)
+each_refused status (Ok run) Are standing known NotOpened Begins base marks loaded marked checked is = tt
+each_refused status (Err why) Are standing known NotOpened Begins base marks loaded marked checked is =
+    λ one texts are. refused_file texts standing known NotOpened Begins base marks (loaded texts are) marked
+    (checked texts are) (is one)
 
 -- of a journal at the end of the sessions, where there is one, and of one of those that were told
 pub told_is_kept_here : {D L : Type 0} (may_leave : D → List ℕ → Type 0) (seen : D → List ℕ) (told : L → ℕ)

@@ -14,6 +14,7 @@ use Rattle.ssb_text.specs.declared.error.LoadError.{LoadError}
 use Rattle.ssb_text.specs.declared.error.LoadError.TheVariants as load
 use Rattle.journal_file.specs.declared.file_disk.OpenError.{OpenError}
 use Rattle.journal_file.specs.declared.file_disk.OpenError.TheVariants as file
+use Rattle.journal_opening.specs.Opens.{TellsMissing}
 use Rattle.journal_opening.specs.Status.{file_status, kept_status, opening_status, replay_status}
 use Rattle.journal_opening.specs.declared.fault.OpeningFault.{OpeningFault}
 use Rattle.journal_opening.specs.declared.fault.OpeningFault.TheVariants as opening
@@ -88,10 +89,12 @@ IsJournalStatus status = (status ≡ 1) ⊎ (status ≡ 4)
 
 of_file : (why : OpenError) → IsJournalStatus (file_status why)
 of_file file.InUse = inl refl
+of_file (file.NoJournal told) = inl refl
 of_file (file.Io error) = inr refl
 
 of_kept : (why : JournalOpenFault) → IsJournalStatus (kept_status why)
 of_kept (kept.Journal journal.NotAJournal) = inl refl
+of_kept (kept.Journal (journal.NewerForm number)) = inl refl
 of_kept (kept.Journal (journal.OtherTables table)) = inl refl
 of_kept (kept.Journal (journal.Damaged number)) = inl refl
 of_kept (kept.Journal journal.OutOfMemory) = inr refl
@@ -104,6 +107,7 @@ of_replay replay.OutOfMemory = inr refl
 of_opening : (why : OpeningFault) → IsJournalStatus (opening_status why)
 of_opening (opening.File why) = of_file why
 of_opening (opening.Kept why) = of_kept why
+of_opening (opening.HasBytes path) = inl refl
 of_opening (opening.Replay why) = of_replay why
 
 of_journaled : (why : JournaledFault) → IsJournalStatus (journaled_status why)
@@ -117,10 +121,12 @@ no_words : (status : ℕ) → IsJournalStatus status → status ≢ 2
 no_words status (inl is) two = omega (arith, is, two)
 no_words status (inr is) two = omega (arith, is, two)
 
--- of the files that are not opened, those that another has are refused alone
-pub is_in_use : (why : OpenError) → file_status why ≡ 1 → why ≡ file.InUse
-is_in_use file.InUse is = refl
-is_in_use (file.Io error) is = absurd (omega (arith, is))
+-- a file that is refused and not opened is another's, or is not there
+pub is_not_opened : (Taken Missing : Type 0) (why : OpenError) → file_status why ≡ 1 → (why ≡ file.InUse → Taken)
+    → TellsMissing Missing why → Taken ⊎ Missing
+is_not_opened Taken Missing file.InUse is taken missing = inl (taken refl)
+is_not_opened Taken Missing (file.NoJournal told) is taken missing = inr missing
+is_not_opened Taken Missing (file.Io error) is taken missing = absurd (omega (arith, is))
 
 -- what is wrong with a journal is no wrong word
 pub opening_no_words : (why : OpeningFault) → opening_status why ≢ 2

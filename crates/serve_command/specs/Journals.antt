@@ -6,6 +6,7 @@ use Rattle.history_core.specs.declared.event.Who.TheVariants.{Client}
 use Rattle.journal.specs.Groups.{behind, recovered}
 use Rattle.journal_opening.specs.Kept.{HasCommits, IsKnown}
 use Rattle.journal_opening.specs.Marks.{AreMarks, HaveChecksums}
+use Rattle.journal_opening.specs.Opens.{HasSome}
 use Rattle.row_store.specs.History.{CommitRecord}
 use Rattle.row_store.specs.declared.refusal.Cause.{Cause}
 use Rattle.serve_command.specs.JournaledRun.{IsJournaledRun}
@@ -93,29 +94,32 @@ pub record KeepsRefused (base : Tables) (marks : List TableMark) (file : List �
   pub cause : Cause
   pub first : IsFirstRefused base commits number action cause
 
--- a file is refused over a base, whose tables have these marks: it is no journal over them, or keeps what is refused
-abbrev pub IsRefusedFile : Tables → List TableMark → List ℕ → Type 0
-IsRefusedFile base marks file =
-    ((fault : JournalFault) × IsOpenFault marks (recovered file) (behind file) fault) ⊎ KeepsRefused base marks file
+-- a file is refused over a base, whose tables have these marks: it is no journal over them, keeps what is refused, or
+-- has commits where a journal begins
+abbrev pub IsRefusedFile : Tables → List TableMark → Type 0 → List ℕ → Type 0
+IsRefusedFile base marks Begins file =
+    ((fault : JournalFault) × IsOpenFault marks (recovered file) (behind file) fault)
+    ⊎ (KeepsRefused base marks file ⊎ (Begins × HasSome marks file))
 
 -- over the base, whose tables have these marks, a journal's file is refused; it is the known one, where one is known
-pub record RefusesFile (base : Tables) (marks : List TableMark) (known : Option (List ℕ)) : Type 0 where
-  pub file : List ℕ
-  pub is_file : IsKnown known file
-  pub refused : IsRefusedFile base marks file
+pub record RefusesFile (base : Tables) (marks : List TableMark) (Begins : Type 0) (known : Option (List ℕ)) : Type 0
+  where
+    pub file : List ℕ
+    pub is_file : IsKnown known file
+    pub refused : IsRefusedFile base marks Begins file
 
 -- the five texts spell a base over which a journal's file is refused
-pub record RefusesJournal (texts : Table → List ℕ) (known : Option (List ℕ)) : Type 0 where
+pub record RefusesJournal (texts : Table → List ℕ) (Begins : Type 0) (known : Option (List ℕ)) : Type 0 where
   pub base : Tables
   pub loaded : IsLoadedToServe texts base
   pub marks : List TableMark
   pub marked : AreMarks base marks
   pub checked : HaveChecksums texts marks
-  pub file : RefusesFile base marks known
+  pub file : RefusesFile base marks Begins known
 
 -- what is refused: the five texts; one of the questions that are to stand; where there is a journal, its file, which
--- another has, or what it holds
-abbrev pub AreRefused : (Table → List ℕ) → List (Query × List Value) → Journal → Type 0 → Type 0
-AreRefused texts standing None Taken = AreRefusedToServe texts ⊎ MayNotStandToServe texts standing
-AreRefused texts standing (Some known) Taken =
-    AreRefusedToServe texts ⊎ (MayNotStandToServe texts standing ⊎ (Taken ⊎ RefusesJournal texts known))
+-- another has or is not there, or what it holds
+abbrev pub AreRefused : (Table → List ℕ) → List (Query × List Value) → Journal → Type 0 → Type 0 → Type 0
+AreRefused texts standing None NotOpened Begins = AreRefusedToServe texts ⊎ MayNotStandToServe texts standing
+AreRefused texts standing (Some known) NotOpened Begins =
+    AreRefusedToServe texts ⊎ (MayNotStandToServe texts standing ⊎ (NotOpened ⊎ RefusesJournal texts Begins known))

@@ -1,8 +1,9 @@
 //! A journal's file, from its opening to the sessions that go on from its commits.
 
-ghost use Rattle.std.specs.Prelude.{◌≡◌, ◌≢◌, ◌≤◌, All, IfOk, IfErr, vec_len};
+ghost use Rattle.std.specs.Prelude.{◌≡◌, ◌≢◌, ◌⊎◌, ◌≤◌, [], All, IfOk, IfErr, OnOk, vec_len};
 ghost use Rattle.journal.specs.Disk.{Only};
-ghost use Rattle.journal_opening.specs.Kept.{IsKnown};
+ghost use Rattle.journal_opening.specs.Kept.{HasCommits, IsKnown};
+ghost use Rattle.journal_opening.specs.declared.start.JournalStart.TheVariants.{Begins};
 ghost use Rattle.serve_command.specs.Journals.{GoesOn, IsRefusedFile};
 ghost use Rattle.serve_command.specs.Status.{refusal_status, serving_status};
 ghost use Rattle.ssb_journal.specs.Counts.{IsLeft};
@@ -13,9 +14,9 @@ use crate::fault::{ServeFault, ServeRefusal};
 use crate::journaled_run::{JournaledRun, Recovered, run_journaled};
 use crate::ready::{ReadyLine, tell_ready};
 use journal::{Disk, KeepsTorn};
-use journal_opening::{OpeningFault, OpensJournal, tell_form};
+use journal_opening::{OpeningFault, OpensJournal, open_started, tell_form};
 use ssb_files::TableBytes;
-use ssb_journal::{TableMark, open};
+use ssb_journal::TableMark;
 use ssb_server::Loaded;
 use std::alloc::Global;
 use std::io;
@@ -80,8 +81,8 @@ impl<'a, P: KeepsTorn, E: Print> KeepsTorn for TornKeeper<'a, P, E> {
 }
 
 /// Serves clients at once, one for each speaker, by 1 to 4 dispatchers over a loaded base, behind the commits of a
-/// journal's file that was just opened. All of it is looked at before anything is written; what a crash has torn is
-/// kept at the place before it is cut off.
+/// journal's file that was just opened; where the journal begins, it has none. All of it is looked at before anything is
+/// written; what a crash has torn is kept at the place before it is cut off.
 pub fn run_source<R, P, D, S, E>(
     rt: &R,
     dispatchers: u32,
@@ -92,7 +93,7 @@ pub fn run_source<R, P, D, S, E>(
 ) -> Result<JournaledRun<D, S::Left>, ServeRefusal>
 where
     R: Threads + Sync + Wait + Clock + AllocGlobal,
-    P: KeepsTorn,
+    P: OpensJournal + KeepsTorn,
     P::Kept: Drop,
     D: Disk + Drop + Send,
     S: Speaks<R, Durable> + Drop + Send,
@@ -103,6 +104,8 @@ where
     requires few { vec_len speakers ≤ most_clients }
     ensures served { IfOk result (λ run. GoesOn S.spoken source.entry.loaded source.entry.marks.now
         (D.seen source.entry.disk) speakers.items dispatchers run.left.items run.log) }
+    ensures begun { OnOk result (P.starts place.now.file.now ≡ Begins
+        → HasCommits source.entry.marks.now [] (D.seen source.entry.disk)) }
     // Whatever crashes from now on leaves the first commits of the log, at least so many, ..
     ensures kept { IfOk result (λ run. IsLeft (D.may_leave run.disk) (D.seen run.disk) run.count run.log
         run.was_written) }
@@ -110,7 +113,7 @@ where
     ensures told { IfOk result (λ run. All (λ left. S.told left ≤ run.count) run.left.items) }
     ensures left { IfOk result (λ run. vec_len run.left ≡ vec_len speakers) }
     ensures refused { IfErr result (λ refusal. refusal_status refusal ≡ 1 → IsRefusedFile source.entry.loaded
-        source.entry.marks.now (D.seen source.entry.disk)) }
+        source.entry.marks.now (P.starts place.now.file.now ≡ Begins) (D.seen source.entry.disk)) }
     ensures words { IfErr result (λ refusal. refusal_status refusal ≢ 2) }
 {
     let JournalSource {
@@ -119,9 +122,10 @@ where
         disk,
         ready,
     } = source;
-    let opened = match open(rt.alloc(), marks, disk) {
+    let file = place.file;
+    let opened = match open_started(rt.alloc(), marks, file.start(), file.path(), disk) {
         Ok(opened) => opened,
-        Err((fault, _)) => return Err(ServeRefusal::Journal(OpeningFault::Kept(fault))),
+        Err((fault, _)) => return Err(ServeRefusal::Journal(fault)),
     };
     tell_form(&mut io::writer(screen), opened.kept.form);
     let keeper = TornKeeper {
@@ -146,7 +150,8 @@ pub(crate) fn open_file<P: OpensJournal>(alloc: Global, file: &P) -> Result<P::O
     ensures readable { IfOk result P.Opened.is_readable }
     ensures durable { IfOk result (λ disk. Only (P.Opened.seen disk) (P.Opened.may_leave disk)) }
     ensures held { IfOk result (λ disk. IsKnown (P.holds file.now) (P.Opened.seen disk)) }
-    ensures taken { IfErr result (λ fault. serving_status fault ≡ 1 → P.is_taken file.now) }
+    ensures refused { IfErr result (λ fault. serving_status fault ≡ 1
+        → P.is_taken file.now ⊎ P.is_missing file.now) }
     ensures words { IfErr result (λ fault. serving_status fault ≢ 2) }
 {
     match file.open(alloc) {

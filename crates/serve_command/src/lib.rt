@@ -68,7 +68,7 @@ mod unserved;
 pub use acknowledging::Durable;
 pub use attendant::Attendant;
 pub use ends::{EndPaths, report_no_pipes};
-pub use fault::ServeRefusal;
+pub use fault::{ServeFault, ServeRefusal};
 pub use journal_source::{JournalPlace, JournalSource, run_source};
 pub use journaled_run::JournaledRun;
 pub use pipe_locks::{PipeFault, PipeInUse, PipeLocks};

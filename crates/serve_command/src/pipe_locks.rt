@@ -100,7 +100,7 @@ impl<O: JournalFile + Drop> PipeLocks<O> {
                 Err(OpenError::Io(error)) if error.kind() == ErrorKind::OutOfMemory => {
                     return Err(PipeFault::Program(Fault::OutOfMemory));
                 }
-                Err(OpenError::Io(_)) => {
+                Err(OpenError::Io(_) | OpenError::NoJournal(_)) => {
                     let _ = writeln!(err, "ssb_live: client {number}: cannot lock {pipe}");
                 }
             }

@@ -4,6 +4,7 @@ ghost use Rattle.std.specs.Prelude.{◌≡◌, ◌≢◌, ◌⊎◌, ◌≤◌, 
 ghost use Rattle.std.specs.Prelude.{is_some, true, vec_len};
 ghost use Rattle.std.specs.Option.{option_map};
 ghost use Rattle.journal_opening.specs.Marks.{AreMarks, HaveChecksums};
+ghost use Rattle.journal_opening.specs.declared.start.JournalStart.TheVariants.{Begins};
 ghost use Rattle.serve_command.specs.Journals.{AreRefused, GoesOnFrom, RefusesFile};
 ghost use Rattle.serve_command.specs.Served.{IsRunOver};
 ghost use Rattle.serve_command.specs.Status.{serving_status};
@@ -209,7 +210,9 @@ where
         run.left.items)) }
     ensures journal { IfOk result (λ run. is_some run.kept ≡ true) }
     ensures refused { IfErr result (λ fault. serving_status fault ≡ 1
-        → P.is_taken place.now.file.now ⊎ RefusesFile tables.loaded tables.marks (P.holds place.now.file.now)) }
+        → (P.is_taken place.now.file.now ⊎ P.is_missing place.now.file.now)
+        ⊎ RefusesFile tables.loaded tables.marks (P.starts place.now.file.now ≡ Begins)
+        (P.holds place.now.file.now)) }
     ensures words { IfErr result (λ fault. serving_status fault ≢ 2) }
 {
     let MarkedTables {
@@ -279,7 +282,8 @@ where
     ensures refused { IfErr result (λ fault. serving_status fault ≡ 1 → (texts : Table → List ℕ)
         → AreRows I.remaining tables texts → AreRefused texts settings.standing.items
         (option_map (λ place. P.holds place.file.now) place.entry)
-        (IfSome place.entry (λ place. P.is_taken place.file.now))) }
+        (IfSome place.entry (λ place. P.is_taken place.file.now ⊎ P.is_missing place.file.now))
+        (IfSome place.entry (λ place. P.starts place.file.now ≡ Begins))) }
     ensures words { IfErr result (λ fault. serving_status fault ≢ 2) }
 {
     let ServeSettings {

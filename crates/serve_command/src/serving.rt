@@ -4,6 +4,7 @@ ghost use Rattle.std.specs.Prelude.{◌≡◌, ◌≢◌, ◌⊎◌, ◌↔◌, 
 ghost use Rattle.std.specs.Prelude.{IsOk, IsSome, IsTrue, MatchOption, None, is_some, vec_len};
 ghost use Rattle.std.specs.List.{list_all};
 ghost use Rattle.std.specs.Option.{option_map};
+ghost use Rattle.journal_opening.specs.declared.start.JournalStart.TheVariants.{Begins};
 ghost use Rattle.serve_command.specs.Journals.{AreOnDisk, AreRefused};
 ghost use Rattle.serve_command.specs.Served.{EndsAlone, HasEndedAlone, ServesClients};
 ghost use Rattle.serve_command.specs.Status.{serving_status};
@@ -89,7 +90,8 @@ where
     ensures refused { IfErr result (λ fault. serving_status fault ≡ 1 → (texts : Table → List ℕ)
         → AreRows I.remaining tables texts → AreRefused texts settings.standing.items
         (option_map (λ place. P.holds place.file.now) place.entry)
-        (IfSome place.entry (λ place. P.is_taken place.file.now))) }
+        (IfSome place.entry (λ place. P.is_taken place.file.now ⊎ P.is_missing place.file.now))
+        (IfSome place.entry (λ place. P.starts place.file.now ≡ Begins))) }
     ensures words { IfErr result (λ fault. serving_status fault ≢ 2) }
 {
     let mut speakers = Vec::new(rt.alloc());
@@ -185,7 +187,8 @@ where
     ensures disk { MatchOption result.output (result.disk ≡ None) (λ _. is_some result.disk ≡ is_some place.entry) }
     ensures refused { result.status ≡ 1 → (texts : Table → List ℕ) → AreRows I.remaining tables texts
         → AreRefused texts settings.standing.items (option_map (λ place. P.holds place.file.now) place.entry)
-        (IfSome place.entry (λ place. P.is_taken place.file.now)) }
+        (IfSome place.entry (λ place. P.is_taken place.file.now ⊎ P.is_missing place.file.now))
+        (IfSome place.entry (λ place. P.starts place.file.now ≡ Begins)) }
     ensures others { result.status ≢ 0 → result.status ≢ 1 → result.status ≡ 4 }
 {
     let mut err = io::writer(screen);
@@ -319,7 +322,8 @@ where
         → AreCounts (vec_len clients.entry.ends) settings.dispatchers }
     ensures refused { result.status ≡ 1 → (texts : Table → List ℕ) → AreRows I.remaining tables texts
         → AreRefused texts settings.standing.items (option_map (λ place. P.holds place.file.now) place.entry)
-        (IfSome place.entry (λ place. P.is_taken place.file.now)) }
+        (IfSome place.entry (λ place. P.is_taken place.file.now ⊎ P.is_missing place.file.now))
+        (IfSome place.entry (λ place. P.starts place.file.now ≡ Begins)) }
     ensures many { (result.status ≡ 2) ↔ (most_clients < vec_len clients.entry.ends) }
     ensures others { result.status ≢ 0 → result.status ≢ 1 → result.status ≢ 2 → result.status ≡ 4 }
 {

@@ -2,7 +2,7 @@
 
 use crate::lines::write_line;
 use crate::observed_files::ObservedFiles;
-use crate::paths::help_with_last_call;
+use crate::paths::{help_with_last_call, missing};
 use crate::records::open_plain;
 use std::io::{Read, Write};
 use std::rt::Files;
@@ -11,6 +11,10 @@ use std::{fmt, io};
 /// Help about the journal of this path.
 #[derive(Clone, Copy)]
 pub enum JournalHelp<'a> {
+    /// It is not there.
+    NoJournal,
+    /// It has this form, which is not known yet.
+    NewerForm(&'a str, &'a str),
     /// It is another file.
     NotAJournal(&'a str),
     /// The table that it was not made over.
@@ -23,25 +27,34 @@ pub enum JournalHelp<'a> {
     InUse(&'a str),
     /// It was named as a trace.
     NotATrace(&'a str),
+    /// A journal is to begin, and it has bytes.
+    HasBytes(&'a str),
 }
 
 impl<'a> fmt::Display for JournalHelp<'a> {
     fn fmt<W: fmt::Write>(&self, f: &mut fmt::Formatter<W>) -> fmt::Result {
         match self {
-            JournalHelp::NotAJournal(path) => {
-                write!(
-                    f,
-                    "{path} is no journal; name a file that does not exist, or a journal"
-                )
-            }
+            JournalHelp::NoJournal => f.write_str(
+                "look whether the path is right, and whether its disk is there; a journal begins with serve \
+                 --new-journal",
+            ),
+            JournalHelp::NewerForm(path, form) => write!(
+                f,
+                "{path} has form {form}, which a newer program made; use that program, and leave the file as it is"
+            ),
+            JournalHelp::NotAJournal(path) => write!(
+                f,
+                "{path} is no journal; look whether the path is right, and whether another file took its place"
+            ),
             JournalHelp::OtherTables(path, table) => write!(
                 f,
-                "{path} was made with another file of {table}; serve the tables with which it was made, or name a \
-                 new journal"
+                "{path} was made with another file of {table}; serve the tables with which it was made, or begin \
+                 another journal with --new-journal"
             ),
             JournalHelp::Refused(path) => write!(
                 f,
-                "{path} was made with other tables; serve the tables with which it was made, or name a new journal"
+                "{path} was made with other tables; serve the tables with which it was made, or begin another journal \
+                 with --new-journal"
             ),
             JournalHelp::Damaged(path) => write!(
                 f,
@@ -54,6 +67,11 @@ impl<'a> fmt::Display for JournalHelp<'a> {
             JournalHelp::NotATrace(path) => write!(
                 f,
                 "{path} is a journal, and no trace; audit takes what run --trace has written, export takes a journal"
+            ),
+            JournalHelp::HasBytes(path) => write!(
+                f,
+                "{path} has commits, or is no journal of these tables; --journal goes on with a journal, \
+                 --new-journal begins one where no file is"
             ),
         }
     }
@@ -81,6 +99,16 @@ pub fn help_with_journal_as_trace<F: Files, E: Write>(
     Ok(true)
 }
 
+// Says that a journal is not there: what there is not of its path, and what to do.
+fn help_with_no_journal<F: Files, E: Write>(
+    files: &ObservedFiles<'_, F>,
+    path: &str,
+    err: &mut E,
+) -> io::Result<()> {
+    write_line(err, &missing(files, path))?;
+    write_line(err, &JournalHelp::NoJournal)
+}
+
 /// Says what is wrong with a journal, by the words of its fault. Those of a fault without a number are the system's, of
 /// the last call that failed.
 pub fn help_with_journal<F: Files, E: Write>(
@@ -90,11 +118,14 @@ pub fn help_with_journal<F: Files, E: Write>(
     err: &mut E,
 ) -> io::Result<()> {
     match words {
+        ["65", ..] => help_with_no_journal(files, path, err),
+        ["66", _, form] => write_line(err, &JournalHelp::NewerForm(path, form)),
         ["90", ..] => write_line(err, &JournalHelp::NotAJournal(path)),
         ["91", _, table] => write_line(err, &JournalHelp::OtherTables(path, table)),
         ["92", ..] => write_line(err, &JournalHelp::Refused(path)),
         ["93", ..] => write_line(err, &JournalHelp::Damaged(path)),
         ["94", ..] => write_line(err, &JournalHelp::InUse(path)),
+        ["97", ..] => write_line(err, &JournalHelp::HasBytes(path)),
         _ => help_with_last_call(files, err),
     }
 }

@@ -52,8 +52,8 @@ fn folder_of(path: &str) -> Option<&str> {
     }
 }
 
-// What is not there of a path: the file, or already its folder.
-fn missing<'a, F: Files>(files: &F, path: &'a str) -> PathHelp<'a> {
+/// What is not there of a path: the file, or already its folder.
+pub(crate) fn missing<'a, F: Files>(files: &F, path: &'a str) -> PathHelp<'a> {
     match folder_of(path) {
         Some(folder) if fs::metadata(files, folder).is_err() => PathHelp::NoSuchFolder(folder),
         _ => PathHelp::NoSuchFile(path),

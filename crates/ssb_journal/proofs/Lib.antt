@@ -1,5 +1,6 @@
 pub mod SealLaws
 mod HeadLaws
+mod NewerLaws
 mod TextLaws
 pub mod KeptLaws
 pub mod CountLaws

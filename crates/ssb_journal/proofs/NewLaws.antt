@@ -14,7 +14,7 @@ use Rattle.journal.specs.Disk.{LeavesOnly}
 use Rattle.journal.proofs.MomentLaws.{leaves, then_leaves, both}
 use Rattle.journal.specs.Groups.{recovered, blocks, behind, IsBeforeOrAfter, IsMending, IsAppending}
 use Rattle.ssb_journal.specs.Seals.{sealed}
-use Rattle.ssb_journal.specs.Heads.{title, mark_line, head_text, new_head, IsHeadFault, IsLineFault}
+use Rattle.ssb_journal.specs.Heads.{title, mark_line, head_text, new_head, IsHeadFault, IsLineFault, IsTitleFault}
 use Rattle.ssb_journal.specs.declared.head.HeadForm.{HeadForm}
 use Rattle.ssb_journal.specs.declared.head.HeadForm.TheVariants.{Checksums}
 use Rattle.ssb_journal.specs.Kept.{IsAsItWasOrNew}
@@ -22,9 +22,10 @@ use Rattle.ssb_journal.specs.Texts.{IsBeginning, IsBeginningOf, IsNewJournal, Is
 use Rattle.ssb_journal.specs.Opening.{IsOpenFault}
 use Rattle.ssb_journal.specs.declared.head.TableMark.{TableMark}
 use Rattle.ssb_journal.specs.declared.fault.JournalFault.{JournalFault}
-use Rattle.ssb_journal.specs.declared.fault.JournalFault.TheVariants.{NotAJournal, OtherTables, Damaged, OutOfMemory}
+use Rattle.ssb_journal.specs.declared.fault.JournalFault.TheVariants.{NotAJournal, NewerForm, OtherTables, Damaged, OutOfMemory}
 use Rattle.ssb_journal.proofs.SealLaws.{sealed-injective}
 use Rattle.ssb_journal.proofs.HeadLaws.{one_title}
+use Rattle.ssb_journal.proofs.NewerLaws.{known_is_not_newer}
 
 -- a text begins with each of its beginnings
 starts : (text front back : List ℕ) → text ≡ front ++ back → starts_with nat_eq text front ≡ true
@@ -96,12 +97,21 @@ module _ (marks : List TableMark) where
       ∙ ap (λ (l : List ℕ). title form ++ l) (flat_map-append (mark_line form) (other.before ++ mark ∷ []) other.after)
       ∙ sym (append_assoc (title form) (flat_map (mark_line form) (other.before ++ mark ∷ [])) (flat_map (mark_line form) other.after)) in
       both_ways _ other.other (starts (head_text form marks) until (flat_map (mark_line form) other.after) split)
+  line_is_told form (NewerForm number) fault = fault
   line_is_told form (Damaged number) fault = fault
   line_is_told form OutOfMemory fault = fault
 
+  title_is_told : (form : HeadForm) (fault : JournalFault) → IsTitleFault (head_text form marks) fault → ⊥
+  title_is_told form NotAJournal none =
+      both_ways _ (none.0 form) (starts (head_text form marks) (title form) (flat_map (mark_line form) marks) refl)
+  title_is_told form (NewerForm number) newer =
+      known_is_not_newer form (flat_map (mark_line form) marks) number newer
+  title_is_told form (OtherTables table) fault = fault
+  title_is_told form (Damaged number) fault = fault
+  title_is_told form OutOfMemory fault = fault
+
   head_is_told : (form : HeadForm) (fault : JournalFault) → IsHeadFault marks (head_text form marks) fault → ⊥
-  head_is_told form fault (inl none) =
-      both_ways _ (none.1 form) (starts (head_text form marks) (title form) (flat_map (mark_line form) marks) refl)
+  head_is_told form fault (inl none) = title_is_told form fault none
   head_is_told form fault (inr (other, begins, line)) =
       line_is_told form fault (subst (λ (f : HeadForm). IsLineFault f marks (head_text form marks) fault)
       (one_title form other (flat_map (mark_line form) marks) begins) line)
@@ -109,6 +119,7 @@ module _ (marks : List TableMark) where
   damaged_none : (groups : List (List ℕ)) (fault : JournalFault) → groups ≡ [] → IsDamaged groups fault → ⊥
   damaged_none groups (Damaged number) none damaged = absurd (omega (arith, slice_get_within groups number damaged.group damaged.is, ap length none))
   damaged_none groups NotAJournal none damaged = damaged
+  damaged_none groups (NewerForm number) none damaged = damaged
   damaged_none groups (OtherTables table) none damaged = damaged
   damaged_none groups OutOfMemory none damaged = damaged
 
@@ -117,6 +128,7 @@ module _ (marks : List TableMark) where
       damaged.damaged (head_text form marks) (sym (get_or_from_slice_get groups 0 damaged.group [] damaged.is) ∙ ap (λ (gs : List (List ℕ)). get_or gs 0 []) is)
   damaged_head form groups (Damaged (suc number)) is damaged = absurd (omega (arith, slice_get_within groups (suc number) damaged.group damaged.is, ap length is))
   damaged_head form groups NotAJournal is damaged = damaged
+  damaged_head form groups (NewerForm number) is damaged = damaged
   damaged_head form groups (OtherTables table) is damaged = damaged
   damaged_head form groups OutOfMemory is damaged = damaged
 

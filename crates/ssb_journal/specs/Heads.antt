@@ -1,6 +1,6 @@
 -- The head of a journal, and what may be wrong with it.
 use Rattle.std.specs.Prelude.{◌≡◌, ◌⊎◌, ◌<◌, List, ℕ, [], ◌∷◌, ◌++◌, length, codes, decimal, Bool, false, true, nat_eq}
-use Rattle.std.specs.Prelude.{◌==◌, if◌then◌else◌}
+use Rattle.std.specs.Prelude.{◌==◌, ◌^◌, if◌then◌else◌}
 use Rattle.std.specs.List.{flat_map, starts_with}
 use Rattle.hex.specs.Hex.{encode_lower}
 use Rattle.ssb_schema.specs.Columns.{table_name}
@@ -10,12 +10,27 @@ use Rattle.ssb_journal.specs.declared.head.TableMark.{TableMark}
 use Rattle.ssb_text.specs.Layouts.{is_benchmark}
 use Rattle.ssb_text.specs.declared.layout.TableLayout.{TableLayout}
 use Rattle.ssb_journal.specs.declared.fault.JournalFault.{JournalFault}
-use Rattle.ssb_journal.specs.declared.fault.JournalFault.TheVariants.{NotAJournal, OtherTables, Damaged, OutOfMemory}
+use Rattle.ssb_journal.specs.declared.fault.JournalFault.TheVariants.{NotAJournal, NewerForm, OtherTables, Damaged}
+use Rattle.ssb_journal.specs.declared.fault.JournalFault.TheVariants.{OutOfMemory}
+
+-- the first line of a head, by the number of its form
+abbrev pub title_of : ℕ → List ℕ
+title_of number = codes "ssb_live journal " ++ (decimal number ++ 10 ∷ [])
 
 -- the first line of a head
 abbrev pub title : HeadForm → List ℕ
 title Sizes = codes "ssb_live journal 1\n"
 title Checksums = codes "ssb_live journal 2\n"
+
+-- the number of the newest form that this program knows
+abbrev pub newest_form : ℕ
+newest_form = 2
+
+-- the text begins as the head of a newer form, which has this number of 64 bits
+pub record IsNewer (number : ℕ) (text : List ℕ) : Type 0 where
+  pub newer : newest_form < number
+  pub fits : number < 2 ^ 64
+  pub begins : starts_with nat_eq text (title_of number) ≡ true
 
 -- the word for a delimiter: the character, but of a tab its name
 abbrev pub delimiter_word : ℕ → List ℕ
@@ -62,15 +77,21 @@ IsLineFault form marks text NotAJournal =
     (starts_with nat_eq text (head_text form marks) ≡ true) × (length (head_text form marks) < length text)
 IsLineFault form marks text (OtherTables table) =
     (mark : TableMark) × (mark.table ≡ table) × IsOther form marks text mark
+IsLineFault form marks text (NewerForm number) = ⊥
 IsLineFault form marks text (Damaged number) = ⊥
 IsLineFault form marks text OutOfMemory = ⊥
 
--- the text begins as no head
-abbrev pub HasNoTitle : List ℕ → JournalFault → Type 0
-HasNoTitle text fault = (fault ≡ NotAJournal) × ((form : HeadForm) → starts_with nat_eq text (title form) ≡ false)
+-- the text begins as a head of no form that this program knows: of a newer one, or of none
+abbrev pub IsTitleFault : List ℕ → JournalFault → Type 0
+IsTitleFault text NotAJournal =
+    ((form : HeadForm) → starts_with nat_eq text (title form) ≡ false) × ((number : ℕ) → IsNewer number text → ⊥)
+IsTitleFault text (NewerForm number) = IsNewer number text
+IsTitleFault text (OtherTables table) = ⊥
+IsTitleFault text (Damaged number) = ⊥
+IsTitleFault text OutOfMemory = ⊥
 
--- the text begins as no head, or something is wrong behind its title
+-- the text begins as a head of no known form, or something is wrong behind its title
 abbrev pub IsHeadFault : List TableMark → List ℕ → JournalFault → Type 0
 IsHeadFault marks text fault =
-    HasNoTitle text fault
+    IsTitleFault text fault
     ⊎ ((form : HeadForm) × (starts_with nat_eq text (title form) ≡ true) × IsLineFault form marks text fault)

@@ -8,7 +8,8 @@ use Rattle.ssb_journal.specs.Seals.{sealed, IsNotSealed}
 use Rattle.ssb_journal.specs.declared.head.HeadForm.{HeadForm}
 use Rattle.ssb_journal.specs.declared.head.TableMark.{TableMark}
 use Rattle.ssb_journal.specs.declared.fault.JournalFault.{JournalFault}
-use Rattle.ssb_journal.specs.declared.fault.JournalFault.TheVariants.{NotAJournal, OtherTables, Damaged, OutOfMemory}
+use Rattle.ssb_journal.specs.declared.fault.JournalFault.TheVariants.{NotAJournal, NewerForm, OtherTables, Damaged}
+use Rattle.ssb_journal.specs.declared.fault.JournalFault.TheVariants.{OutOfMemory}
 
 -- groups are a head of this form, of these tables, and these texts, each behind the line of its checksum
 abbrev pub AreSealed : HeadForm → List TableMark → List (List ℕ) → List (List ℕ) → Type 0
@@ -49,6 +50,7 @@ pub record IsFirstNotSealed (groups : List (List ℕ)) (number : ℕ) : Type 0 w
 abbrev pub IsDamaged : List (List ℕ) → JournalFault → Type 0
 IsDamaged groups (Damaged number) = IsFirstNotSealed groups number
 IsDamaged groups NotAJournal = ⊥
+IsDamaged groups (NewerForm number) = ⊥
 IsDamaged groups (OtherTables table) = ⊥
 IsDamaged groups OutOfMemory = ⊥
 

@@ -12,6 +12,9 @@ pub enum JournalFault {
     /// It is neither a journal of this program, nor what a crash leaves of one that is being made.
     #[error("90 NotAJournal")]
     NotAJournal,
+    /// It is a journal of this form, which is newer than those that this program knows.
+    #[error("66 NewerForm {0}")]
+    NewerForm(u64),
     /// It was made over another file of this table.
     #[error("91 OtherTables {0}")]
     OtherTables(Table),

@@ -1,14 +1,15 @@
 //! The first text of a journal: a title, and of each table how many bytes and rows its file has, the checksum of the
 //! rows' text, and the layout of the file, where it is not the benchmark's.
-ghost use Rattle.std.specs.Prelude.{◌≡◌, ◌⊎◌, ◌++◌, length, nat_eq, true, false, IfOk, IfErr, MatchOption, OnOk};
+ghost use Rattle.std.specs.Prelude.{◌≡◌, ◌⊎◌, ◌++◌, ◌<◌, ◌^◌, ℕ, decimal, length, nat_eq, true, false, IfOk, IfErr, MatchOption, OnOk};
 ghost use Rattle.std.specs.List.{starts_with};
 ghost use Rattle.ssb_journal.specs.Heads.{checksum_part, delimiter_word, head_text, heads_part, layout_part, mark_line};
-ghost use Rattle.ssb_journal.specs.Heads.{title, IsHeadFault, IsLineFault};
+ghost use Rattle.ssb_journal.specs.Heads.{newest_form, title, IsHeadFault, IsLineFault, IsNewer, IsTitleFault};
 ghost use Rattle.ssb_journal.specs.declared.head.HeadForm.{HeadForm as Form};
 
 use crate::fault::JournalFault;
 use itoa::Buffer;
-use ssb_schema::Table;
+use memchr::memchr;
+use ssb_schema::{Table, number};
 use ssb_text::{Delimiter, TableLayout};
 use std::alloc::{AllocError, Global};
 
@@ -55,6 +56,53 @@ impl HeadForm {
             return Some(HeadForm::Sizes);
         }
         None
+    }
+}
+
+// What stands before the number of a form in the first line of a head.
+const TITLE_WORDS: &[u8] = b"ssb_live journal ";
+
+// The newest form that this program knows.
+const NEWEST_FORM: u64 = 2;
+
+// Whether digits are the number of a newer form, as the program writes one: with no zero before it.
+fn is_newer(form: u64, digits: &[u8]) -> bool
+    ensures yes { result ≡ true → (newest_form < form) × (form < 2 ^ 64) × (digits.now ≡ decimal form) }
+    ensures no { newest_form < form → digits.now ≡ decimal form → result ≡ true }
+{
+    if form <= NEWEST_FORM {
+        return false;
+    }
+    let mut buffer = Buffer::new();
+    buffer.format(form).as_bytes() == digits
+}
+
+// The number of the newer form as whose head a text begins.
+fn newer_form(text: &[u8]) -> Option<u64>
+    ensures { MatchOption result ((number : ℕ) → IsNewer number text.now → ⊥) (λ number. IsNewer number text.now) }
+{
+    if !text.starts_with(TITLE_WORDS) {
+        return None;
+    }
+    let told = &text[TITLE_WORDS.len()..];
+    let end = memchr(b'\n', told)?;
+    let digits = &told[..end];
+    let form = number(digits)?;
+    if is_newer(form, digits) {
+        Some(form)
+    } else {
+        None
+    }
+}
+
+// Why a text that begins as a head of no form that this program knows is none.
+fn title_fault(text: &[u8]) -> JournalFault
+    requires { (form : Form) → starts_with nat_eq text.now (title form) ≡ false }
+    ensures { IsTitleFault text.now result }
+{
+    match newer_form(text) {
+        Some(form) => JournalFault::NewerForm(form),
+        None => JournalFault::NotAJournal,
     }
 }
 
@@ -165,13 +213,13 @@ fn check_lines(
 }
 
 /// The form of a head of a journal over tables of these marks. A text that begins as a head, and has not the line of a
-/// table in its place, is of other tables.
+/// table in its place, is of other tables; one that begins as the head of a form that is not known yet is told as such.
 pub fn check_head(alloc: Global, marks: &[TableMark], text: &[u8]) -> Result<HeadForm, JournalFault>
     ensures head { IfOk result (λ form. text.now ≡ head_text form marks.now) }
     ensures fault { IfErr result (λ fault. (fault ≡ JournalFault.OutOfMemory) ⊎ IsHeadFault marks.now text.now fault) }
 {
     let Some(form) = HeadForm::of(text) else {
-        return Err(JournalFault::NotAJournal);
+        return Err(title_fault(text));
     };
     check_lines(alloc, form, marks, text)?;
     Ok(form)

@@ -13,8 +13,9 @@ returns-in_err-folder-clause-fault g c =
     let is : c.from_residual.result ≡ Err c.in_err-folder.field-0.0 = search rules in
     let here : (texts : Table → List ℕ) → AreRows g.I.Read.remaining c.args.tables texts
     → TellsExportFault texts (g.P.OpensJournal.holds c.args.place.now.journal.now)
-    (g.P.OpensJournal.is_taken c.args.place.now.journal.now) c.in_err-folder.field-0.0
-    = λ texts are. find_fault_tells texts _ _ c.in_err-folder.field-0.0 c.in_err-folder.ensures.fault in
+    (g.P.OpensJournal.is_taken c.args.place.now.journal.now) (g.P.OpensJournal.is_missing c.args.place.now.journal.now)
+    c.in_err-folder.field-0.0
+    = λ texts are. find_fault_tells texts _ _ _ c.in_err-folder.field-0.0 c.in_err-folder.ensures.fault in
     rw is here
 
 pub returns-in_err-read-clause-fault : goal.returns-in_err-read-clause-fault
@@ -22,7 +23,8 @@ returns-in_err-read-clause-fault g c =
     let is : c.from_residual-in_err-read.result ≡ Err (Program c.in_err-read.field-0.0) = search rules in
     let here : (texts : Table → List ℕ) → AreRows g.I.Read.remaining c.args.tables texts
     → TellsExportFault texts (g.P.OpensJournal.holds c.args.place.now.journal.now)
-    (g.P.OpensJournal.is_taken c.args.place.now.journal.now) (Program c.in_err-read.field-0.0)
+    (g.P.OpensJournal.is_taken c.args.place.now.journal.now) (g.P.OpensJournal.is_missing c.args.place.now.journal.now)
+    (Program c.in_err-read.field-0.0)
     = λ texts are status. c.in_err-read.ensures.data status texts are in
     rw is here
 
@@ -31,15 +33,17 @@ returns-in_err-base-clause-fault g c =
     let is : c.from_residual-in_err-base.result ≡ Err (Program common.OutOfMemory) = search rules in
     let here : (texts : Table → List ℕ) → AreRows g.I.Read.remaining c.args.tables texts
     → TellsExportFault texts (g.P.OpensJournal.holds c.args.place.now.journal.now)
-    (g.P.OpensJournal.is_taken c.args.place.now.journal.now) (Program common.OutOfMemory)
+    (g.P.OpensJournal.is_taken c.args.place.now.journal.now) (g.P.OpensJournal.is_missing c.args.place.now.journal.now)
+    (Program common.OutOfMemory)
     = λ texts are status. absurd (omega (arith, status)) in
     rw is here
 
 pub returns-in-Err-clause-fault : goal.returns-in-Err-clause-fault
 returns-in-Err-clause-fault g c =
     λ texts are. file_fault_tells texts (g.P.OpensJournal.holds c.args.place.now.journal.now)
-    (g.P.OpensJournal.is_taken c.args.place.now.journal.now) c.in-Err.error
-    (λ same. c.in-Err.ensures.taken (ap Err same))
+    (g.P.OpensJournal.is_taken c.args.place.now.journal.now) (g.P.OpensJournal.is_missing c.args.place.now.journal.now)
+    c.in-Err.error
+    (λ same. c.in-Err.ensures.taken (ap Err same)) c.in-Err.ensures.missing
 
 pub returns-clause-exported : goal.returns-clause-exported
 returns-clause-exported g c =
@@ -54,7 +58,7 @@ pub returns-clause-fault : goal.returns-clause-fault
 returns-clause-fault g c =
     if_err _ _ _ c.export_into.result
     (λ why is told texts are.
-    fill_fault_tells texts _ _ c.in_ok-read.read.0 c.in_ok-base.base.value _ _ why (c.in_ok-read.ensures.base texts are)
+    fill_fault_tells texts _ _ _ c.in_ok-read.read.0 c.in_ok-base.base.value _ _ why (c.in_ok-read.ensures.base texts are)
     c.table_marks-marks.ensures.marks (c.table_marks-marks.ensures.checksums texts (c.in_ok-read.ensures.checksums texts are))
     c.in-Ok.ensures.held c.in_ok-base.ensures.ok is told)
     c.export_into.ensures.fault c.export_into.ensures.journal

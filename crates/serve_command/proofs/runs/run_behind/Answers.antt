@@ -4,7 +4,7 @@ use Rattle.serve_command.proofs.runs.run_behind.Goals as goal
 pub returns-in_err-disk-clause-refused : goal.returns-in_err-disk-clause-refused
 returns-in_err-disk-clause-refused g c =
     let is : c.from_residual.result ≡ Err c.in_err-disk.field-0.0 = search rules in
-    rw is (λ status. inl (c.in_err-disk.ensures.taken status))
+    rw is (λ status. inl (c.in_err-disk.ensures.refused status))
 
 pub returns-in-Err-clause-refused : goal.returns-in-Err-clause-refused
 returns-in-Err-clause-refused g c = λ status.

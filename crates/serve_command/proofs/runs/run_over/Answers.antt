@@ -1,6 +1,7 @@
 use Rattle.std.proofs.Common.{◌≡◌, ◌⊎◌, Err, List, rules, subst, ℕ}
 use Rattle.std.specs.Prelude.{IfSome}
 use Rattle.std.specs.Option.{option_map}
+use Rattle.journal_opening.specs.declared.start.JournalStart.TheVariants.{Begins}
 use Rattle.serve_command.proofs.JournalLaws.{each_refused, refused_base}
 use Rattle.serve_command.proofs.ServedLaws.{each_over_journal, each_over_none}
 use Rattle.serve_command.specs.Journals.{AreRefused}
@@ -19,8 +20,9 @@ returns-in_err-tables-in-Some-clause-refused g c =
     → AreRows g.I.Read.remaining c.args.tables texts
     → AreRefused texts c.args.settings.standing.items
     (option_map (λ place. g.P.OpensJournal.holds place.file.now) c.args.place)
-    (IfSome c.args.place (λ place. g.P.OpensJournal.is_taken place.file.now))
-    = λ status texts are. refused_base texts c.args.settings.standing.items _ _
+    (IfSome c.args.place (λ place. g.P.OpensJournal.is_taken place.file.now ⊎ g.P.OpensJournal.is_missing place.file.now))
+    (IfSome c.args.place (λ place. g.P.OpensJournal.starts place.file.now ≡ Begins))
+    = λ status texts are. refused_base texts c.args.settings.standing.items _ _ _
     (subst (λ s. AreRefusedToServe texts ⊎ MayNotStandToServe texts s) c.deref.ensures.value
     (c.in_err-tables-in-Some.ensures.refused status texts are)) in
     rw is here
@@ -33,8 +35,9 @@ returns-in_err-served-in-None-clause-refused g c =
     → AreRows g.I.Read.remaining c.args.tables texts
     → AreRefused texts c.args.settings.standing.items
     (option_map (λ place. g.P.OpensJournal.holds place.file.now) c.args.place)
-    (IfSome c.args.place (λ place. g.P.OpensJournal.is_taken place.file.now))
-    = λ status texts are. refused_base texts c.args.settings.standing.items _ _
+    (IfSome c.args.place (λ place. g.P.OpensJournal.is_taken place.file.now ⊎ g.P.OpensJournal.is_missing place.file.now))
+    (IfSome c.args.place (λ place. g.P.OpensJournal.starts place.file.now ≡ Begins))
+    = λ status texts are. refused_base texts c.args.settings.standing.items _ _ _
     (subst (λ s. AreRefusedToServe texts ⊎ MayNotStandToServe texts s) c.deref-in-None.ensures.value
     (c.in_err-served-in-None.ensures.refused status texts are)) in
     rw is here
@@ -50,7 +53,7 @@ returns-in-Some-clause-run g c =
 pub returns-in-Some-clause-refused : goal.returns-in-Some-clause-refused
 returns-in-Some-clause-refused g c =
     rw c.in-Some.is (each_refused serving_status c.run_behind.result (AreRows g.I.Read.remaining c.args.tables)
-    c.args.settings.standing.items _ _ c.in_ok-tables-in-Some.tables.loaded c.in_ok-tables-in-Some.tables.marks
+    c.args.settings.standing.items _ _ _ c.in_ok-tables-in-Some.tables.loaded c.in_ok-tables-in-Some.tables.marks
     c.in_ok-tables-in-Some.ensures.base c.in_ok-tables-in-Some.ensures.marked c.in_ok-tables-in-Some.ensures.checked
     c.run_behind.ensures.refused)
 

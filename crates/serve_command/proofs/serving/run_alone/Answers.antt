@@ -1,6 +1,7 @@
-use Rattle.std.proofs.Common.{◌≡◌, Err, List, length, arith, rules, ℕ}
+use Rattle.std.proofs.Common.{◌≡◌, ◌⊎◌, Err, List, length, arith, rules, ℕ}
 use Rattle.std.specs.Prelude.{IfSome}
 use Rattle.std.specs.Option.{option_map}
+use Rattle.journal_opening.specs.declared.start.JournalStart.TheVariants.{Begins}
 use Rattle.serve_command.proofs.JournalLaws.{told_alone}
 use Rattle.serve_command.proofs.ServedLaws.{ended_alone, first_pushed, is_alone, only_popped}
 use Rattle.serve_command.specs.Journals.{AreRefused}
@@ -18,7 +19,8 @@ returns-in_err-push-clause-refused g c =
     → AreRows g.I.Read.remaining c.args.tables texts
     → AreRefused texts c.args.settings.standing.items
     (option_map (λ place. g.P.OpensJournal.holds place.file.now) c.args.place)
-    (IfSome c.args.place (λ place. g.P.OpensJournal.is_taken place.file.now))
+    (IfSome c.args.place (λ place. g.P.OpensJournal.is_taken place.file.now ⊎ g.P.OpensJournal.is_missing place.file.now))
+    (IfSome c.args.place (λ place. g.P.OpensJournal.starts place.file.now ≡ Begins))
     = λ status texts are. absurd (omega (arith, status)) in
     rw is here
 

@@ -1,4 +1,4 @@
-use Rattle.std.proofs.Common.{sym, ◌∙◌, rules}
+use Rattle.std.proofs.Common.{rules}
 use Rattle.ssb_journal.proofs.HeadLaws.{no_title}
 use Rattle.ssb_journal.proofs.head.HeadForm.of.Goals as goal
 
