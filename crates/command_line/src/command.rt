@@ -1,12 +1,12 @@
 //! What the words of a command line do.
 
 use crate::job_help::tell_help;
-use crate::journal::NamedJournal;
 use crate::measured::measure_serving;
 use crate::metrics::{MetricsFile, push_metrics};
+use crate::named_journal::NamedJournal;
 use crate::streams::{Streams, tell};
 use crate::terminal_view::TerminalView;
-use crate::{journal, pipes};
+use crate::{named_journal, pipes};
 use arguments::{
     AuditWords, ExplainWords, ExportWords, FormatWord, HintsWord, Job, JournalWord, QueryWords,
     RunWords, ServeWords, StandingWord, job_of,
@@ -344,7 +344,7 @@ fn check_journal<F: Files + AllocGlobal>(
     words: &ServeWords<'_>,
 ) -> Result<(), ServeFault> {
     match words.journal {
-        Some(JournalWord::GoesOn(path)) => match journal::check_is_there(files, path) {
+        Some(JournalWord::GoesOn(path)) => match named_journal::check_is_there(files, path) {
             Ok(()) => Ok(()),
             Err(fault) => Err(ServeFault::Found(ServeRefusal::Journal(fault))),
         },
@@ -486,8 +486,8 @@ where
         tables: count_tables(&bytes, tables),
         layout: words.layout,
     };
-    let path = journal::journal_path(files, journal.as_ref());
-    let place = journal::journal_place(path.as_ref(), &bytes, !words.quiet);
+    let path = named_journal::journal_path(files, journal.as_ref());
+    let place = named_journal::journal_place(path.as_ref(), &bytes, !words.quiet);
     if !clients.is_empty() {
         let Ok(attendant) = Attendant::<F::File>::new(rt.alloc(), clients.as_slice(), !words.quiet)
         else {
@@ -606,7 +606,7 @@ where
     F::File: JournalFile,
 {
     let tables = open_tables(files, words.data)?;
-    if let Err(fault) = journal::check_is_there(files, words.journal) {
+    if let Err(fault) = named_journal::check_is_there(files, words.journal) {
         return Ok(ExportFault::Found(ExportRefusal::Journal(fault)).tell(err));
     }
     let hashing = hashing_of(rt)?;
@@ -653,8 +653,8 @@ where
     };
     let view = TerminalView::of(files, &settings, hints)?;
     let bytes = TableBytes::new();
-    let path = journal::journal_path(files, None);
-    let place = journal::journal_place(path.as_ref(), &bytes, false);
+    let path = named_journal::journal_path(files, None);
+    let place = named_journal::journal_place(path.as_ref(), &bytes, false);
     let tables = TableFiles::benchmark(small_data::tables());
     Ok(serve_typed(rt, settings, tables, place, &view, streams))
 }

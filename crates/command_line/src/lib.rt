@@ -20,10 +20,10 @@
 mod command;
 mod end_bell;
 mod job_help;
-mod journal;
 mod measured;
 mod memory;
 mod metrics;
+mod named_journal;
 mod pipes;
 mod streams;
 mod terminal_view;
