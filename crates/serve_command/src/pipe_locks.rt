@@ -64,14 +64,46 @@ fn open_lock<F: Files + AllocGlobal>(files: &F, pipe: &str) -> io::Result<F::Fil
     }
 }
 
+// Why a pipe is not locked.
+#[derive(Clone, Copy, Debug, PartialEq, Eq)]
+enum LockFault {
+    // Another server has it.
+    InUse,
+    OutOfMemory,
+    // The system refuses a call.
+    Refused,
+}
+
+impl LockFault {
+    fn of(error: &OpenError) -> LockFault {
+        match error {
+            OpenError::InUse => LockFault::InUse,
+            OpenError::Io(error) => LockFault::of_system(error),
+            OpenError::NoJournal(_) => LockFault::Refused,
+        }
+    }
+
+    fn of_system(error: &io::Error) -> LockFault {
+        match error.kind() {
+            ErrorKind::OutOfMemory => LockFault::OutOfMemory,
+            _ => LockFault::Refused,
+        }
+    }
+}
+
 // Locks a pipe, until the result is dropped.
-fn lock_pipe<F: Files + AllocGlobal>(files: &F, pipe: &str) -> Result<F::File, OpenError>
+fn lock_pipe<F: Files + AllocGlobal>(files: &F, pipe: &str) -> Result<F::File, LockFault>
 where
     F::File: JournalFile,
 {
-    let file = open_lock(files, pipe)?;
-    file.lock_alone()?;
-    Ok(file)
+    let file = match open_lock(files, pipe) {
+        Ok(file) => file,
+        Err(error) => return Err(LockFault::of_system(&error)),
+    };
+    match file.lock_alone() {
+        Ok(()) => Ok(file),
+        Err(error) => Err(LockFault::of(&error)),
+    }
 }
 
 impl<O: JournalFile + Drop> PipeLocks<O> {
@@ -93,14 +125,12 @@ impl<O: JournalFile + Drop> PipeLocks<O> {
             }
             match lock_pipe(files, pipe) {
                 Ok(lock) => locks.push(lock)?,
-                Err(OpenError::InUse) => {
+                Err(LockFault::InUse) => {
                     let path = String::from_str(files.alloc(), pipe)?;
                     return Err(PipeFault::Found(PipeInUse { number, path }));
                 }
-                Err(OpenError::Io(error)) if error.kind() == ErrorKind::OutOfMemory => {
-                    return Err(PipeFault::Program(Fault::OutOfMemory));
-                }
-                Err(OpenError::Io(_) | OpenError::NoJournal(_)) => {
+                Err(LockFault::OutOfMemory) => return Err(PipeFault::Program(Fault::OutOfMemory)),
+                Err(LockFault::Refused) => {
                     let _ = writeln!(err, "ssb_live: client {number}: cannot lock {pipe}");
                 }
             }
