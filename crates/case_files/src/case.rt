@@ -36,6 +36,8 @@ pub struct Break {
 pub struct Command {
     pub words: Vec<String>,
     pub breaks: Vec<Break>,
+    /// The paths of the files that another process has.
+    pub taken: Vec<String>,
     pub input: Vec<u8>,
     pub output: Vec<u8>,
     pub errors: Vec<u8>,
@@ -132,6 +134,9 @@ impl<'a> Reader<'a> {
                 let name = String::from_str(self.alloc, name)?;
                 command.breaks.push(Break { name, after })?;
             }
+            (SectionKind::Taken(path), Some(command)) => {
+                command.taken.push(String::from_str(self.alloc, path)?)?;
+            }
             (SectionKind::Status(status), Some(command)) => command.status = status,
             (SectionKind::Leaves(path), Some(command)) => {
                 command.leaves.push(empty_file(self.alloc, path)?)?;
@@ -154,9 +159,8 @@ impl<'a> Reader<'a> {
                 section,
                 line,
             )?,
-            (SectionKind::Breaks(..) | SectionKind::Status(_), _) | (_, None) => {
-                return Err(CaseLineFault::NoText);
-            }
+            (SectionKind::Breaks(..) | SectionKind::Taken(_) | SectionKind::Status(_), _)
+            | (_, None) => return Err(CaseLineFault::NoText),
         }
         Ok(())
     }
@@ -196,6 +200,7 @@ impl Command {
         Command {
             words: Vec::new(alloc),
             breaks: Vec::new(alloc),
+            taken: Vec::new(alloc),
             input: Vec::new(alloc),
             output: Vec::new(alloc),
             errors: Vec::new(alloc),

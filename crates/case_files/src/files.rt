@@ -41,6 +41,7 @@ pub struct MemoryFiles {
     files: Mutex<BTreeMap<String, FileBytes>>,
     folders: Mutex<BTreeSet<String>>,
     breaks: Mutex<BTreeMap<String, usize>>,
+    taken: Mutex<BTreeSet<String>>,
 }
 
 /// A stream that a command writes, which can be read when it has ended.
@@ -85,6 +86,8 @@ pub struct BreakingFile {
     // The bytes of the file, and behind how many of them a write at a place fails.
     contents: Option<FileBytes>,
     after: Option<usize>,
+    // Whether another process has it.
+    is_taken: bool,
 }
 
 impl MemoryFiles {
@@ -95,6 +98,7 @@ impl MemoryFiles {
             files: Mutex::new(BTreeMap::new(alloc)),
             folders: Mutex::new(BTreeSet::new(alloc)),
             breaks: Mutex::new(BTreeMap::new(alloc)),
+            taken: Mutex::new(BTreeSet::new(alloc)),
         };
         for (path, text) in [
             ("small/customer.tbl", CUSTOMER),
@@ -126,6 +130,16 @@ impl MemoryFiles {
         Ok(())
     }
 
+    /// From now on another process has these files, and no others.
+    pub fn take(&self, paths: &[String]) -> io::Result<()> {
+        let mut taken = hold(&self.taken)?;
+        taken.clear();
+        for path in paths {
+            taken.insert(path.clone()?)?;
+        }
+        Ok(())
+    }
+
     /// The bytes of a file, where there is one.
     pub fn bytes_of(&self, path: &str) -> io::Result<Option<Vec<u8>>> {
         match self.contents_of(path)? {
@@ -144,7 +158,9 @@ impl MemoryFiles {
     // This file of this path, as it is opened: it may fail behind its first bytes.
     fn opened(&self, path: &str, file: MemoryFile) -> io::Result<BreakingFile> {
         let after = hold(&self.breaks)?.get(path).copied();
-        BreakingFile::new(file, after)
+        let mut opened = BreakingFile::new(file, after)?;
+        opened.is_taken = hold(&self.taken)?.contains(path);
+        Ok(opened)
     }
 
     fn is_folder(&self, path: &str) -> io::Result<bool> {
@@ -375,6 +391,7 @@ impl BreakingFile {
             file: Breaking::new(file, after),
             contents,
             after,
+            is_taken: false,
         })
     }
 
@@ -428,8 +445,10 @@ impl OpenFile for BreakingFile {
 }
 
 impl FileExt for BreakingFile {
-    fn read_at(&self, _buf: &mut [u8], _offset: u64) -> io::Result<usize> {
-        Err(Error::from(ErrorKind::Unsupported))
+    fn read_at(&self, buf: &mut [u8], offset: u64) -> io::Result<usize> {
+        let contents = hold(self.contents()?)?;
+        let mut next = contents.get(offset as usize..).unwrap_or(&[]);
+        next.read(buf)
     }
 
     fn write_at(&self, buf: &[u8], offset: u64) -> io::Result<usize> {
@@ -452,9 +471,13 @@ impl FileExt for BreakingFile {
     }
 }
 
-// Commands run one after another: nobody else has a file.
+// Commands run one after another: nobody else has a file but where the case says so.
 impl JournalFile for BreakingFile {
     fn lock_alone(&self) -> Result<(), OpenError> {
-        Ok(())
+        if self.is_taken {
+            Err(OpenError::InUse)
+        } else {
+            Ok(())
+        }
     }
 }

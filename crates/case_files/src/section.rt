@@ -11,6 +11,8 @@ pub enum SectionKind<'a> {
     Command,
     /// A file by its path, or a stream of the command, and behind how many of its bytes it fails.
     Breaks(&'a str, usize),
+    /// A file by its path, which another process has.
+    Taken(&'a str),
     /// Standard input.
     Input,
     /// Standard output.
@@ -37,17 +39,21 @@ impl<'a> SectionKind<'a> {
             SectionKind::File(_) => 0,
             SectionKind::Command => 1,
             SectionKind::Breaks(..) => 2,
-            SectionKind::Input => 3,
-            SectionKind::Output => 4,
-            SectionKind::Errors => 5,
-            SectionKind::Status(_) => 6,
-            SectionKind::Leaves(_) => 7,
+            SectionKind::Taken(_) => 3,
+            SectionKind::Input => 4,
+            SectionKind::Output => 5,
+            SectionKind::Errors => 6,
+            SectionKind::Status(_) => 7,
+            SectionKind::Leaves(_) => 8,
         }
     }
 
     // Whether several may stand one behind another.
     fn repeats(self) -> bool {
-        matches!(self, SectionKind::Breaks(..) | SectionKind::Leaves(_))
+        matches!(
+            self,
+            SectionKind::Breaks(..) | SectionKind::Taken(_) | SectionKind::Leaves(_)
+        )
     }
 
     /// Whether it may stand behind the last one, or as the first: files, and then the sections of each command.
@@ -120,6 +126,7 @@ impl<'a> Section<'a> {
                 let (name, after) = words.rsplit_once(" after ")?;
                 SectionKind::Breaks(name, after.parse().ok()?)
             }
+            Some(("taken", path)) if !is_escaped => SectionKind::Taken(path),
             Some(("status", number)) if !is_escaped => SectionKind::Status(number.parse().ok()?),
             Some(_) => return None,
             None => match words {

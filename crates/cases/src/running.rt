@@ -91,6 +91,7 @@ where
     for command in &case.commands {
         number = number.saturating_add(1);
         files.break_after(command.breaks.as_slice())?;
+        files.take(command.taken.as_slice())?;
         let outcome = run_command(rt, &files, command)?;
         if let Some(difference) = find_difference(alloc, &files, command, &outcome)? {
             return Ok(Some(format!(in alloc; "command {number}, {difference}")?));

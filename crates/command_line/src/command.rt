@@ -3,6 +3,7 @@
 use crate::job_help::tell_help;
 use crate::measured::measure_serving;
 use crate::metrics::{MetricsFile, push_metrics};
+use crate::pipes::{lock_pipes, report_pipes};
 use crate::streams::{Streams, tell};
 use crate::terminal_view::TerminalView;
 use arguments::{
@@ -17,7 +18,7 @@ use query_command::{
     QuestionWords, Settings, run_all, run_board, run_explain, run_explain_over, run_query,
     standard_questions,
 };
-use run_command::{RunInput, RunSettings, demo, run_scripts};
+use run_command::{RunInput, RunSettings, demo, open_trace, run_scripts};
 use serve_command::{
     Attendant, EndPaths, JournalPlace, MOST_CLIENTS, PathClients, ServeSettings, StreamClient,
     report_no_pipes, serve_clients, serve_stream,
@@ -25,8 +26,8 @@ use serve_command::{
 use server_figures::LiveFigures;
 use ssb_files::{
     Fault, InputSource, PathUse, Screen, TableBytes, UsedPath, check_paths, count_tables,
-    find_tables, make_file, open_file, open_files, open_tables, read_standing, watch,
-    watch_scripts, watch_tables,
+    find_tables, open_file, open_files, open_tables, read_standing, watch, watch_scripts,
+    watch_tables,
 };
 use ssb_formats::Format;
 use ssb_hints::{
@@ -231,7 +232,10 @@ fn open_run<R: RandomSource, F: Files + AllocGlobal>(
     rt: &R,
     files: &F,
     words: &RunWords<'_>,
-) -> Result<OpenedRun<F::File>, Fault> {
+) -> Result<OpenedRun<F::File>, Fault>
+where
+    F::File: JournalFile,
+{
     let tables = open_tables(files, words.data)?;
     let scripts = open_files(files, words.scripts.as_slice())?;
     let source = open_standing(files, words.standing)?;
@@ -240,7 +244,7 @@ fn open_run<R: RandomSource, F: Files + AllocGlobal>(
     }
     let standing = questions_of(files.alloc(), source)?;
     let trace = match words.trace {
-        Some(path) => Some(make_file(files, path)?),
+        Some(path) => Some(open_trace(files, path)?),
         None => None,
     };
     let hashing = hashing_of(rt)?;
@@ -269,6 +273,7 @@ fn report_scripts<R, F: Files + AllocGlobal, P: Print, W: Write, E: Write>(
 ) -> Result<u8, Fault>
 where
     R: Clock + RandomSource + Threads + Sync + Wait + AllocGlobal,
+    F::File: JournalFile,
 {
     let opened = open_run(rt, files, words)?;
     let OpenedRun {
@@ -516,7 +521,12 @@ where
         input: streams.input,
         output: streams.output,
     };
-    serve_stream(rt, settings, tables, place, client, errors).status
+    let ended = serve_stream(rt, settings, tables, place, client, errors);
+    if ended.was_unasked {
+        let mut err = io::writer(errors);
+        let _ = writeln!(err, "ssb_live: its input has ended after 0 requests");
+    }
+    ended.status
 }
 
 // Serves clients over the files of a folder.
@@ -543,6 +553,10 @@ where
         Ok(opened) => opened,
         Err(fault) => return fault.tell(&mut io::writer(errors)),
     };
+    let locks = match lock_pipes(files, clients.as_slice(), errors) {
+        Ok(locks) => locks,
+        Err(fault) => return fault.tell(&mut io::writer(errors)),
+    };
     let metrics = match MetricsFile::named_by(files, words, &settings.figures) {
         Ok(metrics) => metrics,
         Err(fault) => return fault.tell(&mut io::writer(errors)),
@@ -557,10 +571,12 @@ where
         clients,
         journal,
     };
-    match metrics {
+    let status = match metrics {
         Some(metrics) => measure_serving(rt, files, words, metrics, opened, streams),
         None => serve_loading(rt, files, words, opened, streams),
-    }
+    };
+    locks.drop();
+    status
 }
 
 // Checks a trace over the files of a folder.
@@ -691,6 +707,7 @@ where
         columns,
     } = streams;
     let err = &mut io::writer(errors);
+    report_pipes(files, job, err)?;
     match job {
         Job::Script => report_script(rt, input, &mut output, err),
         Job::Query(words) => answer_query(rt, files, words, terminal, &mut output, err),

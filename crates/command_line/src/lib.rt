@@ -23,6 +23,7 @@ mod job_help;
 mod measured;
 mod memory;
 mod metrics;
+mod pipes;
 mod streams;
 mod terminal_view;
 

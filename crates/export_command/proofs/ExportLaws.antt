@@ -1,23 +1,25 @@
 -- What an export leaves, of what was loaded, kept and written.
 use Rattle.std.proofs.Common.{◌≡◌, ◌∙◌, ℕ, List, [], length, Option, Result, Ok, Err, OnOk, ap, subst, refl, arith}
-use Rattle.std.proofs.Common.{inl, inr}
-use Rattle.std.specs.Prelude.{IfErr}
+use Rattle.std.proofs.Common.{◌⊎◌, inl, inr}
+use Rattle.std.specs.Prelude.{IfErr, IfSome, None, Some}
 use Rattle.ssb_base.specs.Base.{IsSound, Tables}
 use Rattle.ssb_base.specs.Limits.{limits_of}
 use Rattle.ssb_files.specs.Loaded.{IsLoadedToServe}
+use Rattle.ssb_files.specs.Status.{status_of}
+use Rattle.ssb_files.specs.declared.fault.Fault.{Fault}
 use Rattle.ssb_files.specs.declared.job.JobFault.{JobFault}
 use Rattle.ssb_files.specs.declared.job.JobFault.TheVariants as job
+use Rattle.journal.specs.Disk.{BeginsAsRead}
 use Rattle.journal.specs.Groups.{recovered}
 use Rattle.journal_file.specs.declared.file_disk.OpenError.{OpenError}
 use Rattle.journal_file.specs.declared.file_disk.OpenError.TheVariants as open_error
+use Rattle.journal_opening.proofs.KnownLaws.{file_read}
 use Rattle.journal_opening.specs.Kept.{IsKnown}
 use Rattle.journal_opening.specs.Marks.{AreMarks, HaveChecksums}
 use Rattle.journal_opening.specs.declared.fault.OpeningFault.TheVariants as opening
 use Rattle.ssb_journal.specs.Opening.{IsKept}
-use Rattle.ssb_journal.specs.Replays.{IsReplayFault}
 use Rattle.ssb_journal.specs.declared.head.TableMark.{TableMark}
-use Rattle.ssb_journal.specs.declared.opening.KeptCommits.{KeptCommits}
-use Rattle.ssb_journal.specs.declared.replaying.ReplayFault.{ReplayFault}
+use Rattle.ssb_journal.specs.declared.kept.KeptCommits.{KeptCommits}
 use Rattle.ssb_schema.specs.declared.table.Table.{Table}
 use Rattle.ssb_schema.specs.declared.table.Table.TheVariants.{Lineorder}
 use Rattle.table_folder.specs.Calls.{FolderCall, LeftAnyTime}
@@ -27,9 +29,11 @@ use Rattle.ssb_text.specs.TableText.{base_texts}
 use Rattle.row_store.specs.Legal.{IsLegal}
 use Rattle.export_command.specs.After.{tables_after}
 use Rattle.export_command.specs.Exported.{AreReadBack, AreTablesAfter, Exports, HasSoMany, IsExport, IsFillFault}
-use Rattle.export_command.specs.Exported.{IsFindFault}
+use Rattle.export_command.specs.Exported.{IsFindFault, IsJournalRefusal, IsReadFault}
 use Rattle.export_command.specs.Exported.{IsNoneOrExport, LeftNoneOrExport, TellsExportFault, TellsJournalFault}
 use Rattle.export_command.specs.Exported.{TellsOverTexts}
+use Rattle.export_command.proofs.StatusLaws.{opening_is}
+use Rattle.export_command.specs.Status.{export_status}
 use Rattle.export_command.specs.declared.fault.ExportRefusal.{ExportRefusal}
 use Rattle.export_command.specs.declared.fault.ExportRefusal.TheVariants as refusal
 
@@ -98,12 +102,25 @@ pub on_ok : {X E : Type 0} (P Q : Type 0) (result : Result X E) → (P → Q) �
 on_ok P Q (Ok v) more holds = more holds
 on_ok P Q (Err e) more holds = tt
 
--- the commits that a file keeps, and why they are no history
-pub replay_told : (base : Tables) (marks : List TableMark) (file : List ℕ) (kept : KeptCommits) (why : ReplayFault)
-    → IsKept marks (recovered file) kept → IsReplayFault base kept.commits.items why
-    → TellsJournalFault base marks file (job.Found (refusal.Journal (opening.Replay why)))
-replay_told base marks file kept why (inl new) fault = grind arith
-replay_told base marks file kept why (inr is) fault = grind arith
+-- a file that is refused as it is read, or whose commits are
+pub refused_reading : (base : Tables) (marks : List TableMark) (known now : Option (List ℕ)) (taken : List ℕ)
+    (Ended : Type 0) (why : JobFault ExportRefusal) → now ≡ known → IfSome now (BeginsAsRead taken Ended)
+    → ((file : List ℕ) → BeginsAsRead taken Ended file → TellsJournalFault base marks file why) → IsReadFault why
+    → IsJournalRefusal base marks known why
+refused_reading base marks known now taken Ended why same as_known tells is =
+    let read = file_read now taken Ended as_known in
+    record {
+      file = read.file;
+      is_file = subst (λ k. IsKnown k read.file) same read.is_file;
+      told = tells read.file read.begins;
+      is = is;
+    }
+
+-- that memory ran out tells nothing of a file
+pub lacks_memory : (base : Tables) (marks : List TableMark) (known : Option (List ℕ)) (why : Fault)
+    → status_of why ≡ 4 → IsJournalRefusal base marks known (job.Program why)
+lacks_memory base marks None why four = record { file = []; is_file = tt; told = tt; is = four }
+lacks_memory base marks (Some file) why four = record { file = file; is_file = refl; told = tt; is = four }
 
 -- the tables after the commits that a file keeps
 pub after_kept : (base : Tables) (marks : List TableMark) (file : List ℕ) (kept : KeptCommits) (tables : Tables)
@@ -132,41 +149,55 @@ file_fault_tells texts known Taken open_error.InUse taken = taken refl
 file_fault_tells texts known Taken (open_error.Io error) taken = tt
 
 over_texts : (texts : Table → List ℕ) (known : Option (List ℕ)) (base held : Tables) (marks : List TableMark)
-    (file : List ℕ) (why : JobFault ExportRefusal) → IsLoadedToServe texts base → AreMarks base marks
-    → HaveChecksums texts marks → IsKnown known file → held ≡ base → TellsJournalFault held marks file why → TellsOverTexts texts known why
-over_texts texts known base held marks file why loaded marked checked is_file same told = record {
+    (why : JobFault ExportRefusal) → IsLoadedToServe texts base → AreMarks base marks → HaveChecksums texts marks
+    → held ≡ base → IsJournalRefusal held marks known why → TellsOverTexts texts known why
+over_texts texts known base held marks why loaded marked checked same is = record {
   base = base;
   loaded = loaded;
   marks = marks;
   marked = marked;
   checked = checked;
-  file = file;
-  is_file = is_file;
-  told = subst (λ (b : Tables). TellsJournalFault b marks file why) same told;
+  file = is.file;
+  is_file = is.is_file;
+  told = subst (λ (b : Tables). TellsJournalFault b marks is.file why) same is.told;
 }
 
-pub fill_fault_tells : (texts : Table → List ℕ) (known : Option (List ℕ)) (Taken : Type 0) (base held : Tables)
-    (marks : List TableMark) (file : List ℕ) (why : JobFault ExportRefusal) → IsLoadedToServe texts base
-    → AreMarks base marks → HaveChecksums texts marks → IsKnown known file → held ≡ base → IsFillFault why → TellsJournalFault held marks file why
+pub read_fault_tells : (texts : Table → List ℕ) (known : Option (List ℕ)) (Taken : Type 0) (base held : Tables)
+    (marks : List TableMark) (why : JobFault ExportRefusal) → IsLoadedToServe texts base → AreMarks base marks
+    → HaveChecksums texts marks → held ≡ base → IsJournalRefusal held marks known why
     → TellsExportFault texts known Taken why
-fill_fault_tells texts known Taken base held marks file (job.Program why) loaded marked checked is_file same is told =
-    λ one. absurd (omega (arith, is, one))
-fill_fault_tells texts known Taken base held marks file (job.Found (refusal.Journal (opening.File why))) loaded marked checked
-    is_file same is told = absurd is
-fill_fault_tells texts known Taken base held marks file (job.Found (refusal.Journal (opening.Kept why))) loaded marked checked
-    is_file same is told =
-    over_texts texts known base held marks file (job.Found (refusal.Journal (opening.Kept why))) loaded marked checked is_file
-    same told
-fill_fault_tells texts known Taken base held marks file (job.Found (refusal.Journal (opening.Replay why))) loaded marked checked
-    is_file same is told =
-    over_texts texts known base held marks file (job.Found (refusal.Journal (opening.Replay why))) loaded marked checked is_file
-    same told
-fill_fault_tells texts known Taken base held marks file (job.Found (refusal.CannotWrite path)) loaded marked checked is_file same
-    is told = tt
-fill_fault_tells texts known Taken base held marks file (job.Found (refusal.Folder why)) loaded marked checked is_file same is
-    told = absurd is
+read_fault_tells texts known Taken base held marks (job.Program why) loaded marked checked same is =
+    λ one. absurd (omega (arith, is.is, one))
+read_fault_tells texts known Taken base held marks (job.Found (refusal.Journal (opening.File why))) loaded marked checked
+    same is = absurd is.is
+read_fault_tells texts known Taken base held marks (job.Found (refusal.Journal (opening.Kept why))) loaded marked checked
+    same is =
+    over_texts texts known base held marks (job.Found (refusal.Journal (opening.Kept why))) loaded marked checked same is
+read_fault_tells texts known Taken base held marks (job.Found (refusal.Journal (opening.Replay why))) loaded marked
+    checked same is =
+    over_texts texts known base held marks (job.Found (refusal.Journal (opening.Replay why))) loaded marked checked same
+    is
+read_fault_tells texts known Taken base held marks (job.Found (refusal.CannotWrite path)) loaded marked checked same is =
+    absurd is.is
+read_fault_tells texts known Taken base held marks (job.Found (refusal.Folder why)) loaded marked checked same is =
+    absurd is.is
 
-pub if_err : {X E : Type 0} (P Q R : E → Type 0) (result : Result X E) → ((why : E) → P why → Q why → R why)
-    → IfErr result P → IfErr result Q → IfErr result R
-if_err P Q R (Ok v) more p q = tt
-if_err P Q R (Err e) more p q = more e p q
+pub fill_fault_tells : (texts : Table → List ℕ) (known : Option (List ℕ)) (Taken : Type 0) (why : JobFault ExportRefusal)
+    → IsFillFault why → TellsExportFault texts known Taken why
+fill_fault_tells texts known Taken (job.Program why) is = λ one. absurd (omega (arith, is, one))
+fill_fault_tells texts known Taken (job.Found (refusal.Journal why)) is = absurd is
+fill_fault_tells texts known Taken (job.Found (refusal.CannotWrite path)) is = tt
+fill_fault_tells texts known Taken (job.Found (refusal.Folder why)) is = absurd is
+
+-- what is told of a journal or of a folder is no wrong word, and no fault of a trace
+pub read_status : (base : Tables) (marks : List TableMark) (known : Option (List ℕ)) (why : JobFault ExportRefusal)
+    → IsJournalRefusal base marks known why → (export_status why ≡ 1) ⊎ (export_status why ≡ 4)
+read_status base marks known (job.Program why) is = inr is.is
+read_status base marks known (job.Found (refusal.Journal why)) is = opening_is why
+read_status base marks known (job.Found (refusal.CannotWrite path)) is = absurd is.is
+read_status base marks known (job.Found (refusal.Folder why)) is = absurd is.is
+
+pub if_err_one : {X E : Type 0} (P R : E → Type 0) (result : Result X E) → ((why : E) → P why → R why)
+    → IfErr result P → IfErr result R
+if_err_one P R (Ok v) more p = tt
+if_err_one P R (Err e) more p = more e p

@@ -1,5 +1,5 @@
 -- The exit statuses that an export has.
-use Rattle.std.proofs.Common.{arith}
+use Rattle.std.proofs.Common.{◌≡◌, ◌⊎◌, arith}
 use Rattle.std.specs.Prelude.{◌≢◌}
 use Rattle.journal_opening.specs.Status.{opening_status}
 use Rattle.journal_opening.specs.declared.fault.OpeningFault.{OpeningFault}
@@ -16,6 +16,10 @@ program-told why zero = grind arith
 
 opening-told : (why : OpeningFault) → opening_status why ≢ 0
 opening-told why zero = grind arith
+
+-- a journal is refused, or a call of the system failed
+pub opening_is : (why : OpeningFault) → (opening_status why ≡ 1) ⊎ (opening_status why ≡ 4)
+opening_is why = grind arith
 
 -- a fault is told by no 0
 pub export_told : (why : JobFault ExportRefusal) → export_status why ≢ 0

@@ -15,6 +15,7 @@ use Rattle.ssb_files.specs.Loaded.{AreRefusedToServe, IsLoadedToServe}
 use Rattle.ssb_files.specs.Status.{status_of}
 use Rattle.ssb_files.specs.declared.job.JobFault.{JobFault}
 use Rattle.ssb_files.specs.declared.job.JobFault.TheVariants as job
+use Rattle.ssb_journal.specs.Kept.{BeginsWithCommits}
 use Rattle.ssb_journal.specs.Opening.{TellsOpenFault}
 use Rattle.ssb_journal.specs.Replays.{IsReplayFault}
 use Rattle.ssb_journal.specs.declared.head.TableMark.{TableMark}
@@ -65,21 +66,31 @@ LeftNoneOrExport base marks file calls =
 abbrev pub TellsJournalFault : Tables → List TableMark → List ℕ → JobFault ExportRefusal → Type 0
 TellsJournalFault base marks file (job.Found (refusal.Journal (opening.Kept why))) = TellsOpenFault marks file why
 TellsJournalFault base marks file (job.Found (refusal.Journal (opening.Replay why))) =
-    (commits : List CommitRecord) × HasCommits marks commits file × IsReplayFault base commits why
+    (commits : List CommitRecord) × BeginsWithCommits marks commits file × IsReplayFault base commits why
 TellsJournalFault base marks file _ = Unit {0}
 
--- it tells nothing of a journal
-abbrev pub TellsNoJournal : JobFault ExportRefusal → Type 0
-TellsNoJournal (job.Found (refusal.Journal why)) = ⊥
-TellsNoJournal _ = Unit {0}
+-- it is of a journal's commits, or memory ran out
+abbrev pub IsReadFault : JobFault ExportRefusal → Type 0
+IsReadFault (job.Program why) = status_of why ≡ 4
+IsReadFault (job.Found (refusal.Journal (opening.Kept why))) = Unit {0}
+IsReadFault (job.Found (refusal.Journal (opening.Replay why))) = Unit {0}
+IsReadFault (job.Found (refusal.Journal (opening.File why))) = ⊥
+IsReadFault (job.Found (refusal.CannotWrite path)) = ⊥
+IsReadFault (job.Found (refusal.Folder why)) = ⊥
 
--- why the tables after a journal's file were not written into a folder: of the file this is told, the folder could not
--- be made, or a call of the system failed, or memory ran out
+-- why there are no tables after a journal's file: of the file, which is the known one, where one is known, this is told;
+-- or memory ran out
+pub record IsJournalRefusal (base : Tables) (marks : List TableMark) (known : Option (List ℕ))
+    (why : JobFault ExportRefusal) : Type 0 where
+  pub file : List ℕ
+  pub is_file : IsKnown known file
+  pub told : TellsJournalFault base marks file why
+  pub is : IsReadFault why
+
+-- why tables were not written into a folder: that could not be made, or a call of the system failed, or memory ran out
 abbrev pub IsFillFault : JobFault ExportRefusal → Type 0
 IsFillFault (job.Program why) = status_of why ≡ 4
-IsFillFault (job.Found (refusal.Journal (opening.Kept why))) = Unit {0}
-IsFillFault (job.Found (refusal.Journal (opening.Replay why))) = Unit {0}
-IsFillFault (job.Found (refusal.Journal (opening.File why))) = ⊥
+IsFillFault (job.Found (refusal.Journal why)) = ⊥
 IsFillFault (job.Found (refusal.CannotWrite path)) = Unit {0}
 IsFillFault (job.Found (refusal.Folder why)) = ⊥
 

@@ -255,7 +255,8 @@ impl ListsFaults for PathFault<&'static str> {
     fn next(&self) -> Option<PathFault<&'static str>> {
         match self {
             PathFault::SameFile(_) => Some(PathFault::HasBytes("answers")),
-            PathFault::HasBytes(_) => None,
+            PathFault::HasBytes(_) => Some(PathFault::InUse("answers")),
+            PathFault::InUse(_) => None,
         }
     }
 }

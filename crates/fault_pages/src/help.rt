@@ -2,8 +2,8 @@
 
 use crate::faults::{ListsFaults, push_lines};
 use ssb_hints::{
-    ConstantsHelp, JournalHelp, PathHelp, QuestionHelp, QuestionNote, RefusalHelp, RowHelp,
-    RowPlace, ScriptHelp, StarHelp,
+    ClashHelp, ConstantsHelp, JournalHelp, PathHelp, PathRole, QuestionHelp, QuestionNote,
+    RefusalHelp, RowHelp, RowPlace, ScriptHelp, StarHelp,
 };
 use ssb_questions::{Query, Question};
 use ssb_schema::{C_CITY, Table};
@@ -32,6 +32,27 @@ impl ListsFaults for PathHelp<'static> {
             PathHelp::ReadOnly(_) => PathHelp::NoRoom("answers"),
             PathHelp::NoRoom(_) => PathHelp::System("answers", io::Error::other("broken")),
             PathHelp::System(_, _) => return None,
+        })
+    }
+}
+
+impl ListsFaults for ClashHelp<'static> {
+    fn first() -> ClashHelp<'static> {
+        ClashHelp::SameFile("answers", PathRole::Table)
+    }
+
+    fn next(&self) -> Option<ClashHelp<'static>> {
+        Some(match self {
+            ClashHelp::SameFile(path, role) => match role {
+                PathRole::Table => ClashHelp::SameFile(path, PathRole::Script),
+                PathRole::Script => ClashHelp::SameFile(path, PathRole::Standing),
+                PathRole::Standing => ClashHelp::SameFile(path, PathRole::ClientEnd),
+                PathRole::ClientEnd => ClashHelp::SameFile(path, PathRole::Journal),
+                PathRole::Journal => ClashHelp::NotATrace(path),
+            },
+            ClashHelp::NotATrace(path) => ClashHelp::HasBytes(path),
+            ClashHelp::HasBytes(path) => ClashHelp::InUse(path),
+            ClashHelp::InUse(_) => return None,
         })
     }
 }
@@ -130,7 +151,8 @@ impl ListsFaults for JournalHelp<'static> {
             JournalHelp::OtherTables(path, _) => JournalHelp::Refused(path),
             JournalHelp::Refused(path) => JournalHelp::Damaged(path),
             JournalHelp::Damaged(path) => JournalHelp::InUse(path),
-            JournalHelp::InUse(_) => return None,
+            JournalHelp::InUse(path) => JournalHelp::NotATrace(path),
+            JournalHelp::NotATrace(_) => return None,
         })
     }
 }
@@ -180,6 +202,7 @@ fn push_notes(alloc: Global, lines: &mut Vec<String>) -> Result<(), AllocError> 
 pub fn push_help(alloc: Global, lines: &mut Vec<String>) -> Result<(), AllocError> {
     let mut texts = Vec::new(alloc);
     push_lines::<PathHelp<'static>>(alloc, &mut texts)?;
+    push_lines::<ClashHelp<'static>>(alloc, &mut texts)?;
     push_lines::<QuestionHelp<'static>>(alloc, &mut texts)?;
     push_lines::<StarHelp<'static>>(alloc, &mut texts)?;
     push_lines::<RowHelp<'static, 'static>>(alloc, &mut texts)?;

@@ -2,7 +2,7 @@
 //!
 //! ```text
 //! base, layout and bytes of its files, checksums ── table_marks ─▶ marks, which a journal's head tells
-//! path ── OpensJournal ─▶ disk, which can be read and is on the disk as it reads
+//! path ── OpensJournal ─▶ file, of which nothing was read
 //! file in use, other tables, damage, a refused commit ── OpeningFault ─▶ status 1; a failed call, memory ─▶ 4
 //! ```
 //!
@@ -13,7 +13,7 @@
 //!
 //! ```text
 //! let marks = table_marks(&base, layout, &bytes, &checksums);
-//! let opened = open(alloc, &marks, disk).map_err(|(fault, _)| OpeningFault::Kept(fault))?;
+//! let reader = open(alloc, &marks, file).map_err(|(fault, _)| OpeningFault::Kept(fault))?;
 //! ```
 #![tactic(auto)]
 

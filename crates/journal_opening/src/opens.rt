@@ -1,10 +1,8 @@
 //! Where a journal is: a file that is opened once the tables are loaded.
-ghost use Rattle.std.specs.Prelude.{ℕ, List, Option, None, IfOk, IsErrOf};
-ghost use Rattle.journal.specs.Disk.{Only};
-ghost use Rattle.journal_opening.specs.Kept.{IsKnown};
+ghost use Rattle.std.specs.Prelude.{◌≡◌, ℕ, List, [], Option, None, IfOk, IsErrOf};
 
-use journal::{Disk, KeepsTorn};
-use journal_file::{FileDisk, JournalFile, OpenError, TornFile, keep_torn};
+use journal::{KeepsTorn, UnreadDisk};
+use journal_file::{JournalFile, OpenError, TornFile, UnreadFile, keep_torn};
 use std::alloc::Global;
 use std::io;
 use std::rt::Files;
@@ -12,7 +10,7 @@ use std::rt::Files;
 /// Where a journal is: its file is opened once the tables are loaded.
 pub trait OpensJournal {
     /// The file, opened.
-    type Opened: Disk + Drop;
+    type Opened: UnreadDisk + Drop;
 
     /// What the file holds, where that is known before it is opened.
     ghost holds: { Self → Option (List ℕ) };
@@ -20,11 +18,10 @@ pub trait OpensJournal {
     /// Another has the file.
     ghost is_taken: { Self → Type 0 };
 
-    /// Opens the file: it can be read, and is on the disk as it reads.
-    fn open(&self, alloc: Global) -> Result<Self::Opened, OpenError>
-        ensures readable { IfOk result Self.Opened.is_readable }
-        ensures durable { IfOk result (λ disk. Only (Self.Opened.seen disk) (Self.Opened.may_leave disk)) }
-        ensures held { IfOk result (λ disk. IsKnown (holds self.now) (Self.Opened.seen disk)) }
+    /// Opens the file: nothing was read of it.
+    fn open(&self) -> Result<Self::Opened, OpenError>
+        ensures unread { IfOk result (λ file. Self.Opened.taken file ≡ []) }
+        ensures held { IfOk result (λ file. Self.Opened.holds file ≡ holds self.now) }
         ensures taken { IsErrOf result OpenError.InUse → is_taken self.now };
 }
 
@@ -41,14 +38,14 @@ impl<'a, F: Files> OpensJournal for JournalPath<'a, F>
 where
     F::File: JournalFile,
 {
-    type Opened = FileDisk<F::File>;
+    type Opened = UnreadFile<F::File>;
 
     ghost holds = { λ _. None };
 
     ghost is_taken = { λ _. Unit {0} };
 
-    fn open(&self, alloc: Global) -> Result<FileDisk<F::File>, OpenError> {
-        FileDisk::open(self.files, alloc, self.path)
+    fn open(&self) -> Result<UnreadFile<F::File>, OpenError> {
+        UnreadFile::open(self.files, self.path)
     }
 }
 
@@ -74,13 +71,13 @@ impl<'a, F: Files> OpensJournal for ReadPath<'a, F>
 where
     F::File: JournalFile,
 {
-    type Opened = FileDisk<F::File>;
+    type Opened = UnreadFile<F::File>;
 
     ghost holds = { λ _. None };
 
     ghost is_taken = { λ _. Unit {0} };
 
-    fn open(&self, alloc: Global) -> Result<FileDisk<F::File>, OpenError> {
-        FileDisk::open_to_read(self.files, alloc, self.path)
+    fn open(&self) -> Result<UnreadFile<F::File>, OpenError> {
+        UnreadFile::open_to_read(self.files, self.path)
     }
 }

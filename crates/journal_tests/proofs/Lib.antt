@@ -1,2 +1,3 @@
 mod OwnLaws
 mod NewJournalLaws
+pub mod UnreadLaws

@@ -3,3 +3,4 @@ pub mod TraceLaws
 pub mod AloneLaws
 pub mod RunLaws
 pub mod DemoLaws
+pub mod TraceFileLaws

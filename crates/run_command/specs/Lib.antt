@@ -5,3 +5,4 @@ pub mod Run
 pub mod Served
 pub mod Status
 pub mod Demo
+pub mod TraceFiles

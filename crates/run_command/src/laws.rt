@@ -1,6 +1,7 @@
 //! What follows of what clients are served: each law is the contract of a function that does nothing.
 ghost use Rattle.run_command.specs.Alone.{OneClientIsOneThread, AloneSeesItsOwn};
 ghost use Rattle.run_command.specs.Alone.{AloneIsOneThread, AloneEndsAsOneThread};
+ghost use Rattle.run_command.specs.TraceFiles.{TracesMayBeReplaced};
 ghost use Rattle.run_command.specs.Traces.{RunsAreLegal};
 
 /// The log of a closed server and what each of its clients was told, in any order of the clients, are a legal trace:
@@ -20,4 +21,9 @@ pub fn alone_is_one_thread()
     ensures sees { AloneSeesItsOwn }
     ensures whole { AloneIsOneThread }
     ensures broken { AloneEndsAsOneThread }
+{}
+
+/// A file with a trace may be written over by the trace of another run.
+pub fn traces_may_be_replaced()
+    ensures { TracesMayBeReplaced }
 {}

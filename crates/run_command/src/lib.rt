@@ -18,6 +18,10 @@
 //! status 0 it has written the report of the script, as the one-thread warehouse gives it over the small data set from
 //! no commit on, and nothing on standard error; else nothing, or a part of that report from its beginning.
 //!
+//! [`open_trace`] opens the trace's file. The contract of what empties it (`specs/TraceFiles.antt`): it began as a trace
+//! does, or had no bytes; any other is left as it is. Each trace begins so. That the head that was read is the file's,
+//! and that the file stays locked, is in no contract.
+//!
 //! ```text
 //! let settings = RunSettings { hashing, dispatchers: 2, standing, times: false };
 //! let input = RunInput { tables, sources };
@@ -35,6 +39,8 @@ mod scripts;
 mod small_run;
 mod speaker;
 mod times;
+mod trace_file;
 
 pub use scripts::{MOST_SCRIPTS, RunInput, RunSettings, run_scripts};
 pub use small_run::demo;
+pub use trace_file::open_trace;

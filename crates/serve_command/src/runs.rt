@@ -23,7 +23,7 @@ use crate::journal_source::{JournalPlace, JournalSource, open_file, run_source};
 use crate::journaled_run::JournaledRun;
 use crate::ready::{ReadyLine, tell_ready};
 use crate::unserved::JournaledFault;
-use journal::KeepsTorn;
+use journal::{KeepsTorn, UnreadDisk};
 use journal_opening::{OpensJournal, table_marks};
 use row_store::Log;
 use server_figures::LiveFigures;
@@ -190,11 +190,11 @@ fn run_behind<R, P, S, E>(
     tables: MarkedTables,
     speakers: Vec<S>,
     screen: &E,
-) -> Result<SessionsRun<S::Left, P::Opened>, ServeFault>
+) -> Result<SessionsRun<S::Left, <P::Opened as UnreadDisk>::Whole>, ServeFault>
 where
     R: Threads + Sync + Wait + Clock + AllocGlobal,
     P: OpensJournal + KeepsTorn,
-    P::Opened: Send,
+    <P::Opened as UnreadDisk>::Whole: Send,
     P::Kept: Drop,
     S: Speaks<R, Durable> + Drop + Send,
     S::Left: Drop + Send,
@@ -203,8 +203,8 @@ where
     ensures run { IfOk result (λ run. GoesOnFrom S.spoken (P.holds place.now.file.now) tables.loaded tables.marks
         speakers.items dispatchers run.left.items run.log) }
     ensures left { IfOk result (λ run. vec_len run.left ≡ vec_len speakers) }
-    ensures kept { IfOk result (λ run. IfSome run.kept (λ kept. IsLeft (P.Opened.may_leave kept.disk)
-        (P.Opened.seen kept.disk) kept.count run.log kept.was_written)) }
+    ensures kept { IfOk result (λ run. IfSome run.kept (λ kept. IsLeft (P.Opened.Whole.may_leave kept.disk)
+        (P.Opened.Whole.seen kept.disk) kept.count run.log kept.was_written)) }
     ensures told { IfOk result (λ run. IfSome run.kept (λ kept. All (λ left. S.told left ≤ kept.count)
         run.left.items)) }
     ensures journal { IfOk result (λ run. is_some run.kept ≡ true) }
@@ -217,11 +217,11 @@ where
         marks,
         ready,
     } = tables;
-    let disk = open_file(rt.alloc(), place.file)?;
+    let file = open_file(place.file)?;
     let source = JournalSource {
         loaded,
         marks: &marks,
-        disk,
+        file,
         ready,
     };
     let run = match run_source(rt, dispatchers, place, source, speakers, screen) {
@@ -255,11 +255,11 @@ pub(crate) fn run_over<R, P, I, S, E>(
     place: Option<JournalPlace<'_, P>>,
     speakers: Vec<S>,
     screen: &E,
-) -> Result<SessionsRun<S::Left, P::Opened>, ServeFault>
+) -> Result<SessionsRun<S::Left, <P::Opened as UnreadDisk>::Whole>, ServeFault>
 where
     R: Threads + Sync + Wait + Clock + AllocGlobal,
     P: OpensJournal + KeepsTorn,
-    P::Opened: Send,
+    <P::Opened as UnreadDisk>::Whole: Send,
     P::Kept: Drop,
     I: Read + Drop,
     S: Speaks<R, Nothing> + Speaks<R, Durable> + Drop + Send,
@@ -271,8 +271,8 @@ where
         settings.dispatchers run.left.items run.log) }
     ensures left { IfOk result (λ run. vec_len run.left ≡ vec_len speakers) }
     ensures counts { OnOk result (IsNone place.entry → AreCounts (vec_len speakers) settings.dispatchers) }
-    ensures kept { IfOk result (λ run. IfSome run.kept (λ kept. IsLeft (P.Opened.may_leave kept.disk)
-        (P.Opened.seen kept.disk) kept.count run.log kept.was_written)) }
+    ensures kept { IfOk result (λ run. IfSome run.kept (λ kept. IsLeft (P.Opened.Whole.may_leave kept.disk)
+        (P.Opened.Whole.seen kept.disk) kept.count run.log kept.was_written)) }
     ensures told { IfOk result (λ run. IfSome run.kept (λ kept. All (λ left. S.told left ≤ kept.count)
         run.left.items)) }
     ensures journal { IfOk result (λ run. is_some run.kept ≡ is_some place.entry) }

@@ -18,7 +18,7 @@ use crate::fault::{ServeFault, ServeRefusal};
 use crate::journal_source::JournalPlace;
 use crate::runs::{KeptLog, ServeSettings, SessionsRun, run_over};
 use crate::speakers::{PathClient, PathLeft, StreamClient, StreamLeft};
-use journal::KeepsTorn;
+use journal::{KeepsTorn, UnreadDisk};
 use journal_opening::OpensJournal;
 use ssb_files::Fault;
 use ssb_text::TableFiles;
@@ -43,6 +43,16 @@ pub struct StreamEnd<O: Drop, D: Drop> {
     pub output: Option<O>,
     /// The journal's file, where there is one, and a server was opened and closed.
     pub disk: Option<D>,
+    /// Whether the input ended before its first request.
+    pub was_unasked: bool,
+}
+
+// Whether a session was served to its end, and that was before its first request.
+fn was_unasked(ended: &Result<Served, SessionError>) -> bool {
+    match ended {
+        Ok(served) => served.answered == 0,
+        Err(_) => false,
+    }
 }
 
 // What the only client's session left, and the journal, where there is one.
@@ -60,11 +70,11 @@ fn run_alone<R, P, I, J, O, E>(
     place: Option<JournalPlace<'_, P>>,
     client: StreamClient<J, O>,
     screen: &E,
-) -> Result<AloneLeft<O, P::Opened>, ServeFault>
+) -> Result<AloneLeft<O, <P::Opened as UnreadDisk>::Whole>, ServeFault>
 where
     R: Threads + Sync + Wait + Clock + AllocGlobal,
     P: OpensJournal + KeepsTorn,
-    P::Opened: Send,
+    <P::Opened as UnreadDisk>::Whole: Send,
     P::Kept: Drop,
     I: Read + Drop,
     J: Read + Drop + Send,
@@ -73,8 +83,8 @@ where
     ensures ended { IfOk result (λ left. (texts : Table → List ℕ) → AreRows I.remaining tables texts
         → HasEndedAlone left.one.ended (option_map (λ place. P.holds place.file.now) place.entry) texts
         settings.dispatchers (J.remaining client.input) (O.contents client.output) (O.contents left.one.output)
-        (λ log told. IfSome left.kept (λ kept. AreOnDisk (P.Opened.may_leave kept.disk) (P.Opened.seen kept.disk)
-        (IsTrue kept.was_written) log told))) }
+        (λ log told. IfSome left.kept (λ kept. AreOnDisk (P.Opened.Whole.may_leave kept.disk)
+        (P.Opened.Whole.seen kept.disk) (IsTrue kept.was_written) log told))) }
     ensures journal { IfOk result (λ left. is_some left.kept ≡ is_some place.entry) }
     ensures refused { IfErr result (λ fault. serving_status fault ≡ 1 → (texts : Table → List ℕ)
         → AreRows I.remaining tables texts → AreRefused texts settings.standing.items
@@ -156,11 +166,11 @@ pub fn serve_stream<R, P, I, J, O, E>(
     place: Option<JournalPlace<'_, P>>,
     client: StreamClient<J, O>,
     screen: &E,
-) -> StreamEnd<O, P::Opened>
+) -> StreamEnd<O, <P::Opened as UnreadDisk>::Whole>
 where
     R: Threads + Sync + Wait + Clock + AllocGlobal,
     P: OpensJournal + KeepsTorn,
-    P::Opened: Send,
+    <P::Opened as UnreadDisk>::Whole: Send,
     P::Kept: Drop,
     I: Read + Drop,
     J: Read + Drop + Send,
@@ -169,8 +179,8 @@ where
     ensures ended { IfSome result.output (λ output. (texts : Table → List ℕ) → AreRows I.remaining tables texts
         → EndsAlone result.status (option_map (λ place. P.holds place.file.now) place.entry) texts settings.dispatchers
         (J.remaining client.input) (O.contents client.output) (O.contents output)
-        (λ log told. IfSome result.disk (λ disk. AreOnDisk (P.Opened.may_leave disk) (P.Opened.seen disk)
-        (result.status ≡ 0) log told))) }
+        (λ log told. IfSome result.disk (λ disk. AreOnDisk (P.Opened.Whole.may_leave disk)
+        (P.Opened.Whole.seen disk) (result.status ≡ 0) log told))) }
     ensures closed { result.status ≡ 0 → IsSome result.output }
     ensures disk { MatchOption result.output (result.disk ≡ None) (λ _. is_some result.disk ≡ is_some place.entry) }
     ensures refused { result.status ≡ 1 → (texts : Table → List ℕ) → AreRows I.remaining tables texts
@@ -192,12 +202,14 @@ where
                 status: tell_end(&ended, written, &mut err),
                 output: Some(output),
                 disk: disk_of(kept),
+                was_unasked: was_unasked(&ended),
             }
         }
         Err(fault) => StreamEnd {
             status: fault.tell(&mut err),
             output: None,
             disk: None,
+            was_unasked: false,
         },
     }
 }
@@ -285,14 +297,14 @@ pub fn serve_clients<R, F, P, I, E>(
     place: Option<JournalPlace<'_, P>>,
     clients: PathClients<'_, F>,
     screen: &E,
-) -> ClientsEnd<P::Opened>
+) -> ClientsEnd<<P::Opened as UnreadDisk>::Whole>
 where
     R: Threads + Sync + Wait + Clock + AllocGlobal,
     F: Files + Sync + AllocGlobal,
     F::File: Send,
     F::Dir: Send,
     P: OpensJournal + KeepsTorn,
-    P::Opened: Send,
+    <P::Opened as UnreadDisk>::Whole: Send,
     P::Kept: Drop,
     I: Read + Drop,
     E: Print + Sync,
@@ -300,8 +312,8 @@ where
         → AreRows I.remaining tables texts
         → ServesClients result.status (option_map (λ place. P.holds place.file.now) place.entry) texts
         (vec_len clients.entry.ends) settings.dispatchers
-        (λ log told. IfSome result.disk (λ disk. AreOnDisk (P.Opened.may_leave disk) (P.Opened.seen disk)
-        (result.status ≡ 0) log told)) }
+        (λ log told. IfSome result.disk (λ disk. AreOnDisk (P.Opened.Whole.may_leave disk)
+        (P.Opened.Whole.seen disk) (result.status ≡ 0) log told)) }
     ensures disk { result.status ≡ 0 → is_some result.disk ≡ is_some place.entry }
     ensures counts { result.status ≡ 0 → IsNone place.entry
         → AreCounts (vec_len clients.entry.ends) settings.dispatchers }

@@ -47,7 +47,7 @@ pub use fault::Fault;
 pub use identity::FileIdentity;
 pub use job::{Finding, JobFault};
 pub use loading::{LoadedFor, base_of, checked_base_of};
-pub use opening::{make_file, open_file, open_files, open_tables};
+pub use opening::{make_file, open_file, open_files, open_tables, report_table_pipes};
 pub use path_fault::PathFault;
 pub use paths::{PathUse, UsedPath, check_paths, find_tables};
 pub use progress::{InputSource, Screen, Watched, watch, watch_scripts, watch_tables};

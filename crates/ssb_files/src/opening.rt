@@ -5,7 +5,8 @@ use ssb_schema::Table;
 use ssb_text::Tables;
 use std::alloc::AllocError;
 use std::fs;
-use std::io::BufWriter;
+use std::io::{BufWriter, Write};
+use std::os::unix::fs::FileTypeExt;
 use std::rt::Files;
 
 // The path of a table's file.
@@ -31,6 +32,28 @@ pub(crate) fn table_paths<R: AllocGlobal>(rt: &R, folder: &str) -> Result<[Strin
         table_path(rt, folder, Table::Date)?,
         table_path(rt, folder, Table::Lineorder)?,
     ])
+}
+
+// Whether a path is a named pipe, whose opening waits for its writer.
+fn is_named_pipe<R: Files>(rt: &R, path: &str) -> bool {
+    match fs::metadata(rt, path) {
+        Ok(metadata) => metadata.file_type().is_fifo(),
+        Err(_) => false,
+    }
+}
+
+/// Reports each table file of a folder that is a named pipe, if the writer takes it: to open it waits for its writer.
+pub fn report_table_pipes<R: Files + AllocGlobal, E: Write>(
+    rt: &R,
+    folder: &str,
+    err: &mut E,
+) -> Result<(), Fault> {
+    for path in table_paths(rt, folder)? {
+        if is_named_pipe(rt, path.as_str()) {
+            let _ = writeln!(err, "ssb_live: {path} is a pipe, waits for its writer");
+        }
+    }
+    Ok(())
 }
 
 /// The five table files of a folder, or the first that cannot be opened, in the order in which they are loaded.

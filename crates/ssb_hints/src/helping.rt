@@ -1,5 +1,6 @@
 //! The help that a fault's line has.
 
+use crate::clashes::help_with_clash;
 use crate::failed_calls::{STANDARD_INPUT, STANDARD_OUTPUT};
 use crate::fault_lines::FaultLines;
 use crate::journals::help_with_journal;
@@ -119,6 +120,7 @@ fn help_with_client<F: Files, E: Write>(
     match fault {
         "read failed" => help_with_some_path(files, input_of(named, number), err),
         "write failed" => help_with_some_path(files, output_of(named, number), err),
+        fault if fault.starts_with("94 ") => help_with_clash(files, named, fault, err),
         _ => help_with_words(files, named, fault, err),
     }
 }
@@ -150,6 +152,7 @@ fn help_with_fault<F: Files, E: Write>(
             help_with_question(files.alloc(), name, named.constants, err)?;
             Ok(())
         }
+        ("paths", _) => help_with_clash(files, named, told, err),
         _ => {
             let words = words_of(files.alloc(), told)?;
             help_with_numbered(files, named, subject, words.as_slice(), err)

@@ -3,7 +3,8 @@
 use crate::lines::write_line;
 use crate::observed_files::ObservedFiles;
 use crate::paths::help_with_last_call;
-use std::io::Write;
+use crate::records::open_plain;
+use std::io::{Read, Write};
 use std::rt::Files;
 use std::{fmt, io};
 
@@ -20,6 +21,8 @@ pub enum JournalHelp<'a> {
     Damaged(&'a str),
     /// Another process has it.
     InUse(&'a str),
+    /// It was named as a trace.
+    NotATrace(&'a str),
 }
 
 impl<'a> fmt::Display for JournalHelp<'a> {
@@ -48,8 +51,34 @@ impl<'a> fmt::Display for JournalHelp<'a> {
                 f,
                 "{path} is open in another process; end that server, or name another journal"
             ),
+            JournalHelp::NotATrace(path) => write!(
+                f,
+                "{path} is a journal, and no trace; audit takes what run --trace has written, export takes a journal"
+            ),
         }
     }
+}
+
+// What stands in the first group of every journal, of whatever form.
+const SIGN: &[u8] = b"ssb_live journal ";
+
+// So many first bytes have it.
+const SIGN_IS_WITHIN: u64 = 128;
+
+/// Says that a file is a journal where a trace is wanted, if it is one, and whether it is.
+pub fn help_with_journal_as_trace<F: Files, E: Write>(
+    files: &ObservedFiles<'_, F>,
+    path: &str,
+    err: &mut E,
+) -> io::Result<bool> {
+    let mut head = Vec::new(files.alloc());
+    let mut first = open_plain(files, path)?.take(SIGN_IS_WITHIN);
+    first.read_to_end(&mut head)?;
+    if !head.windows(SIGN.len()).any(|bytes| bytes == SIGN) {
+        return Ok(false);
+    }
+    write_line(err, &JournalHelp::NotATrace(path))?;
+    Ok(true)
 }
 
 /// Says what is wrong with a journal, by the words of its fault. Those of a fault without a number are the system's, of

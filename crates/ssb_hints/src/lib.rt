@@ -28,6 +28,7 @@
 #![tactic(auto)]
 
 mod asking;
+mod clashes;
 mod constants;
 mod failed_calls;
 mod fault_lines;
@@ -48,6 +49,7 @@ mod script_files;
 mod scripts;
 mod star;
 
+pub use clashes::{ClashHelp, PathRole};
 pub use failed_calls::{FailedCalls, STANDARD_INPUT, STANDARD_OUTPUT};
 pub use fault_lines::FaultLines;
 pub use helping::{write_help, write_notes};

@@ -1,5 +1,6 @@
 //! What is wrong with a file of records: a script, a trace or a board.
 
+use crate::journals::help_with_journal_as_trace;
 use crate::observed_files::ObservedFiles;
 use crate::paths::help_with_path;
 use crate::questions::help_with_question;
@@ -37,6 +38,9 @@ pub fn help_with_trace<F: Files, E: Write>(
     match words {
         ["75", ..] => help_with_path(files, path, err),
         [_, _, number, ..] => {
+            if help_with_journal_as_trace(files, path, err)? {
+                return Ok(());
+            }
             show_record(files.alloc(), path, open_plain(files, path)?, number, err)?;
             Ok(())
         }

@@ -1,7 +1,7 @@
 pub mod SealLaws
 mod HeadLaws
-mod TextLaws
 pub mod KeptLaws
 pub mod CountLaws
 mod NewLaws
 mod TogetherLaws
+mod ReadingLaws

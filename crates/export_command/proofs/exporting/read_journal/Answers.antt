@@ -1,0 +1,1 @@
+use Rattle.export_command.proofs.exporting.read_journal.Goals as goal
