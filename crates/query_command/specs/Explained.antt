@@ -5,7 +5,7 @@ use Rattle.std.specs.Io.KnownBytes.{Appends}
 use Rattle.query_command.specs.Asked.{IsAsked}
 use Rattle.query_command.specs.Sizes.{sizes_text}
 use Rattle.ssb_base.specs.Base.{Dimensions, Tables}
-use Rattle.ssb_base.specs.Limits.{limits_of}
+use Rattle.ssb_base.specs.Limits.{limits_of, most_dimension_rows, most_lines, standard_commits}
 use Rattle.ssb_explain.specs.Statement.{statement_text}
 use Rattle.ssb_explain.specs.Words.{explanation_text}
 use Rattle.ssb_explain.specs.declared.system.System.{System}
@@ -43,7 +43,7 @@ sized_text question dimensions = concat
 -- the five texts spell a base, within the greatest limits, over which this explains the question
 pub record HasSized (texts : Table → List ℕ) (question : Query × List Value) (text : List ℕ) : Type 0 where
   pub base : Tables
-  pub limited : limits_of base.limits ≡ (1048576, 33554432, 1000000)
+  pub limited : limits_of base.limits ≡ (most_dimension_rows, most_lines, standard_commits)
   pub spelled : SpellsBase texts base
   pub is : text ≡ sized_text question base.dimensions
 

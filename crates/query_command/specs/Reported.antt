@@ -16,7 +16,7 @@ use Rattle.ssb_formats.specs.declared.format.Format.{Format}
 use Rattle.ssb_text.specs.Written.{AppendsPart}
 use Rattle.ssb_base.specs.Base.{Tables}
 use Rattle.ssb_schema.specs.Facts.{facts_of}
-use Rattle.ssb_base.specs.Limits.{limits_of}
+use Rattle.ssb_base.specs.Limits.{limits_of, most_dimension_rows, most_lines, standard_commits}
 use Rattle.ssb_schema.specs.declared.table.Table.{Table}
 
 -- the answer to a question over the loaded lines of a base, after no commit
@@ -31,7 +31,7 @@ opened rows = answer.Rows rows.question 0 rows.list
 pub record HasReport (format : Format) (texts : Table → List ℕ) (question : Query × List Value) (report : List ℕ)
     : Type 0 where
   pub base : Tables
-  pub limited : limits_of base.limits ≡ (1048576, 33554432, 1000000)
+  pub limited : limits_of base.limits ≡ (most_dimension_rows, most_lines, standard_commits)
   pub spelled : SpellsBase texts base
   pub is : report ≡ answers_shown format (opening_answer base question ∷ [])
 
@@ -40,7 +40,7 @@ pub record HasReport (format : Format) (texts : Table → List ℕ) (question : 
 pub record HaveReport (format : Format) (texts : Table → List ℕ) (questions : List (Query × List Value))
     (report : List ℕ) : Type 0 where
   pub base : Tables
-  pub limited : limits_of base.limits ≡ (1048576, 33554432, 1000000)
+  pub limited : limits_of base.limits ≡ (most_dimension_rows, most_lines, standard_commits)
   pub spelled : SpellsBase texts base
   pub is : report ≡ answers_shown format (map (λ question. opening_answer base question) questions)
 
@@ -48,7 +48,7 @@ pub record HaveReport (format : Format) (texts : Table → List ℕ) (questions 
 pub record HaveAnswers (texts : Table → List ℕ) (questions : List (Query × List Value)) (answers : List Answer)
     : Type 0 where
   pub base : Tables
-  pub limited : limits_of base.limits ≡ (1048576, 33554432, 1000000)
+  pub limited : limits_of base.limits ≡ (most_dimension_rows, most_lines, standard_commits)
   pub spelled : SpellsBase texts base
   pub are : answers ≡ map (λ question. opening_answer base question) questions
 
@@ -89,7 +89,7 @@ pub record ReportsAllPart (format : Format) (texts : Table → List ℕ) (old ne
 pub record HasReports (format : Format) (texts : Table → List ℕ) (titles : List (List ℕ))
     (questions : List (Query × List Value)) (report : List ℕ) : Type 0 where
   pub base : Tables
-  pub limited : limits_of base.limits ≡ (1048576, 33554432, 1000000)
+  pub limited : limits_of base.limits ≡ (most_dimension_rows, most_lines, standard_commits)
   pub spelled : SpellsBase texts base
   pub is : report ≡ board_shown format titles (map (λ question. opening_answer base question) questions)
 

@@ -13,6 +13,7 @@ use Rattle.fact_columns.specs.Places.{live_facts}
 use Rattle.fact_columns.specs.Stored.{Stored, IsRead, columns_state}
 use Rattle.fact_columns.proofs.ColumnLaws.{live_facts_are_the_lines}
 use Rattle.shared_scan.specs.Answers.{answers_over, answers_after}
+use Rattle.ssb_base.specs.Limits.{most_lines}
 use Rattle.shared_scan.specs.Lines.{AreOfBase}
 
 -- a rearrangement of the lines has the same answers
@@ -24,7 +25,7 @@ answers_ignore_order dimensions facts other (question ∷ questions) moved =
     answers_ignore_order dimensions facts other questions moved j
 
 -- the places of the columns are of their base
-pub of_base : (columns : Stored) → IsRead columns → length columns.facts ≤ 33554432
+pub of_base : (columns : Stored) → IsRead columns → length columns.facts ≤ most_lines
     → AreOfBase columns.base columns.places
 of_base columns read few = grind arith
 

@@ -37,6 +37,7 @@ use Rattle.shared_scan.specs.declared.ready.Ready.{Ready}
 use Rattle.shared_scan.proofs.EachLaws.{item_of}
 use Rattle.shared_scan.proofs.GroupLaws.{dimensions_alone}
 use Rattle.shared_scan.proofs.ReadyLaws.{is_grouping, dense_columns, can_group}
+use Rattle.ssb_base.specs.Limits.{most_lines}
 use Rattle.shared_scan.proofs.TotalLaws.{gains_small, losses_small, summed_answer, summed_totals}
 
 pub if_ok_then : {T E : Type 0} (r : Result T E) (P Q : T → Type 0) → IfOk r P → ((v : T) → P v → Q v) → IfOk r Q
@@ -95,7 +96,7 @@ module _ (base : Tables) (places : List Place) (lines : LineColumns) (masks : Ma
   can_sum_with k r g at_k is (Narrow parts) e one = grind (arith, dense_columns, can_group)
   can_sum_with k r g at_k is (Wide parts) e one = grind arith
 
-  module _ (few : length (live_facts base.dimensions places) ≤ 33554432) where
+  module _ (few : length (live_facts base.dimensions places) ≤ most_lines) where
     grouping_of : (k : ℕ) (r : Ready) (g : Grouping) (parts : Vec (List ℕ) Global) → IsReady base masks k r.question r
         → r.groups.parts ≡ Narrow parts → IsDenseGrouping base lines r parts.items g
         → IsGroupingOf base masks k lines (plan_over r.question.0 r.question.1) r.groups.columns.items g
@@ -182,7 +183,7 @@ module _ (base : Tables) (places : List Place) (lines : LineColumns) (masks : Ma
       (grouped.each k r g inside)
 
   module _ (totals : List Totals) (summed : AreBatchTotals lines masks groupings (range_with_len 0 (length places))
-      totals) (few : length (live_facts base.dimensions places) ≤ 33554432) where
+      totals) (few : length (live_facts base.dimensions places) ≤ most_lines) where
     pub can_answer_all : CanAnswerAll base lines masks all totals
     can_answer_all k r t below =
         let of_groupings : k < length groupings = omega (arith, below, grouped.len) in

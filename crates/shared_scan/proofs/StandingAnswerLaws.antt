@@ -38,6 +38,7 @@ use Rattle.shared_scan.proofs.HistoryLaws.{answers_of_history}
 use Rattle.shared_scan.proofs.ScanLaws.{line_count, plan_at, ready_at, can_sum_with, can_sum_all, can_answer_one}
 use Rattle.shared_scan.proofs.ScanLaws.{answer_with}
 use Rattle.shared_scan.proofs.EachLaws.{item_of}
+use Rattle.ssb_base.specs.Limits.{most_lines}
 use Rattle.shared_scan.proofs.StandingScanLaws.{totals_to_scan, totals_from_scan}
 
 module _ (base : Tables) (masks : Masks) (all : List Ready) (totals : List Totals) (places : List Place)
@@ -53,7 +54,7 @@ module _ (base : Tables) (masks : Masks) (all : List Ready) (totals : List Total
   pub searches : CanSearch lines masks
   searches = can_search (reduced base) (map classed places) lines masks within are follow.masks_cover
 
-  few : length (live_facts (reduced base).dimensions (map classed places)) ≤ 33554432
+  few : length (live_facts (reduced base).dimensions (map classed places)) ≤ most_lines
   few = omega (arith, as_many_live base places, of_base.few_live)
 
   module _ (k : ℕ) (r : Ready) (t : Totals) (below : k < length all) (g : Grouping)

@@ -29,7 +29,7 @@ use Rattle.ssb_answers.specs.Combination.{Combination, combinations}
 use Rattle.ssb_answers.specs.declared.answer.ResultRow.{ResultRow}
 use Rattle.ssb_answers.proofs.MemberLaws.{has_from_map}
 use Rattle.fact_columns.specs.declared.place.Place.{Place}
-use Rattle.fact_columns.specs.Places.{IsWithin, is_live, fact_at, live_facts, quantity_in}
+use Rattle.fact_columns.specs.Places.{IsWithin, is_live, fact_at, live_facts, quantity_in, discount_in}
 use Rattle.fact_columns.proofs.FilterLaws.{live_facts_that_pass}
 use Rattle.scan_kernel.specs.declared.columns.LineColumns.{LineColumns}
 use Rattle.scan_kernel.specs.declared.columns.Grouping.{Grouping}
@@ -53,6 +53,8 @@ use Rattle.shared_scan.specs.Laws.{AreLinesOf}
 use Rattle.shared_scan.proofs.RowLaws.{known_key}
 use Rattle.shared_scan.proofs.LineLaws.{nowhere, rows_stand, mask_is, live_mask, free_mask, place_mask}
 use Rattle.shared_scan.proofs.NumberLaws.{number_is}
+use Rattle.ssb_answers.specs.Totals.{most}
+use Rattle.ssb_base.specs.Limits.{most_lines}
 use Rattle.shared_scan.proofs.SumLaws.{list_at, map_twice, sum_mapped, gain_of, loss_of, line_sum_is, exact, bounded}
 
 -- any combination
@@ -149,6 +151,7 @@ loss_is dimensions places lines Lines i are = refl
 -- the numbers of a place, and of none, are those of lines
 record AreSmall (place : Place) : Type 0 where
   quantity : quantity_in place.terms ≤ 50
+  discount : discount_in place.terms ≤ 10
   price : place.price < 2 ^ 32
   revenue : place.revenue < 2 ^ 32
   cost : place.cost < 2 ^ 32
@@ -158,20 +161,19 @@ small_at : (dimensions : Dimensions) (places : List Place) (i : ℕ) → All (Is
 small_at dimensions places i within = grind (arith, nowhere, ltb-true, get_or_past, ltb-false)
 
 gain_small : (dimensions : Dimensions) (places : List Place) (measure : Measure) (i : ℕ)
-    → All (IsWithin dimensions) places → gain_of measure (fact_at dimensions (get_or places i nowhere)) ≤ 2 ^ 36
+    → All (IsWithin dimensions) places → gain_of measure (fact_at dimensions (get_or places i nowhere)) ≤ most
 gain_small dimensions places PriceTimesDiscount i within =
     let place = get_or places i nowhere in
     let small = small_at dimensions places i within in
-    let rest : place.terms % 16 ≤ 16 = omega arith in
-    let price : place.price ≤ 2 ^ 32 = omega (arith, small.price) in
-    omega (arith, mul-le-mul price rest)
+    let price : place.price ≤ 4294967295 = omega (arith, small.price) in
+    omega (arith, mul-le-mul price small.discount)
 gain_small dimensions places Revenue i within = omega (arith, (small_at dimensions places i within).revenue)
 gain_small dimensions places Profit i within = omega (arith, (small_at dimensions places i within).revenue)
 gain_small dimensions places Quantity i within = omega (arith, (small_at dimensions places i within).quantity)
 gain_small dimensions places Lines i within = omega arith
 
 loss_small : (dimensions : Dimensions) (places : List Place) (measure : Measure) (i : ℕ)
-    → All (IsWithin dimensions) places → loss_of measure (fact_at dimensions (get_or places i nowhere)) ≤ 2 ^ 36
+    → All (IsWithin dimensions) places → loss_of measure (fact_at dimensions (get_or places i nowhere)) ≤ most
 loss_small dimensions places PriceTimesDiscount i within = omega arith
 loss_small dimensions places Revenue i within = omega arith
 loss_small dimensions places Profit i within = omega (arith, (small_at dimensions places i within).cost)
@@ -303,9 +305,9 @@ module _ (base : Tables) (question : Query × List Value) (plans : List Plan) (k
         let in_filter = has_from_filter bit (range_with_len 0 (length places)) i h in
         (group_is i (in_range i in_filter.1) in_filter.0).0
 
-    module _ (count gain loss : ℕ → ℕ) (few : length (live_facts d places) ≤ 33554432)
+    module _ (count gain loss : ℕ → ℕ) (few : length (live_facts d places) ≤ most_lines)
         (summed : AreSummed lines masks k measure groups size (range_with_len 0 (length places)) count gain loss) where
-      some_of_all : (g : ℕ) → length (of_group g) ≤ 33554432
+      some_of_all : (g : ℕ) → length (of_group g) ≤ most_lines
       some_of_all g =
           let same : length (of_group g) ≡ length (filter (takes_fact g) (live_facts d places)) =
           sym (length-map (of_group g) fact) ∙ ap length (sym (taken_is g)) in
@@ -325,7 +327,7 @@ module _ (base : Tables) (question : Query × List Value) (plans : List Plan) (k
       counts_are g below =
           exact (count g) (sum_by (λ (i : ℕ). 1) (of_group g)) (summed.counts.each g (in_size g below))
           (summed.counts.fits g)
-          (bounded (λ (i : ℕ). 1) 1 33554432 (2 ^ 64) (of_group g) (λ i. omega arith) (some_of_all g) (omega arith))
+          (bounded (λ (i : ℕ). 1) 1 most_lines (2 ^ 64) (of_group g) (λ i. omega arith) (some_of_all g) (omega arith))
           ∙ sum_ones (of_group g) ∙ sym (length-map (of_group g) fact) ∙ ap length (sym (taken_is g))
 
       pub gains_are : (g : ℕ) → g < size_of (counts_of columns)
@@ -334,10 +336,10 @@ module _ (base : Tables) (question : Query × List Value) (plans : List Plan) (k
           let amount : ℕ → ℕ = gain_at lines measure in
           let same : (i : ℕ) → amount i ≡ gain_of plan.measure (fact i) =
           λ i. gain_is d places lines measure i are ∙ ap (λ (m : Measure). gain_of m (fact i)) grouped.measures in
-          let small : (i : ℕ) → amount i ≤ 2 ^ 36 = λ i. subst (λ (n : ℕ). n ≤ 2 ^ 36) (sym (same i))
+          let small : (i : ℕ) → amount i ≤ most = λ i. subst (λ (n : ℕ). n ≤ most) (sym (same i))
           (gain_small d places plan.measure i within) in
           exact (gain g) (sum_by amount (of_group g)) (summed.gains.each g (in_size g below)) (summed.gains.fits g)
-          (bounded amount (2 ^ 36) 33554432 (2 ^ 64) (of_group g) small (some_of_all g) (omega arith))
+          (bounded amount most most_lines (2 ^ 64) (of_group g) small (some_of_all g) (omega arith))
           ∙ sym (sum_mapped (gain_of plan.measure) fact amount same (of_group g))
           ∙ ap (sum_by (gain_of plan.measure)) (sym (taken_is g))
 
@@ -347,40 +349,40 @@ module _ (base : Tables) (question : Query × List Value) (plans : List Plan) (k
           let amount : ℕ → ℕ = loss_at lines measure in
           let same : (i : ℕ) → amount i ≡ loss_of plan.measure (fact i) =
           λ i. loss_is d places lines measure i are ∙ ap (λ (m : Measure). loss_of m (fact i)) grouped.measures in
-          let small : (i : ℕ) → amount i ≤ 2 ^ 36 = λ i. subst (λ (n : ℕ). n ≤ 2 ^ 36) (sym (same i))
+          let small : (i : ℕ) → amount i ≤ most = λ i. subst (λ (n : ℕ). n ≤ most) (sym (same i))
           (loss_small d places plan.measure i within) in
           exact (loss g) (sum_by amount (of_group g)) (summed.losses.each g (in_size g below)) (summed.losses.fits g)
-          (bounded amount (2 ^ 36) 33554432 (2 ^ 64) (of_group g) small (some_of_all g) (omega arith))
+          (bounded amount most most_lines (2 ^ 64) (of_group g) small (some_of_all g) (omega arith))
           ∙ sym (sum_mapped (loss_of plan.measure) fact amount same (of_group g))
           ∙ ap (sum_by (loss_of plan.measure)) (sym (taken_is g))
 
       -- what is added up of any measure, and its difference, fits 64 bits with a sign
       small_sum : (amount sum : ℕ → ℕ) (g : ℕ) → IsSummed amount (group_at groups) size
-          (filter bit (range_with_len 0 (length places))) sum → ((i : ℕ) → amount i ≤ 2 ^ 36) → sum g < 2 ^ 62
+          (filter bit (range_with_len 0 (length places))) sum → ((i : ℕ) → amount i ≤ most) → sum g < 2 ^ 63
       small_sum amount sum g adds small =
-          elim (nat_lt g size) as (λ b. nat_lt g size ≡ b → sum g < 2 ^ 62) [
+          elim (nat_lt g size) as (λ b. nat_lt g size ≡ b → sum g < 2 ^ 63) [
             | true ↦ λ e. let below : g < size = ltb-true g size e in
                 let is = exact (sum g) (sum_by amount (of_group g)) (adds.each g below) (adds.fits g)
-                (bounded amount (2 ^ 36) 33554432 (2 ^ 64) (of_group g) small (some_of_all g) (omega arith)) in
+                (bounded amount most most_lines (2 ^ 64) (of_group g) small (some_of_all g) (omega arith)) in
                 omega (
                   arith,
                   is,
-                  bounded amount (2 ^ 36) 33554432 (2 ^ 62) (of_group g) small (some_of_all g)
+                  bounded amount most most_lines (2 ^ 63) (of_group g) small (some_of_all g)
                       (omega arith),
                 )
             | false ↦ λ e. omega (arith, adds.past g (ltb-false g size e))
           ] refl
 
-      pub gains_small : (g : ℕ) → gain g < 2 ^ 62
+      pub gains_small : (g : ℕ) → gain g < 2 ^ 63
       gains_small g =
           small_sum (gain_at lines measure) gain g summed.gains
-          (λ i. subst (λ (n : ℕ). n ≤ 2 ^ 36) (sym (gain_is d places lines measure i are))
+          (λ i. subst (λ (n : ℕ). n ≤ most) (sym (gain_is d places lines measure i are))
           (gain_small d places measure i within))
 
-      pub losses_small : (g : ℕ) → loss g < 2 ^ 62
+      pub losses_small : (g : ℕ) → loss g < 2 ^ 63
       losses_small g =
           small_sum (loss_at lines measure) loss g summed.losses
-          (λ i. subst (λ (n : ℕ). n ≤ 2 ^ 36) (sym (loss_is d places lines measure i are))
+          (λ i. subst (λ (n : ℕ). n ≤ most) (sym (loss_is d places lines measure i are))
           (loss_small d places measure i within))
 
       lists_all : (c : Combination) → Has (combinations plan d (live_facts d places)) c

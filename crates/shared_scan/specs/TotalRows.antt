@@ -23,8 +23,8 @@ pub record Fit64 (totals : Totals) : Type 0 where
 
 -- what was added up and taken away is small, so that differences fit 64 bits
 pub record AreSmall (totals : Totals) : Type 0 where
-  pub gains : (g : ℕ) → slice_index totals.gains.items g < 2 ^ 62
-  pub losses : (g : ℕ) → slice_index totals.losses.items g < 2 ^ 62
+  pub gains : (g : ℕ) → slice_index totals.gains.items g < 2 ^ 63
+  pub losses : (g : ℕ) → slice_index totals.losses.items g < 2 ^ 63
 
 -- a question's totals have a number for each of its groups, and are small if they are numbers of 64 bits
 pub record FitGroups (ready : Ready) (totals : Totals) : Type 0 where

@@ -68,8 +68,8 @@ struct Listed {
 
 /// The groups that have lines, in three lists.
 fn list_groups(alloc: Global, totals: &SparseTotals) -> Result<Listed, AllocError>
-    requires { (g : ℕ) (sums : Sums) → get nat_eq totals.now g ≡ Some sums → (sums.gain < 2 ^ 62)
-        × (sums.loss < 2 ^ 62) }
+    requires { (g : ℕ) (sums : Sums) → get nat_eq totals.now g ≡ Some sums → (sums.gain < 2 ^ 63)
+        × (sums.loss < 2 ^ 63) }
     ensures numbers { IfOk result (λ list. list.numbers.items ≡ keys totals.now) }
     ensures counts { IfOk result (λ list. list.counts.items ≡ map (λ sums. sums.count) (values totals.now)) }
     ensures sums { IfOk result (λ list. list.sums.items ≡ map net (values totals.now)) }

@@ -23,8 +23,8 @@ use std::alloc::{AllocError, Global};
 
 /// A gain less a loss.
 pub fn difference(gain: u64, loss: u64) -> i64
-    requires gain { gain < 2 ^ 62 }
-    requires loss { loss < 2 ^ 62 }
+    requires gain { gain < 2 ^ 63 }
+    requires loss { loss < 2 ^ 63 }
     ensures { result ≡ pos gain -ℤ pos loss }
 {
     gain as i64 - loss as i64
@@ -33,8 +33,8 @@ pub fn difference(gain: u64, loss: u64) -> i64
 /// What the lines of each group add to the measure, less what they take away.
 fn differences(alloc: Global, gains: &[u64], losses: &[u64]) -> Result<Vec<i64>, AllocError>
     requires len { length losses.now ≡ length gains.now }
-    requires gains { (g : ℕ) → slice_index gains.now g < 2 ^ 62 }
-    requires losses { (g : ℕ) → slice_index losses.now g < 2 ^ 62 }
+    requires gains { (g : ℕ) → slice_index gains.now g < 2 ^ 63 }
+    requires losses { (g : ℕ) → slice_index losses.now g < 2 ^ 63 }
     ensures len { IfOk result (λ v. vec_len v ≡ length gains.now) }
     ensures each { IfOk result (λ v. (g : ℕ) → g < length gains.now
         → slice_index_or v.items g (pos 0) ≡ pos (slice_index gains.now g) -ℤ pos (slice_index losses.now g)) }

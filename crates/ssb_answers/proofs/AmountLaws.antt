@@ -11,6 +11,7 @@ use Rattle.ssb_questions.specs.declared.plan.Measure.{Measure}
 use Rattle.ssb_questions.specs.declared.plan.Measure.TheVariants.{PriceTimesDiscount, Revenue, Profit, Quantity, Lines}
 use Rattle.ssb_answers.specs.Answer.{amount}
 use Rattle.ssb_answers.specs.Sums.{gain, loss, total, SumFits}
+use Rattle.ssb_base.specs.Limits.{most_lines}
 use Rattle.ssb_answers.specs.Totals.{most}
 
 amount_is : (measure : Measure) (fact : Fact) → amount measure fact ≡ pos (gain measure fact) -ℤ pos (loss measure fact)
@@ -66,13 +67,13 @@ loss_most Profit fact h = omega (arith, h.cost)
 loss_most Quantity fact h = omega arith
 loss_most Lines fact h = omega arith
 
-few_sum : (g : Fact → ℕ) (facts : List Fact) → length facts ≤ 33554432 → All (λ fact. g fact ≤ most) facts
+few_sum : (g : Fact → ℕ) (facts : List Fact) → length facts ≤ most_lines → All (λ fact. g fact ≤ most) facts
     → sum_by g facts < 2 ^ 63
 few_sum g facts few each = omega (arith, few, sum_by-le g most facts each)
 
 fits : (gains losses : ℕ) (z : ℤ) → gains < 2 ^ 63 → losses < 2 ^ 63 → z ≡ pos gains -ℤ pos losses → FitsSigned w64 z
 fits gains losses z p q e = omega (arith, ints, p, q, e)
 
-pub sum_fits : (measure : Measure) (facts : List Fact) → length facts ≤ 33554432 → All IsFactWithinLimits facts
+pub sum_fits : (measure : Measure) (facts : List Fact) → length facts ≤ most_lines → All IsFactWithinLimits facts
     → SumFits measure facts
 sum_fits measure facts few within = grind (arith, few_sum, gain_most, loss_most, total_is, fits)

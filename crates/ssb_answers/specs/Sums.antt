@@ -6,6 +6,7 @@ use Rattle.ssb_schema.specs.Facts.{IsFactWithinLimits}
 use Rattle.ssb_schema.specs.declared.fact.Fact.{Fact}
 use Rattle.ssb_questions.specs.declared.plan.Measure.{Measure}
 use Rattle.ssb_questions.specs.declared.plan.Measure.TheVariants.{PriceTimesDiscount, Revenue, Profit, Quantity, Lines}
+use Rattle.ssb_base.specs.Limits.{most_lines}
 use Rattle.ssb_answers.specs.Answer.{amount}
 
 -- an amount is a gain less a loss
@@ -36,5 +37,5 @@ pub record SumFits (measure : Measure) (facts : List Fact) : Type 0 where
 
 -- so it is of every measure, over as many facts as a warehouse may have, each within the ranges of its columns
 abbrev pub EverySumFits : Type 0
-EverySumFits = (measure : Measure) (facts : List Fact) → length facts ≤ 33554432 → All IsFactWithinLimits facts
+EverySumFits = (measure : Measure) (facts : List Fact) → length facts ≤ most_lines → All IsFactWithinLimits facts
     → SumFits measure facts

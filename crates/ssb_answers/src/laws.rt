@@ -50,7 +50,7 @@ pub fn questions_ignore_order()
     ensures { QuestionsIgnoreOrder }
 {}
 
-/// Over at most 33,554,432 facts, each within the ranges of its columns, the sum of every measure fits an `i64`, and so
+/// Over at most 134,217,728 facts, each within the ranges of its columns, the sum of every measure fits an `i64`, and so
 /// do its gains and its losses by themselves.
 pub fn every_sum_fits()
     ensures { EverySumFits }

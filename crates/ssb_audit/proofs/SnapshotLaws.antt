@@ -12,6 +12,7 @@ use Rattle.row_store.proofs.HistoryLaws.{beginnings_are_legal}
 use Rattle.row_store.proofs.PrefixLaws.{prefix_take}
 use Rattle.row_store.proofs.RearrangedLaws.{states_follow_commits}
 use Rattle.fact_columns.specs.Stored.{Stored, columns_state}
+use Rattle.ssb_base.specs.Limits.{most_lines}
 use Rattle.shared_scan.specs.Answers.{AreSnapshot}
 
 -- one commit more
@@ -55,7 +56,7 @@ snapshot_of columns base commits at sound legal state =
     record {
       history = take at commits;
       stands = state ∙ ap (λ b. state_of b (take at commits)) (sym same);
-      few = subst (λ b. length (lines_after b (take at commits)) ≤ 33554432) (sym same)
-          (at_most (length (lines_after base (take at commits))) base.limits.lines 33554432 few
+      few = subst (λ b. length (lines_after b (take at commits)) ≤ most_lines) (sym same)
+          (at_most (length (lines_after base (take at commits))) base.limits.lines most_lines few
           base.limits.lines_range);
     }

@@ -7,7 +7,7 @@ most_dimension_rows = 1048576
 
 -- the sum of any measure over so many lines fits an `i64`
 abbrev pub most_lines : ℕ
-most_lines = 33554432
+most_lines = 134217728
 
 abbrev pub most_commits : ℕ
 most_commits = 72057594037927936

@@ -6,7 +6,7 @@ ghost use Rattle.std.specs.Prelude.{◌≡◌, ◌≤◌, ◌↔◌, IsSome, IfS
 pub const MOST_DIMENSION_ROWS: usize = 1_048_576;
 
 /// The greatest number of live lines: the sum of any measure over so many lines fits an `i64`.
-pub const MOST_LINES: usize = 33_554_432;
+pub const MOST_LINES: usize = 134_217_728;
 
 /// The greatest number of commits: 2^56.
 pub const MOST_COMMITS: u64 = 72_057_594_037_927_936;
@@ -19,19 +19,19 @@ pub const STANDARD_COMMITS: u64 = 1_000_000;
 pub struct Limits {
     /// Rows of each dimension, 1 to 1,048,576.
     pub dimension_rows: usize,
-    /// Live lines, up to 33,554,432.
+    /// Live lines, up to 134,217,728.
     pub lines: usize,
     /// Commits, 1 to 2^56.
     pub commits: u64,
     ghost dimension_rows_range: { (1 ≤ dimension_rows) × (dimension_rows ≤ 1048576) },
-    ghost lines_range: { lines ≤ 33554432 },
+    ghost lines_range: { lines ≤ 134217728 },
     ghost commits_range: { (1 ≤ commits) × (commits ≤ 72057594037927936) },
 }
 
 impl Limits {
     ghost use Rattle.ssb_base.specs.Limits.{AreLimits, limits_of, most_dimension_rows, most_lines, most_commits, standard_commits};
 
-    /// These limits; none unless there are 1 to 1,048,576 rows of a dimension, up to 33,554,432 lines and 1 to
+    /// These limits; none unless there are 1 to 1,048,576 rows of a dimension, up to 134,217,728 lines and 1 to
     /// 2^56 commits.
     pub fn new(dimension_rows: usize, lines: usize, commits: u64) -> Option<Limits>
         ensures given { IsSome result ↔ AreLimits dimension_rows lines commits }

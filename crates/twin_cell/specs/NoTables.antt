@@ -1,6 +1,7 @@
 -- A base of no rows.
 use Rattle.std.specs.Prelude.{◌≤◌, []}
 use native.Mathlib.Bridge.{le_by_compare, IsLe}
+use Rattle.ssb_base.specs.Limits.{most_lines}
 use Rattle.ssb_base.specs.Base.{Tables}
 
 one_is_least : 1 ≤ 1
@@ -11,9 +12,9 @@ row_limit : 1 ≤ 1048576
 unfolding IsLe
 row_limit = le_by_compare 1 1048576 tt
 
-line_limit : 0 ≤ 33554432
+line_limit : 0 ≤ most_lines
 unfolding IsLe
-line_limit = le_by_compare 0 33554432 tt
+line_limit = le_by_compare 0 most_lines tt
 
 commit_limit : 1 ≤ 72057594037927936
 unfolding IsLe

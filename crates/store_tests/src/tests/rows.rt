@@ -71,10 +71,10 @@ fn replies<R: Threads + Sync + AllocGlobal + RandomSource>(
 // Rows of a dimension, lines and commits, and whether a warehouse may be limited to these.
 const BOUNDS: &[(usize, usize, u64, bool)] = &[
     (1, 0, 1, true),
-    (1_048_576, 33_554_432, 72_057_594_037_927_936, true),
+    (1_048_576, 134_217_728, 72_057_594_037_927_936, true),
     (0, 4, 1, false),
     (1_048_577, 4, 1, false),
-    (4, 33_554_433, 1, false),
+    (4, 134_217_729, 1, false),
     (4, 4, 0, false),
     (4, 4, 72_057_594_037_927_937, false),
 ];

@@ -13,6 +13,7 @@ use Rattle.shared_scan.specs.Lines.{AreOfBase, HavePlaces}
 use Rattle.shared_scan.proofs.CanScanLaws.{can_search}
 use Rattle.shared_scan.proofs.ClassedLaws.{lines_classed, classed_all, as_many_live, answers_classed}
 use Rattle.shared_scan.proofs.ScanLaws.{if_ok_then, line_count, parts_all, can_sum_all, can_answer_all, rows_answer}
+use Rattle.ssb_base.specs.Limits.{most_lines}
 use Rattle.shared_scan.proofs.over_lines.scan_lines.Goals as goal
 
 pub groupings-requires : goal.groupings-requires
@@ -73,7 +74,7 @@ batch_rows-requires-clause-can g c =
     let sound : IsSound first = rw (c.first_rows-first_rows.ensures, c.index-index.ensures) at c.soundness-2.ensures in
     let grouped = rw (c.deref.ensures.value, c.first_rows-first_rows.ensures, c.index-index.ensures) at
     c.in_ok-groupings.ensures in
-    let few : length (live_facts first.dimensions places) ≤ 33554432 = omega
+    let few : length (live_facts first.dimensions places) ≤ most_lines = omega
     (arith, as_many_live base have.places, have.of_base.few_live) in
     let added = rw (c.deref-2.ensures.value) at c.in_ok-totals.ensures in
     let to : length lines.customer.now ≡ length places = omega (arith, line_count places lines are) in
@@ -106,7 +107,7 @@ returns g c = λ own_places columns_are of_base.
     → IfOk c.batch_rows.result (λ rows. rows.items ≡ answers_over p.columns.base.dimensions
     (live_facts p.columns.base.dimensions own_places) p.questions) in
     subst P c.batch.view_is (λ own. if_ok_then c.batch_rows.result _ _ right (λ rows is.
-    let few : length (live_facts first.dimensions places) ≤ 33554432 = omega
+    let few : length (live_facts first.dimensions places) ≤ most_lines = omega
     (arith, as_many_live base own_places, own.few_live) in
     rows_answer first places lines masks all groupings sound
     (classed_all base own_places own.within) are c.batch.invariant.masks_tell c.batch.invariant.ready grouped

@@ -92,7 +92,7 @@ list_groups-requires c = λ g sums at.
     let less = losses_small base ready.question of.plans k of.places lines masks ready.groups.columns.items
     ready.plan.measure groups ready.groups.size of.sound of.within of.are of.at_k of.tell grouped dims count gain
     loss of.few_live summed g in
-    (subst (λ (s : GroupSums). s.gain < 2 ^ 62) is more, subst (λ (s : GroupSums). s.loss < 2 ^ 62) is less)
+    (subst (λ (s : GroupSums). s.gain < 2 ^ 63) is more, subst (λ (s : GroupSums). s.loss < 2 ^ 63) is less)
 
 pub answer_sparse-requires-clause-columns : goal.answer_sparse-requires-clause-columns
 answer_sparse-requires-clause-columns c =

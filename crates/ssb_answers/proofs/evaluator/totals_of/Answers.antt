@@ -1,4 +1,4 @@
--- One line more adds its own combinations, and 33,554,432 lines cannot make a sum that passes an i64.
+-- One line more adds its own combinations, and 134,217,728 lines cannot make a sum that passes an i64.
 use Rattle.std.proofs.Common.{◌≡◌, ◌+◌, ◌∷◌, [], ◌++◌, ◌∙◌, List, take, ap, sym, subst, arith, rules}
 use Rattle.std.specs.Prelude.{filter}
 use Rattle.std.proofs.lemmas.Int.{ints}

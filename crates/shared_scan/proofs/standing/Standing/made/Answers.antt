@@ -15,6 +15,7 @@ use Rattle.shared_scan.specs.declared.standing.ReadyBatch.{ReadyBatch}
 use Rattle.shared_scan.proofs.HistoryLaws.{of_base}
 use Rattle.shared_scan.proofs.ScanLaws.{parts_all}
 use Rattle.shared_scan.proofs.StandingAnswerLaws.{scan_searches, scan_sums, follow_of_scan}
+use Rattle.ssb_base.specs.Limits.{most_lines}
 use Rattle.shared_scan.proofs.standing.Standing.made.Goals as goal
 
 pub groupings-requires : goal.groupings-requires
@@ -27,7 +28,7 @@ parallel_totals-requires-clause-covers g c = λ κs within.
     let inside = c.batch.inside in
     let same : inside.columns.now ≡ columns = ap (λ (p : Prepared). p.columns)
     (c.batch.view_is ∙ c.in_ok-batch.ensures.prepared) in
-    let S : Stored → Type 0 = λ s. length s.facts ≤ 33554432 in
+    let S : Stored → Type 0 = λ s. length s.facts ≤ most_lines in
     let V : Stored → Type 0 = λ s. CoverRows (reduced s.base).dimensions inside.masks in
     scan_searches columns.base columns.places c.line_columns-lines.result inside.masks
     (of_base columns c.line_columns-lines.ensures.read (subst S same c.batch.invariant.small))
@@ -44,7 +45,7 @@ parallel_totals-requires-clause-can_sum g c = λ κs within.
     (c.batch.view_is ∙ c.in_ok-batch.ensures.prepared) in
     let first : c.first_rows-rows.result.now ≡ reduced columns.base = c.first_rows-rows.ensures
     ∙ ap reduced (c.deref-2.ensures ∙ c.requires.base) in
-    let S : Stored → Type 0 = λ s. length s.facts ≤ 33554432 in
+    let S : Stored → Type 0 = λ s. length s.facts ≤ most_lines in
     let T : Stored → Type 0 = λ s. AreMasksOf (plans_of (questions_of all)) (reduced s.base).dimensions inside.masks in
     let U : Stored → Type 0 = λ s. AreReady (reduced s.base) inside.masks (questions_of all) all in
     let G : Tables → Type 0 = λ b. AreReadyGroupings b lines all groupings in
@@ -66,7 +67,7 @@ returns-clause-follows g c =
     (c.batch.view_is ∙ c.in_ok-batch.ensures.prepared) in
     let first : c.first_rows-rows.result.now ≡ reduced columns.base = c.first_rows-rows.ensures
     ∙ ap reduced (c.deref-2.ensures ∙ c.requires.base) in
-    let S : Stored → Type 0 = λ s. length s.facts ≤ 33554432 in
+    let S : Stored → Type 0 = λ s. length s.facts ≤ most_lines in
     let T : Stored → Type 0 = λ s. AreMasksOf (plans_of (questions_of all)) (reduced s.base).dimensions inside.masks in
     let U : Stored → Type 0 = λ s. AreReady (reduced s.base) inside.masks (questions_of all) all in
     let V : Stored → Type 0 = λ s. CoverRows (reduced s.base).dimensions inside.masks in

@@ -18,6 +18,7 @@ use Rattle.shared_scan.specs.declared.standing.ReadyBatch.{ReadyBatch}
 use Rattle.shared_scan.proofs.HistoryLaws.{of_base}
 use Rattle.shared_scan.proofs.ScanLaws.{if_ok_then, parts_all, question_at}
 use Rattle.shared_scan.proofs.StandingAnswerLaws.{searches, can_be_answered, is_answered, answer_of_history}
+use Rattle.ssb_base.specs.Limits.{most_lines}
 use Rattle.shared_scan.proofs.standing.Standing.rows.Goals as goal
 
 pub grouping-requires : goal.grouping-requires
@@ -38,7 +39,7 @@ question_rows-requires-clause-covers c =
     let lines = c.line_columns-lines.result in
     let totals : List Totals = c.args.self.now.totals.items in
     let read = c.line_columns-lines.ensures.read in
-    let small : length columns.facts ≤ 33554432 = omega (
+    let small : length columns.facts ≤ most_lines = omega (
       arith,
       c.soundness.ensures c.requires.snapshot.history c.requires.snapshot.stands,
       c.requires.snapshot.few,
@@ -68,7 +69,7 @@ question_rows-requires-clause-can c =
     let mine = c.index.result.now in
     let all : List Ready = own.questions.items in
     let grouping = c.in_ok-_grouping._grouping in
-    let small : length columns.facts ≤ 33554432 = omega (
+    let small : length columns.facts ≤ most_lines = omega (
       arith,
       c.soundness.ensures c.requires.snapshot.history c.requires.snapshot.stands,
       c.requires.snapshot.few,
@@ -110,7 +111,7 @@ returns c = record {
       let mine = c.index.result.now in
       let all : List Ready = own.questions.items in
       let grouping = c.in_ok-_grouping._grouping in
-      let small : length columns.facts ≤ 33554432 = omega (
+      let small : length columns.facts ≤ most_lines = omega (
         arith,
         c.soundness.ensures c.requires.snapshot.history c.requires.snapshot.stands,
         c.requires.snapshot.few,
