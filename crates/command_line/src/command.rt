@@ -1,7 +1,8 @@
 //! What the words of a command line do.
 
+use crate::attending::attend_clients;
+use crate::commits_screen::serve_shown;
 use crate::job_help::tell_help;
-use crate::measured::measure_serving;
 use crate::metrics::{MetricsFile, push_metrics};
 use crate::named_journal::NamedJournal;
 use crate::streams::{Streams, tell};
@@ -22,7 +23,7 @@ use query_command::{
 use run_command::{RunInput, RunSettings, demo, open_trace, run_scripts};
 use serve_command::{
     Attendant, EndPaths, JournalPlace, MOST_CLIENTS, PathClients, ServeFault, ServeRefusal,
-    ServeSettings, StreamClient, report_no_pipes, serve_clients, serve_stream,
+    ServeSettings, StreamClient, report_no_pipes, serve_stream,
 };
 use server_figures::LiveFigures;
 use ssb_files::{
@@ -38,13 +39,13 @@ use ssb_questions::Question;
 use ssb_text::{TableFiles, Tables};
 use std::alloc::Global;
 use std::hash::RandomState;
+use std::io;
 use std::io::{BufWriter, Print, Read, Write};
 use std::random::RandomSource;
 use std::rt::Files;
 use std::sync::{Arc, Wait};
 use std::thread::Threads;
 use std::time::Clock;
-use std::{io, thread};
 use terminal::{HelpedOutput, Prompted, TypedRequest};
 
 // The terminal, where there is one and the words let it show the progress of a load, which begins now.
@@ -311,7 +312,7 @@ fn clients_of(alloc: Global, words: &[&str]) -> Result<Vec<EndPaths>, Fault> {
 /// The files of a live server, opened, and how it serves.
 #[derive(Drop)]
 pub(crate) struct OpenedServer<O: Drop> {
-    settings: ServeSettings,
+    pub(crate) settings: ServeSettings,
     tables: Tables<O>,
     clients: Vec<EndPaths>,
     journal: Option<NamedJournal>,
@@ -420,35 +421,6 @@ where
     let client = StreamClient { input, output };
     let ended = serve_stream(rt, settings, tables, place, client, errors);
     ended.status
-}
-
-// Serves clients that open their own ends, and attends to them meanwhile.
-fn attend_clients<R, F, I: Read + Drop, E: Print + Sync>(
-    rt: &R,
-    settings: ServeSettings,
-    tables: TableFiles<I>,
-    place: Option<JournalPlace<'_, JournalPath<'_, F>>>,
-    clients: PathClients<'_, F>,
-    errors: &E,
-) -> u8
-where
-    R: Clock + Threads + Sync + Wait + AllocGlobal,
-    F: Files + Sync + AllocGlobal,
-    F::File: JournalFile + Send,
-    F::Dir: Send,
-{
-    let files = clients.files;
-    let attendant = clients.attendant;
-    let (_, status) = thread::join(
-        rt,
-        || attendant.attend(rt, files, errors),
-        || {
-            let ended = serve_clients(rt, settings, tables, place, clients, errors);
-            attendant.end();
-            ended.status
-        },
-    );
-    status
 }
 
 /// Serves clients over tables that are loaded and counted now: those that the words name, or else standard input and
@@ -561,10 +533,7 @@ where
         clients,
         journal,
     };
-    let status = match metrics {
-        Some(metrics) => measure_serving(rt, files, words, metrics, opened, streams),
-        None => serve_loading(rt, files, words, opened, streams),
-    };
+    let status = serve_shown(rt, files, words, metrics, opened, streams);
     locks.drop();
     status
 }

@@ -17,7 +17,9 @@
 //! ```
 #![tactic(auto)]
 
+mod attending;
 mod command;
+mod commits_screen;
 mod end_bell;
 mod job_help;
 mod measured;

@@ -37,15 +37,8 @@ where
     status
 }
 
-/// Serves clients over tables that are loaded now, while a thread of its own writes the figures into their file.
-pub(crate) fn measure_serving<
-    R,
-    F,
-    T,
-    I: Read + Drop + Send,
-    W: Write + Drop + Send,
-    E: Print + Sync,
->(
+// Serves clients over tables that are loaded now, while a thread of its own writes the figures into their file.
+fn measure_serving<R, F, T, I: Read + Drop + Send, W: Write + Drop + Send, E: Print + Sync>(
     rt: &R,
     files: &F,
     words: &ServeWords<'_>,
@@ -70,4 +63,33 @@ where
         { serving_to_the_end(rt, files, words, opened, streams, &bell) },
     );
     status
+}
+
+/// Serves clients over tables that are loaded now, and writes the figures into their file, where there is one.
+pub(crate) fn serve_measured<
+    R,
+    F,
+    T,
+    I: Read + Drop + Send,
+    W: Write + Drop + Send,
+    E: Print + Sync,
+>(
+    rt: &R,
+    files: &F,
+    words: &ServeWords<'_>,
+    metrics: Option<MetricsFile<'_, F>>,
+    opened: OpenedServer<T>,
+    streams: Streams<'_, I, W, E>,
+) -> u8
+where
+    R: Clock + RandomSource + Threads + Sync + Wait + AllocGlobal,
+    F: Files + Sync + AllocGlobal,
+    F::File: JournalFile + Send,
+    F::Dir: Send,
+    T: Read + Drop,
+{
+    match metrics {
+        Some(metrics) => measure_serving(rt, files, words, metrics, opened, streams),
+        None => serve_loading(rt, files, words, opened, streams),
+    }
 }

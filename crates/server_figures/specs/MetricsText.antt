@@ -1,10 +1,10 @@
 -- The text of the metrics, as Prometheus' collectors read it, and the files that it may be written over.
 use Rattle.std.specs.Prelude.{ℕ, Bool, List, [], ◌∷◌, ◌||◌, ◌==◌, Option, None, Some, codes, decimal, length}
-use Rattle.std.specs.Prelude.{nat_eq}
+use Rattle.std.specs.Prelude.{nat_eq, if◌then◌else◌}
 use Rattle.std.specs.List.{concat, starts_with}
 use Rattle.std.specs.Option.{option_map}
 use Rattle.server_figures.specs.declared.metric.Metric.{Metric}
-use Rattle.server_figures.specs.declared.metric.Metric.TheVariants.{Commits, Refusals, Answers, Batches, LastBatch}
+use Rattle.server_figures.specs.declared.metric.Metric.TheVariants.{Ready, Commits, Refusals, Answers, Batches, LastBatch}
 use Rattle.server_figures.specs.declared.metric.Metric.TheVariants.{AnswerLag, Sessions, JournalBytes, ResidentBytes}
 use Rattle.server_figures.specs.declared.metrics.Metrics.{Metrics}
 
@@ -12,6 +12,7 @@ abbrev pub line_feed : List ℕ
 line_feed = 10 ∷ []
 
 abbrev pub metric_name : Metric → List ℕ
+metric_name (Ready _) = codes "ssb_live_ready"
 metric_name (Commits _) = codes "ssb_live_commits_total"
 metric_name (Refusals _) = codes "ssb_live_refusals_total"
 metric_name (Answers _) = codes "ssb_live_answers_total"
@@ -23,6 +24,7 @@ metric_name (JournalBytes _) = codes "ssb_live_journal_bytes"
 metric_name (ResidentBytes _) = codes "ssb_live_resident_bytes"
 
 abbrev pub metric_help : Metric → List ℕ
+metric_help (Ready _) = codes "Whether the server takes requests."
 metric_help (Commits _) = codes "Commits, those of the journal among them."
 metric_help (Refusals _) = codes "Refreshes that were refused."
 metric_help (Answers _) = codes "Questions that were answered."
@@ -35,6 +37,7 @@ metric_help (ResidentBytes _) = codes "Bytes of memory that the server has."
 
 -- a counter only grows, a gauge may fall
 abbrev pub metric_kind : Metric → List ℕ
+metric_kind (Ready _) = codes "gauge"
 metric_kind (Commits _) = codes "counter"
 metric_kind (Refusals _) = codes "counter"
 metric_kind (Answers _) = codes "counter"
@@ -46,6 +49,7 @@ metric_kind (JournalBytes _) = codes "gauge"
 metric_kind (ResidentBytes _) = codes "gauge"
 
 abbrev pub metric_amount : Metric → ℕ
+metric_amount (Ready takes) = if takes then 1 else 0
 metric_amount (Commits n) = n
 metric_amount (Refusals n) = n
 metric_amount (Answers n) = n
@@ -80,6 +84,7 @@ sign = codes "# ssb_live"
 abbrev pub metrics_text : Metrics → List ℕ
 metrics_text metrics =
     concat (sign ∷ codes " figures" ∷ line_feed
+    ∷ metric_text (Ready metrics.figures.ready)
     ∷ metric_text (Commits metrics.figures.commits)
     ∷ metric_text (Refusals metrics.figures.refusals)
     ∷ metric_text (Answers metrics.figures.answers)

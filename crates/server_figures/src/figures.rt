@@ -21,4 +21,6 @@ pub struct Figures {
     pub lacked: u64,
     /// The sessions that are open.
     pub sessions: u64,
+    /// Whether the server takes requests: not before its tables are loaded and its journal's commits are made again.
+    pub ready: bool,
 }

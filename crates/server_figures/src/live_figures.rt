@@ -1,7 +1,7 @@
 //! The figures of a server, counted while it serves.
 
 use crate::figures::Figures;
-use std::sync::atomic::{AtomicU64, Ordering};
+use std::sync::atomic::{AtomicBool, AtomicU64, Ordering};
 use std::time::Duration;
 
 /// The figures of a server that serves. Threads share them without a lock. Each is right when it is read; two of them
@@ -17,6 +17,7 @@ pub struct LiveFigures {
     last_batch: AtomicU64,
     lacked: AtomicU64,
     sessions: AtomicU64,
+    ready: AtomicBool,
 }
 
 // One more, or some more.
@@ -37,6 +38,7 @@ impl LiveFigures {
             last_batch: AtomicU64::new(0),
             lacked: AtomicU64::new(0),
             sessions: AtomicU64::new(0),
+            ready: AtomicBool::new(false),
         }
     }
 
@@ -52,6 +54,7 @@ impl LiveFigures {
             last_batch: self.last_batch.load(Ordering::Relaxed),
             lacked: self.lacked.load(Ordering::Relaxed),
             sessions: self.sessions.load(Ordering::Relaxed),
+            ready: self.ready.load(Ordering::Relaxed),
         }
     }
 
@@ -80,6 +83,16 @@ impl LiveFigures {
         let lacked = self.commits.load(Ordering::Relaxed).saturating_sub(commits);
         self.last_batch.store(nanoseconds, Ordering::Relaxed);
         self.lacked.store(lacked, Ordering::Relaxed);
+    }
+
+    /// The server takes requests from here on.
+    pub fn begins_to_serve(&self) {
+        self.ready.store(true, Ordering::Relaxed);
+    }
+
+    /// It takes none any more.
+    pub fn has_served(&self) {
+        self.ready.store(false, Ordering::Relaxed);
     }
 
     /// A session begins.

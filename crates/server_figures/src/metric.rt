@@ -9,6 +9,8 @@ use std::fmt;
 /// A figure as a metric of Prometheus, with its value.
 #[derive(Clone, Copy, Debug, PartialEq, Eq)]
 pub enum Metric {
+    /// Whether the server takes requests.
+    Ready(bool),
     /// How many commits there are.
     Commits(u64),
     /// How many refreshes were refused.
@@ -35,6 +37,7 @@ impl Metric {
         ensures { result.now ≡ metric_name self }
     {
         match self {
+            Metric::Ready(_) => "ssb_live_ready",
             Metric::Commits(_) => "ssb_live_commits_total",
             Metric::Refusals(_) => "ssb_live_refusals_total",
             Metric::Answers(_) => "ssb_live_answers_total",
@@ -52,6 +55,7 @@ impl Metric {
         ensures { result.now ≡ metric_help self }
     {
         match self {
+            Metric::Ready(_) => "Whether the server takes requests.",
             Metric::Commits(_) => "Commits, those of the journal among them.",
             Metric::Refusals(_) => "Refreshes that were refused.",
             Metric::Answers(_) => "Questions that were answered.",
@@ -73,7 +77,8 @@ impl Metric {
             Metric::Commits(_) | Metric::Refusals(_) | Metric::Answers(_) | Metric::Batches(_) => {
                 "counter"
             }
-            Metric::LastBatch(_)
+            Metric::Ready(_)
+            | Metric::LastBatch(_)
             | Metric::AnswerLag(_)
             | Metric::Sessions(_)
             | Metric::JournalBytes(_)
@@ -86,6 +91,7 @@ impl Metric {
         ensures { result ≡ metric_amount self }
     {
         match self {
+            Metric::Ready(ready) => u64::from(ready),
             Metric::Commits(amount)
             | Metric::Refusals(amount)
             | Metric::Answers(amount)
@@ -104,7 +110,8 @@ impl Metric {
     {
         match self {
             Metric::LastBatch(_) => "e-9",
-            Metric::Commits(_)
+            Metric::Ready(_)
+            | Metric::Commits(_)
             | Metric::Refusals(_)
             | Metric::Answers(_)
             | Metric::Batches(_)

@@ -51,6 +51,7 @@ impl fmt::Display for Metrics {
 
     fn fmt<W: fmt::Write>(&self, f: &mut fmt::Formatter<W>) -> fmt::Result {
         let figures = self.figures;
+        let ready = Metric::Ready(figures.ready);
         let commits = Metric::Commits(figures.commits);
         let refusals = Metric::Refusals(figures.refusals);
         let answers = Metric::Answers(figures.answers);
@@ -61,7 +62,7 @@ impl fmt::Display for Metrics {
         let journal = WhereKnown(self.journal_bytes.map(Metric::JournalBytes));
         let resident = WhereKnown(self.resident_bytes.map(Metric::ResidentBytes));
         writeln!(f, "{SIGN} figures")?;
-        write!(f, "{commits}{refusals}{answers}{batches}")?;
+        write!(f, "{ready}{commits}{refusals}{answers}{batches}")?;
         write!(f, "{last_batch}{lag}{sessions}")?;
         write!(f, "{journal}{resident}")
     }

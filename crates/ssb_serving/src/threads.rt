@@ -145,5 +145,8 @@ where
     ensures dispatchers { IfOk result (λ ended. AreStill dispatchers.items ended.dispatchers.items) }
 {
     let crew = crew_of(alloc, seats, dispatchers)?;
-    run_in_scope(rt, alloc, server, crew)
+    server.figures().begins_to_serve();
+    let ended = run_in_scope(rt, alloc, server, crew);
+    server.figures().has_served();
+    ended
 }
