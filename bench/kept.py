@@ -81,6 +81,7 @@ class KeptJournal:
         told."""
         expected = f"ssb_live: journal: {reader.count} commits"
         expected += f", {len(reader.torn)} bytes cut off\n" if reader.torn else "\n"
+        expected += "ssb_live: its input has ended after 0 requests\n"
         torn, words = reader.torn, [LIVE, "serve", "--data", self.data, *journal_words(self.path)]
         start = subprocess.run(words, stdin=subprocess.DEVNULL, capture_output=True, text=True, timeout=PATIENCE)
         if start.returncode == 1 and REFUSED.fullmatch(start.stderr) and not has_told:

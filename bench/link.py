@@ -1,0 +1,500 @@
+#!/usr/bin/env python3
+"""follow link --journal FILE --to IN OUT [--second FILE] [WORD..]
+follow link --journal FILE --over COMMAND [--second-over COMMAND] [WORD..]
+
+The link to a second server: reads the journal of a running `ssb_live serve --journal FILE` as it grows, and sends each
+commit as a refresh to client 1 of a second, ordinary server over the same tables, which has a journal of its own. It
+runs on the machine that FILE is on, as a user who may read FILE. It is one file, over the standard library of Python
+3.8 or later: `link.py WORD..` is the same command.
+
+  --journal FILE         the first server's journal; where it is not there yet, the link waits for it
+  --to IN OUT            the pipes of the second's client 1, where they are on this machine
+  --over COMMAND         else a shell's command, from whose input IN is written, and whose output is read from OUT
+  --second FILE          the second's journal, or
+  --second-over COMMAND  a shell's command that writes it to its output: the commits that both have are compared
+  --uncompared           goes on behind the commits that the second has, though nothing shows which these are
+  --once                 sends what the journal has, and ends
+  --ahead N              at most so many refreshes are under way (by default 1000)
+  --every MS             between two looks at the journal (by default 2)
+  --told FILE            adds each `committed N` of the second to FILE
+  --quiet                tells only why it ends
+
+A group is taken where its gate is open, it is whole and its checksum is right; then FILE is synced, and then its
+commits are sent. So the second never has a commit that FILE can lose. Each receipt has to have the commit's number. All
+commits are client 1's on the second: who made one is in FILE alone.
+
+At its start it asks the second how many commits it has, and compares them with the first of FILE, action by action;
+nothing is sent where one differs (`Forked N`, N the first that does). Then it goes on behind them. Where all is quiet,
+the second has to say every five seconds that it has no other commits.
+
+  status 0   a signal (INT, TERM) ended it; with --once: the second has all that FILE has
+         1   a person has to look: Forked N, Refused N, other tables, a damaged journal, a disk that fails
+         2   wrong words
+         3   the link is cut, or no reply came for a minute: start it again, and it goes on
+"""
+import argparse
+import collections
+import errno
+import fcntl
+import hashlib
+import itertools
+import math
+import os
+import re
+import secrets
+import select
+import signal
+import subprocess
+import sys
+import time
+
+GROUP = re.compile(rb"1 (\d{15})\n")        # the open gate and the head of a group
+GROUP_BYTES, CHECKSUM_BYTES = 18, 33
+TABLES = re.compile(rb"ssb_live journal ([12])\n")
+COMMIT, END = re.compile(rb"commit\|\d+\n"), re.compile(rb"^end\n", re.M)
+PART = 1 << 20              # bytes of a journal that are read at once, where no group is longer
+MOST_READ = 1 << 16         # bytes that are read from OUT at once
+SILENCE = 1                 # seconds without a commit, after which the journal is looked at a tenth as often
+BEAT = 5                    # seconds of silence after which the second is asked
+PATIENCE = 60               # seconds without a reply, after which the link counts as cut
+TICK = 0.01                 # seconds between two looks for what is not there yet
+
+
+class Stop(Exception):
+    """Why the link ends, with its status."""
+    status = 1
+
+
+class Cut(Stop):
+    status = 3
+
+
+def forked(number, why):
+    return Stop(f"Forked {number}: {why}")
+
+
+# ---- journals ----
+
+class Journal:
+    """A journal that is read group by group, in a file that may grow meanwhile. `head` is the text of its first group,
+    once it is there; `is_at_end` tells whether the last look found no group more."""
+
+    def __init__(self, path):
+        self.path, self.file, self.end, self.want = path, None, 0, PART
+        self.head, self.groups, self.is_at_end = None, 0, False
+
+    def is_there(self):
+        if self.file is None:
+            try:
+                self.file = os.open(self.path, os.O_RDONLY)
+            except FileNotFoundError:
+                return False
+        return True
+
+    def look(self):
+        """The bytes behind the groups that were read."""
+        return os.pread(self.file, self.want, self.end)
+
+    def read(self):
+        """The texts of the next groups that count, as far as one look has them, but for the first one of all."""
+        content, place, texts = self.look(), 0, []
+        is_short = len(content) < self.want
+        while True:
+            found = GROUP.match(content, place)
+            after = place + GROUP_BYTES + int(found[1]) if found else place
+            if not place < after <= len(content):
+                break
+            texts.append(self.open_group(content[place + GROUP_BYTES:after]))
+            place = after
+        self.want = max(PART, after - place)
+        self.end += place
+        self.is_at_end = not texts and (after == place or is_short)
+        return texts[1:] if texts and texts[0] is self.head else texts
+
+    def open_group(self, group):
+        text = group[CHECKSUM_BYTES:]
+        if group[:CHECKSUM_BYTES] != hashlib.md5(text).hexdigest().encode() + b"\n":
+            raise Stop(f"{self.path} is damaged: group {self.groups} has another checksum")
+        if not self.groups:
+            if not TABLES.match(text):
+                raise Stop(f"{self.path} is no journal, or of a newer program")
+            self.head = text
+        self.groups += 1
+        return text
+
+    def commits(self):
+        """The actions of all commits that there are now."""
+        while True:
+            texts = self.read()
+            if self.is_at_end:
+                return
+            for text in texts:
+                yield from commits_of(text)
+
+    def sync(self):
+        os.fdatasync(self.file)
+
+    def check(self):
+        """It is still the file of its name, and has what was read of it."""
+        mine = os.fstat(self.file)
+        try:
+            there = os.stat(self.path)
+        except FileNotFoundError:
+            there = None
+        if there is None or (there.st_dev, there.st_ino) != (mine.st_dev, mine.st_ino):
+            raise Stop(f"{self.path} is not the file that it was")
+        if mine.st_size < self.end:
+            raise Stop(f"{self.path} is shorter than it was")
+
+
+class JournalOver(Journal):
+    """A journal that a command writes to its output."""
+
+    def __init__(self, command):
+        super().__init__(f"what `{command}` writes")
+        self.command, self.process, self.left, self.start = command, None, b"", 0
+
+    def is_there(self):
+        if self.process is None:
+            self.process = subprocess.Popen(self.command, shell=True, stdin=subprocess.DEVNULL, stdout=subprocess.PIPE)
+        return True
+
+    def look(self):
+        self.left, self.start = self.left[self.end - self.start:], self.end
+        while len(self.left) < self.want:
+            part = self.process.stdout.read(self.want - len(self.left))
+            if not part:
+                break
+            self.left += part
+        return self.left
+
+
+def commits_of(text):
+    """The actions of each commit of a group: its text but for the first record and the last."""
+    *commits, rest = END.split(text)
+    for commit in commits:
+        found = COMMIT.match(commit)
+        if not found or found.end() == len(commit):
+            raise Stop(f"the journal is damaged: {commit[:40]!r} begins no commit")
+        yield commit[found.end():]
+    if rest or not commits:
+        raise Stop("the journal is damaged: a group ends inside a commit")
+
+
+def tables_of(*heads):
+    """What the heads say of their tables: without checksums where one of them is of form 1, which has none."""
+    lines = [head.split(b"\n")[1:] for head in heads]
+    if len({TABLES.match(head)[1] for head in heads}) > 1:
+        lines = [[line.split(b"|")[:3] for line in of_one] for of_one in lines]
+    return lines
+
+
+# ---- the session with the second ----
+
+class Session:
+    """Client 1 of the second: what is still to be written, and the lines of its replies."""
+
+    def __init__(self):
+        self.text, self.part, self.into, self.out = bytearray(), b"", None, None
+
+    def begin(self):
+        for end in (self.into, self.out):
+            os.set_blocking(end, False)
+        self.both = select.poll()
+
+    def close(self):
+        os.close(self.into)
+        os.close(self.out)
+
+    def turn(self, seconds):
+        """Writes and reads what can be at once, or waits so long until something can; the lines that came."""
+        self.both.register(self.out, select.POLLIN)
+        self.both.register(self.into, select.POLLOUT if self.text else 0)
+        ready = dict(self.both.poll(math.ceil(1000 * seconds)))
+        if ready.get(self.into):
+            self.write()
+        return self.read() if self.out in ready else []
+
+    def write(self):
+        try:
+            if self.text:
+                del self.text[:os.write(self.into, self.text[:MOST_READ])]
+        except BlockingIOError:
+            pass
+        except BrokenPipeError:
+            raise Cut("the second has closed IN") from None
+
+    def read(self):
+        try:
+            part = os.read(self.out, MOST_READ)
+        except BlockingIOError:
+            return []
+        if not part:
+            raise Cut("the second has closed OUT")
+        *lines, self.part = (self.part + part).split(b"\n")
+        return lines
+
+
+class Piped(Session):
+    """Over two named pipes of this machine."""
+
+    def __init__(self, into, out, tell):
+        super().__init__()
+        self.out = os.open(out, os.O_RDONLY | os.O_NONBLOCK)
+        try:
+            fcntl.flock(self.out, fcntl.LOCK_EX | fcntl.LOCK_NB)        # as clients/python does
+        except BlockingIOError:
+            raise Stop(f"{out} is in use by another client") from None
+        for turn in itertools.count():
+            try:
+                self.into = os.open(into, os.O_WRONLY | os.O_NONBLOCK)
+                break
+            except OSError as fault:
+                if fault.errno != errno.ENXIO:
+                    raise
+            if turn == 100:
+                tell(f"waits for a server at {into}")
+            time.sleep(TICK)
+        self.begin()
+
+
+class Over(Session):
+    """Over the input and the output of a command."""
+
+    def __init__(self, command):
+        super().__init__()
+        self.process = subprocess.Popen(command, shell=True, stdin=subprocess.PIPE, stdout=subprocess.PIPE, bufsize=0)
+        self.into, self.out = self.process.stdin.fileno(), self.process.stdout.fileno()
+        self.begin()
+
+
+# ---- the link ----
+
+class Link:
+    """`count` is how many commits the second has told of. Behind them `under_way` were sent, and `ready` are to be."""
+
+    def __init__(self, words):
+        self.words, self.journal = words, Journal(words.journal)
+        self.other = None
+        if words.second or words.second_over:
+            self.other = Journal(words.second) if words.second else JournalOver(words.second_over)
+        self.told = open(words.told, "ab", buffering=0) if words.told else None
+        self.ready, self.is_synced, self.are_tables_compared = collections.deque(), True, False
+        self.count = self.under_way = 0
+        self.beat = None            # what the second says if nobody else commits there
+        self.heard = self.grown = time.monotonic()
+
+    def tell(self, text):
+        if not self.words.quiet:
+            print(f"follow: {text}", file=sys.stderr, flush=True)
+
+    def run(self):
+        self.connect()
+        self.wait_for_journal()
+        self.pass_over()
+        self.tell(f"{self.count} commits, then as they come")
+        while not (self.words.once and self.is_even()):
+            self.turn()
+        if not self.journal.head:
+            raise Stop(f"{self.words.journal} has no group of a journal")
+        self.tell(f"{self.count} commits, as many as the journal")
+
+    def is_even(self):
+        return not (self.take() or self.ready or self.under_way or self.beat)
+
+    # the start
+
+    def connect(self):
+        """Opens the session, again where one before it ends just then."""
+        began = time.monotonic()
+        while True:
+            self.session = Piped(*self.words.to, self.tell) if self.words.to else Over(self.words.over)
+            try:
+                self.greet()
+                return
+            except Cut:
+                if not self.words.to or time.monotonic() > began + PATIENCE:
+                    raise
+            self.session.close()
+            time.sleep(TICK)
+
+    def question(self):
+        """A refresh that is always refused, and how: by a key that nobody else can have named."""
+        key = secrets.randbits(63)
+        refusal = re.compile(rb"refused at (\d+) action [12]: 47 Absent %d" % key)
+        return b"begin\nwithdraw|%d\nwithdraw|%d\ncommit\n" % (key, key), refusal
+
+    def greet(self):
+        """Asks how many commits the second has. All that comes before the reply was for a session before this one,
+        which may have left a request unfinished; what it had sent is in that number."""
+        text, refusal = self.question()
+        self.session.text += b"\nabort\n" + text
+        began, found = time.monotonic(), None
+        while not found:
+            for line in self.session.turn(1):
+                found = found or refusal.fullmatch(line)
+            if time.monotonic() > began + PATIENCE:
+                raise Cut(f"the second has not replied in {PATIENCE} s")
+        self.count = int(found[1])
+
+    def wait_for_journal(self):
+        if not self.journal.is_there():
+            if self.words.once:
+                raise Stop(f"there is no {self.words.journal}")
+            self.tell(f"waits for {self.words.journal}")
+        while not self.journal.is_there():
+            self.session.turn(TICK)
+
+    def pass_over(self):
+        """Passes over the commits that the second has, which are compared."""
+        if self.count and not (self.other or self.words.uncompared):
+            raise Stop(f"the second has {self.count} commits: --second says where its journal is")
+        theirs = self.their_commits()
+        number = 0
+        while number < self.count:
+            texts = self.journal.read()
+            if self.journal.is_at_end:
+                raise forked(number + 1, f"the second has {self.count} commits, and {self.words.journal} {number}")
+            self.compare_tables()
+            for actions in itertools.chain.from_iterable(map(commits_of, texts)):
+                if number < self.count:
+                    number += 1
+                    self.compare(number, actions, theirs)
+                else:
+                    self.put(actions)
+        self.compare_tables()
+
+    def compare(self, number, mine, theirs):
+        """A commit with the next one of the second's journal, where that is shown."""
+        other = next(theirs, None) if theirs else mine
+        if other is None:
+            raise Stop(f"{self.other.path} has {number - 1} commits, and the second {self.count}: it is another "
+                       "journal, or an older copy")
+        if other != mine:
+            raise forked(number, "the second has another commit there")
+
+    def their_commits(self):
+        if not self.other:
+            return None
+        if not self.other.is_there():
+            raise Stop(f"there is no {self.other.path}")
+        first = self.other.read()           # with it comes the head
+        return itertools.chain(itertools.chain.from_iterable(map(commits_of, first)), self.other.commits())
+
+    def compare_tables(self):
+        if self.are_tables_compared or self.other is None or self.journal.head is None:
+            return
+        if self.other.head is None:
+            raise Stop(f"{self.other.path} is no journal")
+        mine, theirs = tables_of(self.journal.head, self.other.head)
+        if mine != theirs:
+            raise Stop("the second has other tables")
+        self.are_tables_compared = True
+
+    # as they come
+
+    def turn(self):
+        has_grown = len(self.ready) < self.words.ahead and self.take()
+        now = time.monotonic()
+        self.send(now)
+        pause = self.words.every / 1000 * (10 if now > self.grown + SILENCE and not self.under_way else 1)
+        for line in self.session.turn(0 if has_grown else pause):
+            self.hear(line)
+        if (self.under_way or self.beat) and time.monotonic() > self.heard + PATIENCE:
+            raise Cut(f"the second has not replied in {PATIENCE} s, after {self.count} commits")
+
+    def put(self, actions):
+        self.ready.append(actions)
+        self.is_synced = False
+
+    def take(self):
+        """Takes the commits that are new in the journal; whether there were some."""
+        texts = self.journal.read()
+        self.compare_tables()
+        for text in texts:
+            for actions in commits_of(text):
+                self.put(actions)
+        if texts:
+            self.grown = time.monotonic()
+        return bool(texts)
+
+    def send(self, now):
+        """Puts commits under way, once they are on the disk of the journal; asks where nothing is for long."""
+        if not (self.under_way or self.beat):
+            if not self.ready and now > self.heard + BEAT:
+                self.journal.check()
+                text, self.beat = self.question()
+                self.session.text += text
+            self.heard = now if self.ready or self.beat else self.heard
+        if self.ready and not self.is_synced:
+            self.journal.sync()
+            self.is_synced = True
+        while self.ready and self.under_way < self.words.ahead:
+            self.session.text += b"begin\n" + self.ready.popleft() + b"commit\n"
+            self.under_way += 1
+
+    def hear(self, line):
+        """A reply: the receipt of the next commit, or that nobody else has committed."""
+        self.heard = time.monotonic()
+        asked, self.beat = self.beat, None
+        found = asked.fullmatch(line) if asked else None
+        if found and int(found[1]) == self.count:
+            return
+        if asked or not self.under_way or line != b"committed %d" % (self.count + 1):
+            raise self.wrong(line)
+        self.count += 1
+        self.under_way -= 1
+        if self.told:
+            self.told.write(line + b"\n")
+
+    def wrong(self, line):
+        """What a reply means that is not the one that is due."""
+        text, number = line.decode(errors="replace"), self.count + 1
+        behind = f"; {self.under_way} were under way" if self.under_way else ""
+        if line.startswith((b"committed ", b"refused at ")) and not line.startswith(b"refused at %d " % self.count):
+            return forked(number, f"somebody else commits on the second, which says: {text}{behind}")
+        return Stop(f"Refused {number}: the second says: {text}{behind}")
+
+
+def read_words(words):
+    parser = argparse.ArgumentParser(usage=__doc__, add_help=False)
+    parser.add_argument("--journal")
+    parser.add_argument("--to", nargs=2)
+    parser.add_argument("--over")
+    parser.add_argument("--second")
+    parser.add_argument("--second-over")
+    parser.add_argument("--uncompared", action="store_true")
+    parser.add_argument("--once", action="store_true")
+    parser.add_argument("--ahead", type=int, default=1000)
+    parser.add_argument("--every", type=float, default=2)
+    parser.add_argument("--told")
+    parser.add_argument("--quiet", action="store_true")
+    parser.add_argument("--help", "-h", action="store_true")
+    return parser.parse_args(words)
+
+
+def main(given):
+    words = read_words(given)
+    if words.help:
+        print(__doc__)
+        return 0
+    shown = [bool(words.second), bool(words.second_over), words.uncompared]
+    if not words.journal or bool(words.to) == bool(words.over) or sum(shown) > 1 or words.ahead < 1 or words.every <= 0:
+        print(__doc__, file=sys.stderr)
+        return 2
+    signal.signal(signal.SIGTERM, signal.default_int_handler)
+    try:
+        Link(words).run()
+    except Stop as why:
+        print(f"follow: {why}", file=sys.stderr)
+        return why.status
+    except OSError as why:
+        print(f"follow: {why.filename or 'the journal or the link'}: {why.strerror}", file=sys.stderr)
+        return 1
+    except KeyboardInterrupt:
+        pass
+    return 0
+
+
+if __name__ == "__main__":
+    sys.exit(main(sys.argv[1:]))
