@@ -244,14 +244,16 @@ none_whole file is_none = elim (cases_Bool (is_whole file)) [
 pub taken : (file group : List ℕ) (len : ℕ) → Some len ≡ whole_length file → group ≡ take len (drop 18 file) → IsFirst file group
 taken file group len some is =
     let w = some_whole file len some in
-    let long : 18 + len ≤ length file = omega (arith, (whole_parts file w.0).long, w.1) in
+    let parts = whole_parts file w.0 in
+    let long : 18 + len ≤ length file = omega (arith, parts.long, w.1) in
     let enough : len ≤ length (drop 18 file) = omega (arith, length-drop 18 file) in
     let size : length group ≡ len = ap length is ∙ length-take-le len (drop 18 file) enough in
+    let same : take (told file) (drop 18 file) ≡ group = ap (λ (n : ℕ). take n (drop 18 file)) w.1 ∙ sym is in
     record {
       long = omega (arith, size);
-      groups =
-          recovered-whole file w.0 ∙ ap (λ (n : ℕ). take n (drop 18 file) ∷ recovered (drop (18 + n) file)) w.1
-          ∙ ap (λ (l : List ℕ). l ∷ recovered (drop (18 + len) file)) (sym is) ∙ ap (λ (n : ℕ). group ∷ recovered (drop (18 + n) file)) (sym size);
+      bytes = parts.split ∙ ap (λ (g : List ℕ). block g ++ drop (18 + told file) file) same
+          ∙ ap (λ (n : ℕ). block group ++ drop (18 + n) file) (w.1 ∙ sym size);
+      counts = λ rest. recovered-block group rest (subst IsTold same parts.is_told);
     }
 
 pub none_taken : (file : List ℕ) → None ≡ whole_length file → recovered file ≡ []

@@ -2,3 +2,4 @@ mod DigitLaws
 mod GroupLaws
 pub mod MomentLaws
 mod StepLaws
+mod ReadingLaws

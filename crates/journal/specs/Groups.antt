@@ -61,10 +61,11 @@ at_rest groups = blocks groups ++ 48 ∷ []
 abbrev pub lists : List (Vec ℕ Global) → List (List ℕ)
 lists groups = map (λ group. group.items) groups
 
--- the file begins with this group, behind an open gate
+-- the file begins with this group, behind an open gate, and it counts whatever stands behind it
 pub record IsFirst (file group : List ℕ) : Type 0 where
   pub long : 18 + length group ≤ length file
-  pub groups : recovered file ≡ group ∷ recovered (drop (18 + length group) file)
+  pub bytes : file ≡ block group ++ drop (18 + length group) file
+  pub counts : (rest : List ℕ) → recovered (block group ++ rest) ≡ group ∷ recovered rest
 
 -- the file is whole groups and a closed gate, all of it on the disk
 pub record IsSettled {D : Type 0} (seen : D → List ℕ) (may_leave : D → List ℕ → Type 0) (gated : GatedFile D) : Type 0 where
@@ -91,8 +92,8 @@ IsMending old file =
     (file ≡ take (length file) old)
     ⊎ ((rest : List ℕ) × (file ≡ blocks (recovered old) ++ rest) × (length rest ≤ 1))
 
--- what a crash leaves while a group is appended: the groups before it, and any gate with what stands behind a new group's,
--- or a closed gate with any bytes, no more than that
+-- what a crash leaves while a group is appended: the groups before it, and any gate with what stands behind a new
+-- group's, or a closed gate with any bytes, no more than that
 abbrev pub IsAppending : List (List ℕ) → List ℕ → List ℕ → Type 0
 IsAppending groups group file =
     (gate : ℕ) × (rest : List ℕ) × (file ≡ blocks groups ++ gate ∷ rest)

@@ -1,9 +1,9 @@
 //! A file as the journal sees it: what a read returns, and what a crash may leave.
-ghost use Rattle.std.specs.Prelude.{◌≡◌, ◌≤◌, List, ℕ, length, take, IfOk, OnOk};
+ghost use Rattle.std.specs.Prelude.{◌≡◌, ◌≤◌, List, ℕ, length, take, OnOk};
 ghost use Rattle.journal.specs.declared.disk.DiskError.TheVariants.{OutOfMemory};
 ghost use Rattle.journal.specs.Disk.{Only, Follows, Torn, Cut, Holds, Elapses, LeavesOnly, HasCause};
 
-use std::alloc::{AllocError, AllocFailed, Global};
+use std::alloc::{AllocError, AllocFailed};
 use thiserror::Error;
 
 /// Why a call of a disk, or of a journal on it, failed.
@@ -53,18 +53,6 @@ pub trait Disk {
     /// How often the disk has failed.
     ghost faults: { Self → ℕ };
 
-    /// It can be read as a whole. A file may be so only as it is opened.
-    ghost is_readable: { Self → Type 0 };
-
-    /// All the bytes.
-    fn read(&mut self, alloc: Global) -> Result<Vec<u8>, DiskError>
-        requires { is_readable self.old }
-        ensures bytes { IfOk result (λ bytes. bytes.items ≡ seen self.old) }
-        ensures seen { seen self.new ≡ seen self.old }
-        ensures crash { (c : List ℕ) → may_leave self.new c → may_leave self.old c }
-        ensures time { Elapses (moment self.old) (moment self.new) (left_since self.old) (left_since self.new) (may_leave self.new) }
-        ensures cause { HasCause (faults self.old) (faults self.new) result };
-
     /// Writes over what is there, and past the end. Until a sync, a crash may leave any bytes in the range.
     fn write_at(&mut self, at: usize, bytes: &[u8]) -> Result<(), DiskError>
         requires { at ≤ length (seen self.old) }
@@ -94,19 +82,6 @@ pub trait Disk {
 
     /// Since this moment there is no other.
     ghost only_now: { (file : Self) (c : List ℕ) → left_since file (moment file) c → may_leave file c };
-}
-
-/// Reads a file that is on the disk.
-pub(crate) fn read_through<D: Disk>(alloc: Global, disk: &mut D) -> Result<Vec<u8>, DiskError>
-    requires readable { D.is_readable disk.old }
-    requires durable { Only (D.seen disk.old) (D.may_leave disk.old) }
-    ensures bytes { IfOk result (λ bytes. bytes.items ≡ D.seen disk.old) }
-    ensures seen { D.seen disk.new ≡ D.seen disk.old }
-    ensures durable { Only (D.seen disk.new) (D.may_leave disk.new) }
-    ensures any_moment { LeavesOnly D.moment D.left_since disk.old disk.new (λ c. c ≡ D.seen disk.old) }
-    ensures cause { HasCause (D.faults disk.old) (D.faults disk.new) result }
-{
-    disk.read(alloc)
 }
 
 /// Writes, and waits until that is on the disk.

@@ -11,7 +11,7 @@ pub(crate) const OPEN: u8 = b'1';
 pub const CLOSED: u8 = b'0';
 
 /// The bytes of a gate and a head.
-const HEAD: usize = 18;
+pub(crate) const HEAD: usize = 18;
 
 fn push_digits(out: &mut Vec<u8>, number: usize, count: u8) -> Result<(), AllocError>
     ensures { OnOk result (out.new.items ≡ out.old.items ++ digits count number) }
@@ -63,49 +63,11 @@ fn whole_len(alloc: Global, file: &[u8]) -> Result<Option<usize>, AllocError>
 }
 
 /// The first group of a file, if it counts.
-fn first_group(alloc: Global, file: &[u8]) -> Result<Option<Vec<u8>>, AllocError>
+pub(crate) fn first_group(alloc: Global, file: &[u8]) -> Result<Option<Vec<u8>>, AllocError>
     ensures { IfOk result (λ found. MatchOption found (recovered file.now ≡ []) (λ group. IsFirst file.now group.items)) }
 {
     match whole_len(alloc, file)? {
         None => Ok(None),
         Some(len) => Ok(Some(file[HEAD..HEAD + len].to_vec(alloc)?)),
     }
-}
-
-/// What a file holds.
-#[derive(Drop)]
-pub struct Contents {
-    /// The groups that it stands for.
-    pub groups: Vec<Vec<u8>>,
-    /// The bytes behind them, which a mend cuts off. A closed gate alone, where no crash has torn the file.
-    pub rest: Vec<u8>,
-}
-
-impl Contents {
-    /// What a crash has torn: the bytes behind the groups, unless they are a closed gate alone.
-    pub fn torn(&self) -> &[u8]
-        ensures at_rest { self.now.rest.items ≡ 48 ∷ [] → result.now ≡ [] }
-        ensures torn { self.now.rest.items ≢ 48 ∷ [] → result.now ≡ self.now.rest.items }
-    {
-        match self.rest.as_slice() {
-            [CLOSED] => &[],
-            rest => rest,
-        }
-    }
-}
-
-/// The contents of a file with these bytes, and how far its groups reach.
-pub(crate) fn read_groups(alloc: Global, bytes: &[u8]) -> Result<(Contents, usize), AllocError>
-    ensures groups { IfOk result (λ read. lists read.0.groups.items ≡ recovered bytes.now) }
-    ensures rest { IfOk result (λ read. read.0.rest.items ≡ behind bytes.now) }
-    ensures end { IfOk result (λ read. read.1 ≡ length (blocks (recovered bytes.now))) }
-{
-    let mut groups = Vec::new(alloc);
-    let mut end = 0;
-    while let Some(group) = first_group(alloc, &bytes[end..])? {
-        end += HEAD + group.len();
-        groups.push(group)?;
-    }
-    let rest = bytes[end..].to_vec(alloc)?;
-    Ok((Contents { groups, rest }, end))
 }

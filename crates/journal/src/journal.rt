@@ -3,9 +3,7 @@ ghost use Rattle.std.specs.Prelude.{◌≡◌, ◌<◌, ◌≤◌, ◌^◌, ◌+
 ghost use Rattle.journal.specs.Disk.{Only, LeavesOnly};
 ghost use Rattle.journal.specs.Groups.{recovered, blocks, behind, at_rest, lists, AreTorn, IsSettled, IsBeforeOrAfter, IsMending, IsAppending};
 
-use crate::disk::read_through;
 use crate::gated::{GatedFile, repair};
-use crate::groups::{Contents, read_groups};
 use crate::torn::KeepsTorn;
 use crate::{Disk, DiskError};
 use std::alloc::Global;
@@ -41,44 +39,14 @@ impl<D: Disk> Model for Journal<D> {
     ghost invariant = { λ journal. IsSettled D.seen D.may_leave journal.file };
 }
 
-// What a file holds, and how far its groups reach.
-fn contents_of<D: Disk>(alloc: Global, disk: &mut D) -> Result<(Contents, usize), DiskError>
-    requires readable { D.is_readable disk.old }
-    requires durable { Only (D.seen disk.old) (D.may_leave disk.old) }
-    ensures groups { IfOk result (λ read. lists read.0.groups.items ≡ recovered (D.seen disk.old)) }
-    ensures rest { IfOk result (λ read. read.0.rest.items ≡ behind (D.seen disk.old)) }
-    ensures end { IfOk result (λ read. read.1 ≡ length (blocks (recovered (D.seen disk.old)))) }
-    ensures seen { D.seen disk.new ≡ D.seen disk.old }
-    ensures durable { Only (D.seen disk.new) (D.may_leave disk.new) }
-    ensures any_moment { LeavesOnly D.moment D.left_since disk.old disk.new (λ c. c ≡ D.seen disk.old) }
-    ensures failed { IfErr result (λ e. e ≡ DiskError.Failed → D.faults disk.old < D.faults disk.new) }
-    ensures full { IfErr result (λ e. e ≡ DiskError.Full → ⊥) }
-{
-    let bytes = read_through(alloc, disk)?;
-    Ok(read_groups(alloc, &bytes)?)
-}
-
 impl<D: Disk> Found<D> {
-    /// Reads a file that a crash may have left, and changes nothing. An `Err` hands the disk back.
-    pub fn read(alloc: Global, mut disk: D) -> Result<(Found<D>, Contents), (DiskError, D)>
-        requires readable { D.is_readable disk }
-        // After a restart, what is read is what is on the disk.
+    /// A file whose groups reach so far.
+    pub(crate) fn new(disk: D, end: usize) -> Found<D>
+        requires end { end ≡ length (blocks (recovered (D.seen disk))) }
         requires durable { Only (D.seen disk) (D.may_leave disk) }
-        ensures groups { IfOk result (λ read. lists read.1.groups.items ≡ recovered (D.seen disk)) }
-        ensures rest { IfOk result (λ read. read.1.rest.items ≡ behind (D.seen disk)) }
-        ensures same { IfOk result (λ read. D.seen read.0 ≡ D.seen disk) }
-        // A crash at any moment leaves the file as it was.
-        ensures any_moment { IfOk result (λ read. LeavesOnly D.moment D.left_since disk read.0
-            (λ c. c ≡ D.seen disk)) }
-        ensures any_moment_err { IfErr result (λ e. LeavesOnly D.moment D.left_since disk e.1
-            (λ c. c ≡ D.seen disk)) }
-        ensures failed { IfErr result (λ e. e.0 ≡ DiskError.Failed → D.faults disk < D.faults e.1) }
-        ensures full { IfErr result (λ e. e.0 ≡ DiskError.Full → ⊥) }
+        ensures { result ≡ disk }
     {
-        match contents_of(alloc, &mut disk) {
-            Ok((contents, end)) => Ok((Found { disk, end }, contents)),
-            Err(error) => Err((error, disk)),
-        }
+        Found { disk, end }
     }
 
     /// Cuts off what stands behind the groups, and makes it a journal. It takes evidence that what a crash has torn is

@@ -12,18 +12,20 @@
 //!
 //! [`Journal::append`] writes a group behind the closed gate, syncs, opens the gate by a write of its own, and syncs.
 //! So a crash at any moment leaves the groups from before, with the new one whole or without it; at `Ok` each crash
-//! from then on leaves a file that has it. [`Found::read`] reads the groups and changes nothing; [`Found::mend`] then
-//! cuts off what a crash has torn, and takes evidence that this is kept elsewhere ([`KeepsTorn`]). Both may crash too,
-//! at any moment, and the file then stands for the same groups.
+//! from then on leaves a file that has it. [`UnreadJournal`] reads the groups one after another, of a file that cannot
+//! be written yet ([`UnreadDisk`]); [`Found::mend`] then cuts off what a crash has torn, and takes evidence that this
+//! is kept elsewhere ([`KeepsTorn`]). It may crash too, at any moment, and the file then stands for the same groups.
 //!
-//! The contract speaks of a [`Disk`] with a clock: what a read returns, what a crash at this moment may leave, and
+//! The contract speaks of a [`Disk`] with a clock: what its file holds, what a crash at this moment may leave, and
 //! what a crash at some moment since might have left (`specs/Disk`). Until a sync, a crash may leave any bytes in the
 //! range of a write, and any length between. `specs/Groups` says what a file stands for; `specs/Calls` is a disk as
 //! the list of its calls, for those who make one.
 //!
 //! ```text
-//! let (found, contents) = Found::read(alloc, disk)?;      // look at contents.groups before anything is written
-//! let kept = keeper.keep_torn(contents.torn().to_vec(alloc)?)?;
+//! let mut unread = UnreadJournal::new(alloc, file);
+//! while let Some(group) = unread.next_group(alloc)? {..}  // look at each before anything is written
+//! let (found, torn) = unread.into_found();
+//! let kept = keeper.keep_torn(torn)?;
 //! let mut journal = found.mend::<Keeper>(&kept)?;
 //! journal = journal.append(alloc, b"insert 1\n")?;        // on the disk
 //! ```
@@ -33,10 +35,14 @@ mod disk;
 mod gated;
 mod groups;
 mod journal;
+mod reading;
 mod torn;
+mod unread;
 
 pub use disk::{Disk, DiskError};
 pub use gated::{MAX_GROUP, behind_gate};
-pub use groups::{CLOSED, Contents};
+pub use groups::CLOSED;
 pub use journal::{Found, Journal};
+pub use reading::UnreadJournal;
 pub use torn::KeepsTorn;
+pub use unread::UnreadDisk;

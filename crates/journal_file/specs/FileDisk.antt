@@ -1,10 +1,8 @@
--- What a `FileDisk` shows.
-use Rattle.std.specs.Prelude.{IsSome}
-use Rattle.journal.specs.Disk.{Only}
-use Rattle.journal.specs.Calls.{seen_after, left_after}
-use Rattle.journal_file.specs.declared.file_disk.FileDisk.{FileDisk}
+-- What a file shows that was just opened.
+use Rattle.std.specs.Prelude.{◌≡◌, []}
+use Rattle.journal_file.specs.declared.file_disk.UnreadFile.{UnreadFile}
 
--- it has just been opened, can be read, and is on the disk as it reads
-pub record IsFresh {O : Type 0} (f : FileDisk O) : Type 0 where
-  pub readable : IsSome f.first
-  pub durable : Only (seen_after f.transcript.calls) (left_after f.transcript.calls)
+-- nothing was read of it, and no read has failed
+pub record IsFresh {O : Type 0} (f : UnreadFile O) : Type 0 where
+  pub unread : f.parts.items ≡ []
+  pub whole : f.faults.items ≡ []

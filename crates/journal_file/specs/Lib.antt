@@ -1,2 +1,3 @@
 pub mod FileDisk
 pub mod Missing
+pub mod Parts

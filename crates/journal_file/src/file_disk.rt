@@ -1,13 +1,14 @@
 //! Each method makes one call of the system, and then notes it with its answer.
-ghost use Rattle.std.specs.Prelude.{◌≡◌, length, IsSome, IfOk, IfErr};
-ghost use Rattle.std.specs.Option.{ForSome};
+ghost use Rattle.std.specs.Prelude.{◌≡◌, ◌+◌, length, true, None, IfOk, IfErr};
 ghost use Rattle.journal.specs.Calls.{seen_after, left_after, left_during, failures, counts, only};
 ghost use Rattle.journal_file.specs.Missing.{NamesMissing};
+ghost use Rattle.journal_file.specs.Parts.{bytes_of, calls_on};
 ghost use Rattle.journal_file.specs.declared.file_disk.OpenError.TheVariants.{Io};
 
 use crate::no_journal::NoJournal;
 use crate::transcript::Transcript;
-use journal::{Disk, DiskError};
+use ghost_list::GhostList;
+use journal::{Disk, DiskError, UnreadDisk};
 use std::alloc::Global;
 use std::fs::{self, File, OpenFile, OpenOptions, TryLockError};
 use std::io::{self, ErrorKind, Read};
@@ -85,15 +86,26 @@ impl JournalFile for File {
     }
 }
 
-/// A file of the operating system. After a call that fails, each further one fails.
+/// A file of the operating system that was read to its end. After a call that fails, each further one fails.
 #[derive(Drop)]
 pub struct FileDisk<O: Drop> {
     file: O,
-    /// What it held as it was opened, until that is read or changed.
-    first: Option<Vec<u8>>,
     is_failed: bool,
+    // What it held as it was opened, part by part, and the calls since. No memory holds them.
+    first: GhostList<Vec<u8>>,
     transcript: Transcript,
-    ghost same: { ForSome first (λ bytes. bytes.items ≡ seen_after transcript.calls) },
+}
+
+/// A file of the operating system that was opened, and is read part by part. After a read that fails, each further one
+/// fails.
+#[derive(Drop)]
+pub struct UnreadFile<O: Drop> {
+    file: O,
+    is_failed: bool,
+    is_ended: bool,
+    // What was read, part by part, and how often that failed. No memory holds them.
+    parts: GhostList<Vec<u8>>,
+    faults: GhostList<DiskError>,
 }
 
 /// Syncs the folder in which this path lies, so that its name is on the disk.
@@ -105,16 +117,13 @@ pub fn sync_name<R: Files>(files: &R, path: &str) -> io::Result<()> {
     fs::open(files, folder)?.sync_all()
 }
 
-impl<O: Read + OpenFile + JournalFile + Drop> FileDisk<O> {
+impl<O: Read + OpenFile + JournalFile + Drop> UnreadFile<O> {
     ghost use Rattle.journal_file.specs.FileDisk.{IsFresh};
     ghost use Rattle.journal_file.specs.Missing.{IsOfAFile};
 
-    /// Opens a journal's file, and makes it where there is none. It is locked until the result is dropped.
-    pub fn make<R: Files<File = O>>(
-        files: &R,
-        alloc: Global,
-        path: &str,
-    ) -> Result<FileDisk<O>, OpenError>
+    /// Opens a journal's file, and makes it where there is none. It is locked until the result is dropped, or what is
+    /// made of it.
+    pub fn make<R: Files<File = O>>(files: &R, path: &str) -> Result<UnreadFile<O>, OpenError>
         ensures fresh { IfOk result IsFresh }
         ensures made { IfErr result IsOfAFile }
     {
@@ -123,7 +132,7 @@ impl<O: Read + OpenFile + JournalFile + Drop> FileDisk<O> {
             .write(true)
             .create(true)
             .open(files, path)?;
-        Self::locked(files, alloc, path, file)
+        Self::locked(files, path, file)
     }
 
     /// Opens a journal's file that is there; where there is none, none is made. It is locked likewise.
@@ -131,12 +140,12 @@ impl<O: Read + OpenFile + JournalFile + Drop> FileDisk<O> {
         files: &R,
         alloc: Global,
         path: &str,
-    ) -> Result<FileDisk<O>, OpenError>
+    ) -> Result<UnreadFile<O>, OpenError>
         ensures fresh { IfOk result IsFresh }
         ensures missing { IfErr result (NamesMissing path.now) }
     {
         match OpenOptions::new().read(true).write(true).open(files, path) {
-            Ok(file) => Self::locked(files, alloc, path, file),
+            Ok(file) => Self::locked(files, path, file),
             Err(error) => Err(OpenError::of_path(alloc, path, error)),
         }
     }
@@ -146,67 +155,113 @@ impl<O: Read + OpenFile + JournalFile + Drop> FileDisk<O> {
         files: &R,
         alloc: Global,
         path: &str,
-    ) -> Result<FileDisk<O>, OpenError>
+    ) -> Result<UnreadFile<O>, OpenError>
         ensures fresh { IfOk result IsFresh }
         ensures missing { IfErr result (NamesMissing path.now) }
     {
         match fs::open(files, path) {
-            Ok(file) => Self::locked(files, alloc, path, file),
+            Ok(file) => Self::locked(files, path, file),
             Err(error) => Err(OpenError::of_path(alloc, path, error)),
         }
     }
 
-    // Locks a file that was just opened, and reads it.
+    // Locks a file that was just opened, and syncs it, so that what is read of it is on the disk.
     fn locked<R: Files<File = O>>(
         files: &R,
-        alloc: Global,
         path: &str,
-        mut file: O,
-    ) -> Result<FileDisk<O>, OpenError>
+        file: O,
+    ) -> Result<UnreadFile<O>, OpenError>
         ensures fresh { IfOk result IsFresh }
         ensures there { IfErr result IsOfAFile }
     {
         file.lock_alone()?;
         file.sync_all()?;
         sync_name(files, path)?;
-        let mut bytes = Vec::new(alloc);
-        file.read_to_end(&mut bytes)?;
-        let transcript = Transcript::new(&bytes);
-        Ok(FileDisk {
+        Ok(UnreadFile {
             file,
-            first: Some(bytes),
             is_failed: false,
-            transcript,
+            is_ended: false,
+            parts: GhostList::new(),
+            faults: GhostList::new(),
         })
+    }
+
+    // Notes that a read has failed.
+    fn failed(&mut self) -> DiskError
+        ensures fault { result ≡ DiskError.Failed }
+        ensures noted { length self.new.faults.items ≡ length self.old.faults.items + 1 }
+        ensures same { self.new.parts.items ≡ self.old.parts.items }
+    {
+        self.is_failed = true;
+        self.faults.push(&DiskError::Failed);
+        DiskError::Failed
+    }
+}
+
+impl<O: Read + OpenFile + JournalFile + Drop> UnreadDisk for UnreadFile<O> {
+    type Whole = FileDisk<O>;
+
+    ghost taken = { λ f. bytes_of f.parts.items };
+
+    ghost is_ended = { λ f. f.is_ended ≡ true };
+
+    // What it holds is in no contract.
+    ghost holds = { λ _. None };
+
+    ghost faults = { λ f. length f.faults.items };
+
+    ghost as_known = { λ _. tt };
+
+    #[tactic(auto, using(crate::proofs::PartLaws::bytes_more))]
+    fn read_next(&mut self, alloc: Global, most: usize) -> Result<Vec<u8>, DiskError> {
+        if self.is_failed {
+            return Err(self.failed());
+        }
+        let mut part = vec![in alloc; 0; most]?;
+        match self.file.read(part.as_mut_slice()) {
+            Ok(count) => {
+                part.truncate(count);
+                self.is_ended = part.is_empty();
+                self.parts.push(&part);
+                Ok(part)
+            },
+            Err(_) => Err(self.failed()),
+        }
+    }
+
+    fn into_whole(self) -> FileDisk<O> {
+        let UnreadFile {
+            file,
+            is_failed,
+            is_ended: _,
+            parts,
+            faults: _,
+        } = self;
+        FileDisk {
+            file,
+            is_failed,
+            first: parts,
+            transcript: Transcript::new(),
+        }
     }
 }
 
 impl<O: OpenFile + JournalFile + Drop> Disk for FileDisk<O> {
-    ghost seen = { λ f. seen_after f.transcript.calls };
+    ghost seen = { λ f. seen_after (calls_on f.first.items f.transcript.calls) };
 
-    ghost may_leave = { λ f. left_after f.transcript.calls };
+    ghost may_leave = { λ f. left_after (calls_on f.first.items f.transcript.calls) };
 
-    ghost moment = { λ f. length f.transcript.calls };
+    ghost moment = { λ f. length (calls_on f.first.items f.transcript.calls) };
 
-    ghost left_since = { λ f. left_during f.transcript.calls };
+    ghost left_since = { λ f. left_during (calls_on f.first.items f.transcript.calls) };
 
-    ghost faults = { λ f. failures f.transcript.calls };
+    ghost faults = { λ f. failures (calls_on f.first.items f.transcript.calls) };
 
-    ghost is_readable = { λ f. IsSome f.first };
+    ghost counts_now = { λ f. counts (calls_on f.first.items f.transcript.calls) };
 
-    ghost counts_now = { λ f. counts f.transcript.calls };
-
-    ghost only_now = { λ f. only f.transcript.calls };
-
-    fn read(&mut self, _alloc: Global) -> Result<Vec<u8>, DiskError> {
-        match self.first.take() {
-            Some(bytes) => Ok(bytes),
-            None => unreachable!(),
-        }
-    }
+    ghost only_now = { λ f. only (calls_on f.first.items f.transcript.calls) };
 
     fn write_at(&mut self, at: usize, bytes: &[u8]) -> Result<(), DiskError> {
-        self.first = None;
         if !self.is_failed && self.file.write_all_at(bytes, at as u64).is_ok() {
             self.transcript.wrote(at as u64, bytes, true);
             Ok(())
@@ -218,7 +273,6 @@ impl<O: OpenFile + JournalFile + Drop> Disk for FileDisk<O> {
     }
 
     fn cut(&mut self, len: usize) -> Result<(), DiskError> {
-        self.first = None;
         if !self.is_failed && self.file.set_len(len as u64).is_ok() {
             self.transcript.trimmed(len as u64, true);
             Ok(())

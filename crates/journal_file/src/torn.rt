@@ -13,8 +13,8 @@ pub fn torn_path(alloc: Global, path: &str) -> Result<String, AllocError> {
     format!(in alloc; "{path}.torn")
 }
 
-/// The evidence that bytes are in the file `PATH.torn`, which was synced: [`keep_torn`] alone makes it. To a contract it
-/// is the bytes.
+/// The evidence that bytes are in the file `PATH.torn`, which was synced: [`keep_torn`] alone makes it. To a contract
+/// it is the bytes.
 #[derive(Drop)]
 pub struct TornFile {
     bytes: Vec<u8>,

@@ -1,7 +1,7 @@
 //! The calls on a file, which only clauses read: no memory holds them.
 ghost use Rattle.std.specs.Prelude.{◌≡◌, List, [], ◌∷◌};
 ghost use Rattle.std.specs.Borrow.{ftrue};
-ghost use Rattle.journal.specs.Calls.{Call, opened, wrote, trimmed, synced};
+ghost use Rattle.journal.specs.Calls.{Call, wrote, trimmed, synced};
 
 use std::marker::{Model, PhantomData};
 
@@ -17,9 +17,9 @@ impl Model for Transcript {
 }
 
 impl Transcript {
-    /// Of a file that was opened with these bytes, all of them on the disk.
-    pub(crate) fn new(_bytes: &[u8]) -> Transcript
-        ensures { result.calls ≡ opened _bytes.now ∷ [] }
+    /// Of a file on which no call was made.
+    pub(crate) fn new() -> Transcript
+        ensures { result.calls ≡ [] }
     {
         Transcript {
             marker: PhantomData,

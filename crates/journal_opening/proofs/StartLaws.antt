@@ -1,5 +1,5 @@
 -- Why a journal is not gone on with, or does not begin.
-use Rattle.std.proofs.Common.{ℕ, List, [], inl, inr, refl, subst, sym}
+use Rattle.std.proofs.Common.{◌≡◌, ◌∙◌, ℕ, List, [], ◌∷◌, ◌++◌, length, inl, inr, refl, subst, sym, ap, arith}
 use Rattle.std.specs.Prelude.{◌≢◌}
 use Rattle.journal.specs.Groups.{behind, recovered}
 use Rattle.journal_opening.specs.Opens.{HasSome, IsHasBytes, IsNotNew, IsStartFault, TellsStartFault}
@@ -7,13 +7,18 @@ use Rattle.journal_opening.specs.declared.fault.OpeningFault.{OpeningFault}
 use Rattle.journal_opening.specs.declared.fault.OpeningFault.TheVariants as opening
 use Rattle.journal_opening.specs.declared.start.JournalStart.{JournalStart}
 use Rattle.journal_opening.specs.declared.start.JournalStart.TheVariants.{GoesOn, Begins}
-use Rattle.ssb_journal.specs.Opening.{IsKept, IsOpenFault, TellsOpenFault}
+use Rattle.row_store.specs.History.{CommitRecord}
+use Rattle.ssb_journal.specs.Kept.{BeginsWithCommits}
+use Rattle.ssb_journal.specs.Opening.{IsOpenFault, TellsOpenFault}
 use Rattle.ssb_journal.specs.declared.fault.JournalFault.{JournalFault}
 use Rattle.ssb_journal.specs.declared.fault.JournalFault.TheVariants.{OutOfMemory}
 use Rattle.ssb_journal.specs.declared.head.TableMark.{TableMark}
 use Rattle.ssb_journal.specs.declared.opening.JournalOpenFault.{JournalOpenFault}
 use Rattle.ssb_journal.specs.declared.opening.JournalOpenFault.TheVariants as kept
-use Rattle.ssb_journal.specs.declared.opening.KeptCommits.{KeptCommits}
+
+none_behind : (before batch : List CommitRecord) → before ++ batch ≡ [] → batch ≡ []
+none_behind [] batch none = none
+none_behind (commit ∷ before) batch none = absurd (omega (arith, ap length none))
 
 module _ (path : List ℕ) (marks : List TableMark) (file : List ℕ) where
   -- what is told where no journal begins with a file
@@ -40,16 +45,8 @@ module _ (path : List ℕ) (marks : List TableMark) (file : List ℕ) where
   start_told Begins (kept.Journal fault) told (inr (not, has)) tells =
       has_told told has (inr (fault, open_fault fault not tells))
 
-  -- a file that keeps commits has some
-  pub has_some : (kept : KeptCommits) → IsKept marks (recovered file) kept → kept.commits.items ≢ []
-      → HasSome marks file
-  has_some kept (inl new) some = absurd (some new.2)
-  has_some kept (inr is) some = (
-    kept.commits.items,
-    inl (record {
-      texts = is.1.texts;
-      is_journal = (kept.form, is.1.sealed);
-      spelled = is.1.spelled;
-    }),
-    some,
-  )
+  -- a file that begins with commits has some, where the last that were read are some
+  pub has_some : (before batch commits : List CommitRecord) → commits ≡ before ++ batch → batch ≢ []
+      → BeginsWithCommits marks commits file → HasSome marks file
+  has_some before batch commits is some begins =
+      (commits, begins, λ none. some (none_behind before batch (sym is ∙ none)))

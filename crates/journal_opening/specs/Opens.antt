@@ -3,12 +3,12 @@ use Rattle.std.specs.Prelude.{◌≡◌, ◌≢◌, ◌⊎◌, ℕ, List, [], st
 use Rattle.journal.specs.Groups.{behind, recovered}
 use Rattle.journal_file.specs.declared.file_disk.OpenError.{OpenError}
 use Rattle.journal_file.specs.declared.file_disk.OpenError.TheVariants as open_error
-use Rattle.journal_opening.specs.Kept.{HasCommits}
 use Rattle.journal_opening.specs.declared.fault.OpeningFault.{OpeningFault}
 use Rattle.journal_opening.specs.declared.fault.OpeningFault.TheVariants as opening
 use Rattle.journal_opening.specs.declared.start.JournalStart.{JournalStart}
 use Rattle.journal_opening.specs.declared.start.JournalStart.TheVariants.{GoesOn, Begins}
 use Rattle.row_store.specs.History.{CommitRecord}
+use Rattle.ssb_journal.specs.Kept.{BeginsWithCommits}
 use Rattle.ssb_journal.specs.Opening.{IsOpenFault, TellsOpenFault}
 use Rattle.ssb_journal.specs.declared.fault.JournalFault.{JournalFault}
 use Rattle.ssb_journal.specs.declared.fault.JournalFault.TheVariants.{OutOfMemory}
@@ -21,11 +21,11 @@ abbrev pub TellsMissing : Type 0 → OpenError → Type 0
 TellsMissing Missing (open_error.NoJournal told) = Missing
 TellsMissing Missing _ = Unit {0}
 
--- a file has commits over tables of these marks
+-- a file begins with a journal over tables of these marks, which has commits
 abbrev pub HasSome : List TableMark → List ℕ → Type 0
-HasSome marks file = (commits : List CommitRecord) × HasCommits marks commits file × (commits ≢ [])
+HasSome marks file = (commits : List CommitRecord) × BeginsWithCommits marks commits file × (commits ≢ [])
 
--- no journal begins with the file: it has commits over tables of these marks, or is no journal over them
+-- no journal begins with the file: one has, which has commits over tables of these marks, or it is none over them
 abbrev pub IsNotNew : List TableMark → List ℕ → Type 0
 IsNotNew marks file =
     HasSome marks file ⊎ ((fault : JournalFault) × IsOpenFault marks (recovered file) (behind file) fault)

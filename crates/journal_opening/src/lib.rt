@@ -2,20 +2,23 @@
 //!
 //! ```text
 //! base, layout and bytes of its files, checksums ── table_marks ─▶ marks, which a journal's head tells
-//! path ── OpensJournal ─▶ disk, which can be read and is on the disk as it reads
-//! disk, marks ── open_started ─▶ what the file keeps; where a journal begins, no commits
+//! path ── OpensJournal ─▶ file, of which nothing was read
+//! file, marks ── StartedJournal ─▶ its commits, some after some; where a journal begins, none
 //! no file, file in use, other tables, damage, a refused commit ── OpeningFault ─▶ status 1; a failed call, memory ─▶ 4
 //! ```
 //!
 //! The contract of [`OpeningFault`] is its status (`specs/Status`), that of [`table_marks`] the tables in their order,
 //! their layout, the rows of each and the checksum of their text (`specs/Marks`). How many bytes were read is in no
-//! contract. That of [`open_started`] is what the file keeps, and why it is refused, where a journal is gone on with and
-//! where one begins (`specs/Opens`); whatever comes of it, the file is as it was. Who [`OpensJournal`] may know what the file holds before it is opened, and then the contracts above name
-//! it; of a [`JournalPath`] nothing is known.
+//! contract. That of a [`StartedJournal`] is what the file keeps so far, and why it is refused, where a journal is
+//! gone on with and where one begins (`specs/Opens`); nothing can be written meanwhile. Who [`OpensJournal`] may
+//! know what the file holds before it is opened, and then the contracts above name it (`proofs/KnownLaws` has what is
+//! so of each file, of the known one); of a [`JournalPath`] nothing is known.
 //!
 //! ```text
 //! let marks = table_marks(&base, layout, &bytes, &checksums);
-//! let opened = open_started(alloc, &marks, place.start(), place.path(), disk).map_err(|(fault, _)| fault)?;
+//! let mut started = StartedJournal::open(alloc, &marks, place.start(), place.path(), file)?;
+//! loop { match started.next(alloc) { .. } }              // until there are no more commits
+//! let OpenedJournal { found, kept, torn } = started.finish();
 //! ```
 #![tactic(auto)]
 
@@ -29,6 +32,6 @@ mod start;
 pub use fault::OpeningFault;
 pub use form::tell_form;
 pub use marks::table_marks;
-pub use opened::open_started;
+pub use opened::StartedJournal;
 pub use opens::{JournalPath, OpensJournal, ReadPath};
 pub use start::JournalStart;

@@ -1,18 +1,19 @@
-//! A journal's file that was just opened, read and looked at.
+//! A journal's file that was just opened, as it is read: whether a journal may go on with it, or begin with it.
 
-ghost use Rattle.std.specs.Prelude.{◌≡◌, ◌≢◌, [], true, false, IfOk, IfErr};
-ghost use Rattle.journal.specs.Disk.{Only, LeavesOnly};
+ghost use Rattle.std.specs.Prelude.{◌≡◌, ◌≢◌, ◌<◌, ◌^◌, ◌++◌, [], List, ℕ, true, false, IfOk, IfErr, IfSome, IsSome, MatchOption};
+ghost use Rattle.journal.specs.Disk.{BeginsAsRead};
 ghost use Rattle.journal.specs.Groups.{recovered, behind, AreTorn};
 ghost use Rattle.journal_opening.specs.Opens.{IsHasBytes, IsStartFault, TellsStartFault};
 ghost use Rattle.journal_opening.specs.declared.start.JournalStart.TheVariants.{Begins};
+ghost use Rattle.ssb_journal.specs.Kept.{BeginsWithCommits};
 ghost use Rattle.ssb_journal.specs.Opening.{IsKept};
 ghost use Rattle.ssb_journal.specs.Texts.{IsBeginning};
 
 use crate::fault::OpeningFault;
 use crate::start::JournalStart;
-use journal::Disk;
+use journal::UnreadDisk;
 use row_store::Commit;
-use ssb_journal::{JournalFault, JournalOpenFault, OpenedJournal, TableMark, open};
+use ssb_journal::{JournalFault, JournalOpenFault, JournalReader, OpenedJournal, TableMark, open};
 use std::alloc::Global;
 
 // A journal is to begin, and cannot with the file of this path.
@@ -53,36 +54,117 @@ fn may_start(start: JournalStart, commits: &[Commit]) -> bool
     }
 }
 
-/// Reads a journal's file that was just opened from this path, and looks at all of it: whether it may be gone on with, or
-/// a journal may begin with it. Nothing is written. An `Err` hands the disk back.
-pub fn open_started<D: Disk>(
-    alloc: Global,
-    marks: &[TableMark],
-    start: JournalStart,
-    path: &str,
-    disk: D,
-) -> Result<OpenedJournal<D>, (OpeningFault, D)>
-    requires readable { D.is_readable disk }
-    requires durable { Only (D.seen disk) (D.may_leave disk) }
-    ensures kept { IfOk result (λ opened. IsKept marks.now (recovered (D.seen disk)) opened.kept) }
-    ensures beginning { IfOk result (λ opened. opened.kept.is_new ≡ true
-        → IsBeginning marks.now (behind (D.seen disk))) }
-    ensures same { IfOk result (λ opened. D.seen opened.found ≡ D.seen disk) }
-    ensures torn { IfOk result (λ opened. AreTorn (D.seen disk) opened.torn.items) }
-    ensures new { IfOk result (λ opened. start ≡ Begins → opened.kept.commits.items ≡ []) }
-    ensures fault { IfErr result (λ e. TellsStartFault start path.now marks.now (D.seen disk) e.0) }
-    // A crash at any moment leaves the file as it was.
-    ensures any_moment { IfOk result (λ opened. LeavesOnly D.moment D.left_since disk opened.found
-        (λ c. c ≡ D.seen disk)) }
-    ensures any_moment_err { IfErr result (λ e. LeavesOnly D.moment D.left_since disk e.1
-        (λ c. c ≡ D.seen disk)) }
-{
-    let opened = match open(alloc, marks, disk) {
-        Ok(opened) => opened,
-        Err((fault, disk)) => return Err((start_fault(alloc, start, path, fault), disk)),
-    };
-    if !may_start(start, &opened.kept.commits) {
-        return Err((has_bytes(alloc, path), opened.found.into_disk()));
+/// A journal's file that is read as its journal is gone on with, or begins: then it has no commits.
+#[derive(Drop)]
+pub struct StartedJournal<'a, U: UnreadDisk> {
+    pub reader: JournalReader<'a, U>,
+    pub start: JournalStart,
+    /// The path of the file.
+    pub path: &'a str,
+    pub ghost new: { start ≡ Begins → reader.commits ≡ [] },
+}
+
+impl<'a, U: UnreadDisk> StartedJournal<'a, U> {
+    /// Begins to read a journal's file that was just opened from this path, and looks at its head: whether it may be
+    /// gone on with, or a journal may begin with it. Nothing is written. An `Err` hands the file back, as far as it
+    /// was read.
+    pub fn open(
+        alloc: Global,
+        marks: &'a [TableMark],
+        start: JournalStart,
+        path: &'a str,
+        file: U,
+    ) -> Result<StartedJournal<'a, U>, (OpeningFault, U)>
+        requires { U.taken file ≡ [] }
+        ensures marks { IfOk result (λ started. started.reader.marks ≡ marks.now) }
+        ensures none { IfOk result (λ started. started.reader.commits ≡ []) }
+        ensures known { IfOk result (λ started. U.holds started.reader.unread ≡ U.holds file) }
+        ensures start { IfOk result (λ started. (started.start ≡ start) × (started.path.now ≡ path.now)) }
+        // The fault is one of each file that begins with what was read.
+        ensures fault { IfErr result (λ e. (whole : List ℕ) → BeginsAsRead (U.taken e.1) (U.is_ended e.1) whole
+            → TellsStartFault start path.now marks.now whole e.0) }
+        ensures known_err { IfErr result (λ e. U.holds e.1 ≡ U.holds file) }
+    {
+        match open(alloc, marks, file) {
+            Ok(reader) => Ok(StartedJournal {
+                reader,
+                start,
+                path,
+            }),
+            Err((fault, file)) => Err((start_fault(alloc, start, path, fault), file)),
+        }
     }
-    Ok(opened)
+
+    /// The next commits; none at the end. Where a journal begins with the file, it may have none. The first fault of
+    /// the file is told, and an `Err` hands the file back, as far as it was read.
+    pub fn next(
+        self,
+        alloc: Global,
+    ) -> Result<(StartedJournal<'a, U>, Option<Vec<Commit>>), (OpeningFault, U)>
+        ensures commits { IfOk result (λ next. MatchOption next.1
+            ((next.0.reader.commits ≡ self.entry.reader.commits) × (next.0.reader.is_done ≡ true))
+            (λ batch. next.0.reader.commits ≡ self.entry.reader.commits ++ batch.items)) }
+        ensures same { IfOk result (λ next. (next.0.reader.marks ≡ self.entry.reader.marks)
+            × (next.0.reader.form ≡ self.entry.reader.form) × (next.0.reader.is_new ≡ self.entry.reader.is_new)) }
+        ensures start { IfOk result (λ next. (next.0.start ≡ self.entry.start)
+            × (next.0.path.now ≡ self.entry.path.now)) }
+        ensures more { IfOk result (λ next. IsSome next.1
+            → (self.entry.reader.texts < next.0.reader.texts) × (next.0.reader.texts < 2 ^ 60)) }
+        // Each file that begins with what was read begins with a journal of the commits so far.
+        ensures kept { IfOk result (λ next. IsSome next.1 → (whole : List ℕ)
+            → BeginsAsRead (U.taken next.0.reader.unread) (U.is_ended next.0.reader.unread) whole
+            → BeginsWithCommits self.entry.reader.marks next.0.reader.commits whole) }
+        ensures known { IfOk result (λ next. U.holds next.0.reader.unread ≡ U.holds self.entry.reader.unread) }
+        // The fault is one of each such file.
+        ensures fault { IfErr result (λ e. (whole : List ℕ) → BeginsAsRead (U.taken e.1) (U.is_ended e.1) whole
+            → TellsStartFault self.entry.start self.entry.path.now self.entry.reader.marks whole e.0) }
+        ensures known_err { IfErr result (λ e. U.holds e.1 ≡ U.holds self.entry.reader.unread) }
+    {
+        let StartedJournal {
+            reader,
+            start,
+            path,
+        } = self;
+        let (reader, found) = match reader.next(alloc) {
+            Ok(next) => next,
+            Err((fault, file)) => return Err((start_fault(alloc, start, path, fault), file)),
+        };
+        let Some(commits) = found else {
+            let started = StartedJournal {
+                reader,
+                start,
+                path,
+            };
+            return Ok((started, None));
+        };
+        if !may_start(start, &commits) {
+            return Err((has_bytes(alloc, path), reader.into_unread()));
+        }
+        let started = StartedJournal {
+            reader,
+            start,
+            path,
+        };
+        Ok((started, Some(commits)))
+    }
+
+    /// What the file keeps, where all was read, and what a crash has torn of it.
+    pub fn finish(self) -> OpenedJournal<U::Whole>
+        requires { self.reader.is_done ≡ true }
+        ensures kept { IsKept self.entry.reader.marks (recovered (U.Whole.seen result.found)) result.kept }
+        ensures commits { result.kept.commits.items ≡ self.entry.reader.commits }
+        ensures form { result.kept.form ≡ self.entry.reader.form }
+        ensures beginning { result.kept.is_new ≡ true
+            → IsBeginning self.entry.reader.marks (behind (U.Whole.seen result.found)) }
+        ensures new { self.entry.start ≡ Begins → result.kept.commits.items ≡ [] }
+        ensures torn { AreTorn (U.Whole.seen result.found) result.torn.items }
+        ensures known { IfSome (U.holds self.entry.reader.unread) (λ file. U.Whole.seen result.found ≡ file) }
+    {
+        let StartedJournal {
+            reader,
+            start: _,
+            path: _,
+        } = self;
+        reader.finish()
+    }
 }

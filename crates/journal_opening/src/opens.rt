@@ -1,22 +1,23 @@
 //! Where a journal is: a file that is opened once the tables are loaded.
-ghost use Rattle.std.specs.Prelude.{◌≡◌, ℕ, List, Option, None, IfOk, IfErr, IsErrOf};
-ghost use Rattle.journal.specs.Disk.{Only};
-ghost use Rattle.journal_opening.specs.Kept.{IsKnown};
+ghost use Rattle.std.specs.Prelude.{◌≡◌, ℕ, List, [], Option, None, IfOk, IfErr, IsErrOf};
 ghost use Rattle.journal_opening.specs.Opens.{TellsMissing};
 ghost use Rattle.journal_opening.specs.declared.start.JournalStart.{JournalStart as Start};
 ghost use Rattle.journal_opening.specs.declared.start.JournalStart.TheVariants.{GoesOn};
 
 use crate::start::JournalStart;
-use journal::{Disk, KeepsTorn};
-use journal_file::{FileDisk, JournalFile, OpenError, TornFile, keep_torn};
+use journal::{Disk, KeepsTorn, UnreadDisk};
+use journal_file::{FileDisk, JournalFile, OpenError, TornFile, UnreadFile, keep_torn};
 use std::alloc::Global;
 use std::io;
 use std::rt::Files;
 
 /// Where a journal is: its file is opened once the tables are loaded.
 pub trait OpensJournal {
-    /// The file, opened.
-    type Opened: Disk + Drop;
+    /// The file, once it was read to its end.
+    type Disk: Disk + Drop;
+
+    /// The file, of which nothing was read.
+    type Opened: UnreadDisk<Whole = Self::Disk> + Drop;
 
     /// What the file holds, where that is known before it is opened.
     ghost holds: { Self → Option (List ℕ) };
@@ -37,11 +38,10 @@ pub trait OpensJournal {
     fn start(&self) -> JournalStart
         ensures { result ≡ starts self.now };
 
-    /// Opens the file: it can be read, and is on the disk as it reads.
+    /// Opens the file: nothing was read of it.
     fn open(&self, alloc: Global) -> Result<Self::Opened, OpenError>
-        ensures readable { IfOk result Self.Opened.is_readable }
-        ensures durable { IfOk result (λ disk. Only (Self.Opened.seen disk) (Self.Opened.may_leave disk)) }
-        ensures held { IfOk result (λ disk. IsKnown (holds self.now) (Self.Opened.seen disk)) }
+        ensures unread { IfOk result (λ file. Self.Opened.taken file ≡ []) }
+        ensures held { IfOk result (λ file. Self.Opened.holds file ≡ holds self.now) }
         ensures taken { IsErrOf result OpenError.InUse → is_taken self.now }
         ensures missing { IfErr result (TellsMissing (is_missing self.now)) };
 }
@@ -60,7 +60,9 @@ impl<'a, F: Files> OpensJournal for JournalPath<'a, F>
 where
     F::File: JournalFile,
 {
-    type Opened = FileDisk<F::File>;
+    type Disk = FileDisk<F::File>;
+
+    type Opened = UnreadFile<F::File>;
 
     ghost holds = { λ _. None };
 
@@ -78,10 +80,10 @@ where
         self.start
     }
 
-    fn open(&self, alloc: Global) -> Result<FileDisk<F::File>, OpenError> {
+    fn open(&self, alloc: Global) -> Result<UnreadFile<F::File>, OpenError> {
         match self.start {
-            JournalStart::GoesOn => FileDisk::open(self.files, alloc, self.path),
-            JournalStart::Begins => FileDisk::make(self.files, alloc, self.path),
+            JournalStart::GoesOn => UnreadFile::open(self.files, alloc, self.path),
+            JournalStart::Begins => UnreadFile::make(self.files, self.path),
         }
     }
 }
@@ -108,7 +110,9 @@ impl<'a, F: Files> OpensJournal for ReadPath<'a, F>
 where
     F::File: JournalFile,
 {
-    type Opened = FileDisk<F::File>;
+    type Disk = FileDisk<F::File>;
+
+    type Opened = UnreadFile<F::File>;
 
     ghost holds = { λ _. None };
 
@@ -126,7 +130,7 @@ where
         JournalStart::GoesOn
     }
 
-    fn open(&self, alloc: Global) -> Result<FileDisk<F::File>, OpenError> {
-        FileDisk::open_to_read(self.files, alloc, self.path)
+    fn open(&self, alloc: Global) -> Result<UnreadFile<F::File>, OpenError> {
+        UnreadFile::open_to_read(self.files, alloc, self.path)
     }
 }

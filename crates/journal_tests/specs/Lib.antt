@@ -1,3 +1,4 @@
 pub mod DiskCalls
 pub mod TearingDisks
+pub mod UnreadFiles
 pub mod OwnCommits

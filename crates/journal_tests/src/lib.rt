@@ -6,7 +6,7 @@
 //! disk as `journal` speaks of one. Of what it makes of a crash no clause speaks: tests alone ask for it.
 //!
 //! ```text
-//! let disk = TearingDisk::new(alloc, b"", None)?;      // a journal is opened on it, and commits are appended
+//! let file = UnreadTearing::new(alloc, b"", None)?;    // a journal is read of it, and commits are appended
 //! let file = disk.crashed(17, 3)?;                     // a crash once 17 calls have begun, drawn by the seed 3
 //! ```
 #![tactic(auto)]
@@ -15,5 +15,7 @@ mod tearing;
 mod tearing_disk;
 #[cfg(test)]
 mod tests;
+mod unread_tearing;
 
 pub use tearing_disk::{DiskCall, TearingDisk};
+pub use unread_tearing::UnreadTearing;

@@ -1,5 +1,5 @@
 //! A disk in memory that a crash may tear: it keeps its calls, so that what a crash leaves can be made of them.
-ghost use Rattle.std.specs.Prelude.{◌≡◌, ⊤, length, IfOk};
+ghost use Rattle.std.specs.Prelude.{◌≡◌, ◌≤◌, length, take, drop, IfOk};
 ghost use Rattle.journal.specs.Calls.{seen_after, left_after, left_during, failures, counts, only};
 ghost use Rattle.journal_tests.specs.DiskCalls.{calls_of};
 
@@ -61,6 +61,20 @@ impl TearingDisk {
         })
     }
 
+    // The bytes from a place on, so many at most.
+    pub(crate) fn part(
+        &self,
+        alloc: Global,
+        place: usize,
+        most: usize,
+    ) -> Result<Vec<u8>, AllocError>
+        requires { place ≤ length (disk_bytes self.now) }
+        ensures part { IfOk result (λ part. part.items ≡ take most (drop place (disk_bytes self.now))) }
+    {
+        let rest = &self.bytes[place..];
+        rest[..most.min(rest.len())].to_vec(alloc)
+    }
+
     /// How many writes, cuts and syncs there were.
     pub fn calls(&self) -> usize {
         self.calls.len()
@@ -120,15 +134,9 @@ impl Disk for TearingDisk {
 
     ghost faults = { λ d. failures (calls_of d.first.items d.calls) };
 
-    ghost is_readable = { λ d. ⊤ };
-
     ghost counts_now = { λ d. counts (calls_of d.first.items d.calls) };
 
     ghost only_now = { λ d. only (calls_of d.first.items d.calls) };
-
-    fn read(&mut self, alloc: Global) -> Result<Vec<u8>, DiskError> {
-        Ok(Vec::from_slice(alloc, &self.bytes)?)
-    }
 
     fn write_at(&mut self, at: usize, bytes: &[u8]) -> Result<(), DiskError> {
         if self.refuses() {

@@ -1,4 +1,5 @@
 mod crashes;
+mod faults;
 mod own_log;
 mod refusals;
 mod runs;

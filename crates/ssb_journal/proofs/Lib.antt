@@ -1,8 +1,9 @@
 pub mod SealLaws
 mod HeadLaws
 mod NewerLaws
-mod TextLaws
 pub mod KeptLaws
 pub mod CountLaws
 mod NewLaws
 mod TogetherLaws
+mod ReadingLaws
+mod ReplayLaws

@@ -7,7 +7,7 @@ use Rattle.std.specs.List.{starts_with, flat_map}
 use Rattle.std.proofs.lemmas.Bool.{both_ways}
 use Rattle.std.proofs.lemmas.Bool.Decides.{Decides-eqb}
 use Rattle.std.proofs.lemmas.Grind.{flat_map-append}
-use Rattle.std.proofs.lemmas.List.{append-nil, length-take, length-map}
+use Rattle.std.proofs.lemmas.List.{append-nil, length-append, length-take, length-map}
 use Rattle.std.proofs.lemmas.Option.{slice_get_within, get_or_from_slice_get}
 use Rattle.std.proofs.lemmas.Slice.Eq.{starts_is}
 use Rattle.journal.specs.Disk.{LeavesOnly}
@@ -137,7 +137,8 @@ module _ (marks : List TableMark) where
   no_fault_new groups rest fault none begins (inl (inl damaged)) = damaged_none groups fault none damaged
   no_fault_new groups rest fault none begins (inl (inr (inl other))) = other.2 begins
   no_fault_new groups rest fault none begins (inl (inr (inr other))) = absurd (omega (arith, ap length (sym none ∙ other.are)))
-  no_fault_new groups rest fault none begins (inr batch) = absurd (omega (arith, ap length (sym none ∙ batch.sealed)))
+  no_fault_new groups rest fault none begins (inr batch) =
+      absurd (omega (arith, ap length (sym none ∙ batch.are), ap length batch.sealed, length-append batch.first_groups batch.more))
 
   -- the head and no texts
   pub no_fault_head : (form : HeadForm) (groups : List (List ℕ)) (rest : List ℕ) (fault : JournalFault) → groups ≡ sealed (head_text form marks) ∷ [] → IsOpenFault marks groups rest fault → ⊥
@@ -147,7 +148,7 @@ module _ (marks : List TableMark) where
       let same : head_text form marks ≡ other.head = sealed-injective (head_text form marks) other.head (ap (λ (gs : List (List ℕ)). get_or gs 0 []) (sym is ∙ other.are)) in
       head_is_told form fault (subst (λ (text : List ℕ). IsHeadFault marks text fault) (sym same) other.told)
   no_fault_head form groups rest fault is (inr batch) =
-      absurd (omega (arith, ap length (sym is ∙ batch.sealed), length-map batch.texts sealed, slice_get_within batch.texts batch.first.place batch.first.text batch.first.is))
+      absurd (omega (arith, ap length (sym is ∙ batch.are), length-append batch.first_groups batch.more, ap length batch.sealed, length-map batch.texts sealed, slice_get_within batch.texts batch.first.place batch.first.text batch.first.is))
 
 pub if_both_ok : {T E : Type 0} (result : Result T E) (P Q R : T → Type 0) → IfOk result P → IfOk result Q → ((t : T) → P t → Q t → R t) → IfOk result R
 if_both_ok (Ok t) P Q R p q means = means t p q

@@ -53,7 +53,7 @@ spell_together most texts text trace batch joined closed spells none same =
     (nothing trace.answers none) in
     record { batches = each.0; spelled = spell_zip most texts each.0 each.1; whole = each.2 ∙ sym same }
 
-zip_both : {A B : Type 0} (R : A → B → Type 0) (xs zs : List A) (ys ws : List B) → AllZip R xs ys → AllZip R zs ws
+pub zip_both : {A B : Type 0} (R : A → B → Type 0) (xs zs : List A) (ys ws : List B) → AllZip R xs ys → AllZip R zs ws
     → AllZip R (xs ++ zs) (ys ++ ws)
 zip_both R [] zs [] ws a b = b
 zip_both R [] zs (y ∷ ys) ws a b = absurd a

@@ -34,8 +34,8 @@ pub record Begun : Type 1 where
 abbrev pub nothing_said : Begun
 nothing_said = record { moment = 0; count = 0; past = λ _ _. Unit {0} }
 
--- a crash at some moment leaves what one might have left when the journal was begun, or a journal of the first commits of
--- a log, at least as many as it kept then
+-- a crash at some moment leaves what one might have left when the journal was begun, or a journal of the first commits
+-- of a log, at least as many as it kept then
 pub record KeepsSince (begun : Begun) (now : ℕ) (left_since : ℕ → List ℕ → Type 0) (count : ℕ) (log : List CommitRecord)
     : Type 0 where
   pub later : begun.moment ≤ now

@@ -4,7 +4,8 @@ use Rattle.std.specs.List.{AllZip, flat_map}
 use Rattle.journal.specs.Groups.{recovered}
 use Rattle.row_store.specs.History.{CommitRecord}
 use Rattle.ssb_journal.specs.Seals.{sealed}
-use Rattle.ssb_journal.specs.Texts.{IsJournalOf}
+use Rattle.ssb_journal.specs.Texts.{AreSealed, IsJournalOf}
+use Rattle.ssb_journal.specs.declared.head.HeadForm.{HeadForm}
 use Rattle.ssb_journal.specs.declared.head.TableMark.{TableMark}
 use Rattle.ssb_audit.specs.declared.trace.Trace.{Trace}
 use Rattle.ssb_script.specs.declared.error.ScriptError.{ScriptError}
@@ -32,6 +33,16 @@ pub record SpellCommits (texts : List (List ℕ)) (commits : List CommitRecord) 
 pub record KeepsCommits (marks : List TableMark) (commits : List CommitRecord) (file : List ℕ) : Type 0 where
   pub texts : List (List ℕ)
   pub is_journal : IsJournalOf marks texts file
+  pub spelled : SpellCommits texts commits
+
+-- a file begins with a journal over tables of these marks, which keeps these commits
+pub record BeginsWithCommits (marks : List TableMark) (commits : List CommitRecord) (file : List ℕ) : Type 0 where
+  pub first : List (List ℕ)
+  pub more : List (List ℕ)
+  pub groups : recovered file ≡ first ++ more
+  pub form : HeadForm
+  pub texts : List (List ℕ)
+  pub sealed : AreSealed form marks texts first
   pub spelled : SpellCommits texts commits
 
 -- a file keeps these commits, with the new ones all or without them

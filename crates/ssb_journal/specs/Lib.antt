@@ -6,3 +6,5 @@ pub mod Opening
 pub mod Replays
 pub mod Counts
 pub mod Turns
+pub mod Reading
+pub mod Gathered

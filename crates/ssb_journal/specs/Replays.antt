@@ -6,6 +6,8 @@ use Rattle.row_store.specs.Legal.{IsLegal}
 use Rattle.row_store.specs.Refusals.{refusal_of}
 use Rattle.ssb_journal.specs.declared.replaying.ReplayFault.{ReplayFault}
 use Rattle.ssb_journal.specs.declared.replaying.ReplayFault.TheVariants.{Refused, OutOfMemory}
+use Rattle.row_store.specs.declared.refusal.ApplyError.{ApplyError}
+use Rattle.row_store.specs.declared.refusal.ApplyError.TheVariants as apply
 use Rattle.row_store.specs.declared.refusal.Cause.{Cause}
 
 -- a commit, counted from 1, is refused with this action and cause after those before it, which are legal
@@ -21,3 +23,8 @@ pub record IsFirstRefused (base : Tables) (commits : List CommitRecord) (number 
 abbrev pub IsReplayFault : Tables → List CommitRecord → ReplayFault → Type 0
 IsReplayFault base commits (Refused number action cause) = IsFirstRefused base commits number action cause
 IsReplayFault base commits OutOfMemory = Unit {0}
+
+-- what is told where the refresh of a commit is not applied
+abbrev pub not_applied : ℕ → ApplyError → ReplayFault
+not_applied number (apply.Refused refusal) = Refused number refusal.action refusal.cause
+not_applied number apply.OutOfMemory = OutOfMemory

@@ -62,8 +62,8 @@ IsOtherFile marks groups rest fault =
 -- the first group has another head
 pub record HasOtherHead (marks : List TableMark) (groups : List (List ℕ)) (fault : JournalFault) : Type 0 where
   pub head : List ℕ
-  pub texts : List (List ℕ)
-  pub are : groups ≡ map sealed (head ∷ texts)
+  pub more : List (List ℕ)
+  pub are : groups ≡ sealed head ∷ more
   pub told : IsHeadFault marks head fault
 
 -- why groups, with the bytes behind them, are no journal over these tables

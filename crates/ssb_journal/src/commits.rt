@@ -70,8 +70,8 @@ fn push_all(commits: &mut Vec<Commit>, batch: Vec<Commit>) -> Result<(), AllocEr
     Ok(())
 }
 
-// The most bytes of texts that are read together, by one reader of records.
-const MOST_TOGETHER: usize = 65_536;
+/// The most bytes of texts that are read together, by one reader of records.
+pub(crate) const MOST_TOGETHER: usize = 65_536;
 
 // The first byte of a byte order mark.
 const MARK: u8 = 0xEF;

@@ -4,7 +4,7 @@ ghost use Rattle.journal.specs.Groups.{recovered, behind};
 ghost use Rattle.row_store.specs.History.{CommitRecord, IsPrefix};
 ghost use Rattle.ssb_journal.specs.declared.fault.JournalFault.{JournalFault};
 ghost use Rattle.ssb_journal.specs.declared.head.TableMark.{TableMark};
-ghost use Rattle.ssb_journal.specs.declared.opening.KeptCommits.{KeptCommits};
+ghost use Rattle.ssb_journal.specs.declared.kept.KeptCommits.{KeptCommits};
 ghost use Rattle.ssb_journal.specs.Counts.{KeepsFirst};
 ghost use Rattle.ssb_journal.specs.Kept.{KeepsCommits};
 ghost use Rattle.ssb_journal.specs.Opening.{IsKept, IsOpenFault};

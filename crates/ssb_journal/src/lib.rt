@@ -9,10 +9,10 @@
 //! ```
 //!
 //! [`append_commits`] writes commits as one group: their text, as a trace has it, behind the line of its checksum.
-//! [`open`] reads a file, looks at all of it and writes nothing: it gives the commits that the file keeps, or tells why
-//! it is no journal over these tables. [`replay`] makes them again over the tables, or names the first that is refused.
-//! Then what a crash has torn is kept elsewhere; with evidence of that, [`begin`] cuts it off, and writes the head of a
-//! new journal.
+//! [`open`] looks at the head of a file, and a [`JournalReader`] gives the commits that the file keeps, some after
+//! some, or tells the first fault of it; nothing is written. [`replay`] makes them again over the tables, or names the
+//! first that is refused. At the end, what a crash has torn is kept elsewhere; with evidence of that, [`begin`] cuts
+//! it off, and writes the head of a new journal.
 //!
 //! The contract: a file keeps these commits (`specs/Kept`: `KeepsCommits`) where its groups are the head of these
 //! tables and texts that spell the commits, in order. It keeps one list only (`laws::one_list_of_commits`), so what is
@@ -29,8 +29,10 @@
 //! back as a [`LeftLog`]: whatever crashes then, so many commits are on the disk (`IsLeft`).
 //!
 //! ```text
-//! let OpenedJournal { found, kept, torn } = open(alloc, &marks, disk)?;
-//! let store = replay(alloc, base, hashing, &kept.commits)?;
+//! let mut reader = open(alloc, &marks, file)?;
+//! .. = reader.next(alloc)?;                                     // until none come; each time
+//! replay(&mut store, &commits)?;
+//! let OpenedJournal { found, kept, torn } = reader.finish();
 //! let torn = keeper.keep_torn(torn)?;
 //! let journal = begin::<D, Keeper>(alloc, &marks, found, kept.is_new, &torn)?;
 //! let shared = SharedJournal::new(JournaledLog::new(journal, source, count));
@@ -45,9 +47,11 @@ mod commits;
 mod fault;
 mod head;
 mod journaled_log;
+mod kept;
 pub mod laws;
 mod on_disk;
 mod opening;
+mod reading;
 mod replaying;
 mod shared_journal;
 mod source;
@@ -58,9 +62,10 @@ pub use checksum::{CHECKSUM_LINE, seal};
 pub use fault::JournalFault;
 pub use head::{HeadForm, TableMark, head_of};
 pub use journaled_log::{JournaledLog, LeftLog};
+pub use kept::KeptCommits;
 pub use on_disk::OnDisk;
-pub use opening::{JournalOpenFault, KeptCommits, OpenedJournal, begin, open};
+pub use opening::{JournalOpenFault, OpenedJournal, begin};
+pub use reading::{JournalReader, open};
 pub use replaying::{ReplayFault, replay};
 pub use shared_journal::{JournalFailed, SharedJournal};
 pub use source::LogSource;
-pub use texts::{JournalTexts, texts_of};

@@ -1,19 +1,17 @@
-//! A journal's file, read and looked at before anything is written, and then begun.
-ghost use Rattle.std.specs.Prelude.{◌≡◌, ◌⊎◌, ◌<◌, ◌^◌, [], length, true, false, IfOk, IfErr};
-ghost use Rattle.journal.specs.Disk.{Only, LeavesOnly};
-ghost use Rattle.journal.specs.Groups.{recovered, behind, lists, AreTorn};
+//! A journal's file that was read to its end, and then is begun.
+ghost use Rattle.std.specs.Prelude.{◌≡◌, ◌<◌, ◌^◌, [], length, true, false, IfOk, IfErr};
+ghost use Rattle.journal.specs.Disk.{LeavesOnly};
+ghost use Rattle.journal.specs.Groups.{recovered, behind, AreTorn};
 ghost use Rattle.ssb_journal.specs.Heads.{new_head};
 ghost use Rattle.ssb_journal.specs.Seals.{sealed};
 ghost use Rattle.ssb_journal.specs.Texts.{IsBeginning, IsJournalOf, IsNewJournal};
-ghost use Rattle.ssb_journal.specs.Kept.{IsAsItWasOrNew, KeepsCommits};
-ghost use Rattle.ssb_journal.specs.Opening.{IsKept, IsOpenFault, TellsOpenFault};
+ghost use Rattle.ssb_journal.specs.Kept.{IsAsItWasOrNew};
 
-use crate::commits::commits_of;
 use crate::fault::JournalFault;
 use crate::head::{HeadForm, TableMark};
-use crate::texts::{JournalTexts, head_group, texts_of};
-use journal::{Contents, Disk, DiskError, Found, Journal, KeepsTorn, MAX_GROUP};
-use row_store::Commit;
+use crate::kept::KeptCommits;
+use crate::texts::head_group;
+use journal::{Disk, DiskError, Found, Journal, KeepsTorn, MAX_GROUP};
 use std::alloc::Global;
 use thiserror::Error;
 
@@ -26,42 +24,6 @@ pub enum JournalOpenFault {
     Journal(JournalFault),
 }
 
-/// What a journal's file keeps.
-#[derive(Drop)]
-pub struct KeptCommits {
-    /// Its commits, in order.
-    pub commits: Vec<Commit>,
-    /// The form of its head: whether it knows the tables by their checksums.
-    pub form: HeadForm,
-    /// Whether it is a new one, which has no head yet.
-    pub is_new: bool,
-}
-
-// The commits that the contents of a file keep.
-fn kept_in(
-    alloc: Global,
-    marks: &[TableMark],
-    contents: &Contents,
-) -> Result<KeptCommits, JournalFault>
-    ensures kept { IfOk result (IsKept marks.now (lists contents.now.groups.items)) }
-    ensures beginning { IfOk result (λ kept. kept.is_new ≡ true → IsBeginning marks.now contents.now.rest.items) }
-    ensures fault { IfErr result (λ fault. (fault ≡ JournalFault.OutOfMemory)
-        ⊎ IsOpenFault marks.now (lists contents.now.groups.items) contents.now.rest.items fault) }
-{
-    match texts_of(alloc, marks, &contents.groups, &contents.rest)? {
-        None => Ok(KeptCommits {
-            commits: Vec::new(alloc),
-            form: HeadForm::Checksums,
-            is_new: true,
-        }),
-        Some(JournalTexts { form, texts }) => Ok(KeptCommits {
-            commits: commits_of(alloc, &texts)?,
-            form,
-            is_new: false,
-        }),
-    }
-}
-
 /// A journal's file that was read and is unchanged.
 #[derive(Drop)]
 pub struct OpenedJournal<D: Disk> {
@@ -71,48 +33,8 @@ pub struct OpenedJournal<D: Disk> {
     pub torn: Vec<u8>,
 }
 
-/// Reads a journal's file, and looks at all of it; nothing is written. An `Err` hands the disk back.
-pub fn open<D: Disk>(
-    alloc: Global,
-    marks: &[TableMark],
-    disk: D,
-) -> Result<OpenedJournal<D>, (JournalOpenFault, D)>
-    requires readable { D.is_readable disk }
-    // After a restart, what is read is what is on the disk.
-    requires durable { Only (D.seen disk) (D.may_leave disk) }
-    ensures kept { IfOk result (λ opened. IsKept marks.now (recovered (D.seen disk)) opened.kept) }
-    ensures beginning { IfOk result (λ opened. opened.kept.is_new ≡ true
-        → IsBeginning marks.now (behind (D.seen disk))) }
-    ensures same { IfOk result (λ opened. D.seen opened.found ≡ D.seen disk) }
-    ensures torn { IfOk result (λ opened. AreTorn (D.seen disk) opened.torn.items) }
-    ensures fault { IfErr result (λ e. TellsOpenFault marks.now (D.seen disk) e.0) }
-    ensures failed { IfErr result (λ e. e.0 ≡ JournalOpenFault.Disk DiskError.Failed
-        → D.faults disk < D.faults e.1) }
-    ensures full { IfErr result (λ e. e.0 ≡ JournalOpenFault.Disk DiskError.Full → ⊥) }
-    // A crash at any moment leaves the file as it was.
-    ensures any_moment { IfOk result (λ opened. LeavesOnly D.moment D.left_since disk opened.found
-        (λ c. c ≡ D.seen disk)) }
-    ensures any_moment_err { IfErr result (λ e. LeavesOnly D.moment D.left_since disk e.1
-        (λ c. c ≡ D.seen disk)) }
-{
-    let (found, contents) = match Found::read(alloc, disk) {
-        Ok(read) => read,
-        Err((error, disk)) => return Err((JournalOpenFault::Disk(error), disk)),
-    };
-    match kept_in(alloc, marks, &contents) {
-        Ok(kept) => match contents.torn().to_vec(alloc) {
-            Ok(torn) => Ok(OpenedJournal { found, kept, torn }),
-            Err(_) => Err((
-                JournalOpenFault::Disk(DiskError::OutOfMemory),
-                found.into_disk(),
-            )),
-        },
-        Err(fault) => Err((JournalOpenFault::Journal(fault), found.into_disk())),
-    }
-}
-
-/// Cuts off what a crash has torn, and writes the head of a new journal: then commits can be appended. It takes evidence
-/// that what it cuts off is kept. An `Err` hands the disk back.
+/// Cuts off what a crash has torn, and writes the head of a new journal: then commits can be appended. It takes
+/// evidence that what it cuts off is kept. An `Err` hands the disk back.
 pub fn begin<D: Disk, T: KeepsTorn>(
     alloc: Global,
     marks: &[TableMark],

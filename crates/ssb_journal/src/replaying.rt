@@ -1,13 +1,10 @@
 //! The commits of a journal, made again over the tables.
-ghost use Rattle.std.specs.Prelude.{◌≡◌, IfOk, IfErr};
-ghost use Rattle.row_store.specs.Legal.{IsLegal};
-ghost use Rattle.ssb_journal.specs.Replays.{IsReplayFault};
+ghost use Rattle.std.specs.Prelude.{◌≡◌, ◌++◌, IfErr, OnOk};
+ghost use Rattle.ssb_journal.specs.Replays.{not_applied, IsReplayFault};
 ghost use Rattle.ssb_journal.specs.declared.replaying.ReplayFault.TheVariants.{OutOfMemory};
 
 use row_store::{ApplyError, Cause, Commit, Refusal, RowStore};
-use ssb_base::Base;
-use std::alloc::{AllocError, Global};
-use std::hash::RandomState;
+use std::alloc::AllocError;
 use std::sync::Arc;
 use thiserror::Error;
 
@@ -35,34 +32,34 @@ impl From<AllocError> for ReplayFault {
     }
 }
 
-/// A row store over the base whose log is these commits, where they are a legal history; else the first that is
-/// refused.
-pub fn replay(
-    alloc: Global,
-    base: Arc<Base>,
-    hashing: RandomState,
-    commits: &[Commit],
-) -> Result<RowStore, ReplayFault>
-    ensures store { IfOk result (λ store. store ≡ record { base = base.value; log = commits.now }) }
-    ensures legal { IfOk result (λ _. IsLegal base.value commits.now) }
-    ensures fault { IfErr result (IsReplayFault base.value commits.now) }
+// What is told where the refresh of a commit, counted from 1, is not applied.
+fn fault_of(number: u64, error: ApplyError) -> ReplayFault
+    ensures { result ≡ not_applied number error }
 {
-    let mut store = RowStore::new(alloc, base, hashing)?;
+    match error {
+        ApplyError::Refused(Refusal { action, cause }) => ReplayFault::Refused {
+            number,
+            action,
+            cause,
+        },
+        ApplyError::OutOfMemory => ReplayFault::OutOfMemory,
+    }
+}
+
+/// Makes more commits of a journal again, behind those that a row store has; else the first that is refused is told, of
+/// all of them. The commits before that one were made.
+pub fn replay(store: &mut RowStore, commits: &[Commit]) -> Result<(), ReplayFault>
+    ensures store { OnOk result (store.new ≡ record { base = store.old.base; log = store.old.log ++ commits.now }) }
+    ensures base { store.new.base ≡ store.old.base }
+    ensures fault { IfErr result (IsReplayFault store.old.base (store.old.log ++ commits.now)) }
+{
     for commit in commits {
         store.soundness();
         let refresh = Arc::try_clone(&commit.refresh)?;
         match store.apply(commit.client, refresh) {
             Ok(_) => {},
-            Err(ApplyError::Refused(Refusal { action, cause })) => {
-                return Err(ReplayFault::Refused {
-                    number: store.len() as u64 + 1,
-                    action,
-                    cause,
-                });
-            },
-            Err(ApplyError::OutOfMemory) => return Err(ReplayFault::OutOfMemory),
+            Err(error) => return Err(fault_of(store.len() as u64 + 1, error)),
         }
     }
-    store.soundness();
-    Ok(store)
+    Ok(())
 }

@@ -1,11 +1,14 @@
 //! Journals on disks that tear: they are begun, and what a file keeps is looked at.
-ghost use Rattle.std.specs.Prelude.{[], IfOk};
+ghost use Rattle.std.specs.Prelude.{◌≡◌, [], take, IfOk};
+ghost use Rattle.journal.specs.Groups.{recovered, AreTorn};
+ghost use Rattle.ssb_journal.specs.Opening.{IsKept};
 ghost use Rattle.ssb_journal.specs.Counts.{KeepsFirst};
 ghost use Rattle.journal_tests.specs.TearingDisks.{disk_bytes};
 
-use crate::TearingDisk;
 use crate::tests::own_log::{A_LOOK, OwnLog, own_commits};
+use crate::{TearingDisk, UnreadTearing};
 use journal::{Journal, KeepsTorn};
+use row_store::Commit;
 use ssb_audit::Trace;
 use ssb_journal::{
     JournaledLog, OpenedJournal, SharedJournal, TableMark, append_commits, begin, open,
@@ -34,8 +37,8 @@ pub(crate) const A_GROUP: usize = 4;
 /// So many calls make a run.
 pub(crate) const CALLS: usize = NEW + A_GROUP * GROUPS;
 
-// By what the journal knows its only table.
-fn marks() -> [TableMark; 1] {
+/// By what the journal knows its only table.
+pub(crate) fn marks() -> [TableMark; 1] {
     [TableMark {
         table: Table::Customer,
         bytes: 31800,
@@ -67,6 +70,33 @@ impl KeepsTorn for InMemory {
     }
 }
 
+// A file that was read to its end, as a journal over tables of these marks, and the commits that it keeps.
+fn read_all(
+    alloc: Global,
+    marks: &[TableMark],
+    file: UnreadTearing,
+) -> Result<(OpenedJournal<TearingDisk>, Vec<Commit>), Fail>
+    requires { take file.place (disk_bytes file.disk) ≡ [] }
+    ensures kept { IfOk result (λ read. IsKept marks.now (recovered (disk_bytes read.0.found)) read.0.kept) }
+    ensures torn { IfOk result (λ read. AreTorn (disk_bytes read.0.found) read.0.torn.items) }
+    ensures commits { IfOk result (λ read. read.1.items ≡ read.0.kept.commits.items) }
+{
+    let Ok(mut reader) = open(alloc, marks, file) else {
+        return Err(Fail::from("not opened"));
+    };
+    let mut commits = Vec::new(alloc);
+    loop {
+        let Ok((next, found)) = reader.next(alloc) else {
+            return Err(Fail::from("not read"));
+        };
+        reader = next;
+        let Some(mut batch) = found else {
+            return Ok((reader.finish(), commits));
+        };
+        commits.append(&mut batch)?;
+    }
+}
+
 // A new journal of no commits.
 fn new_journal(
     alloc: Global,
@@ -75,13 +105,8 @@ fn new_journal(
 ) -> Result<Journal<TearingDisk>, Fail>
     ensures { IfOk result (λ journal. KeepsFirst 0 [] (disk_bytes journal)) }
 {
-    let Ok(OpenedJournal { found, kept, torn }) = open(
-        alloc,
-        marks,
-        TearingDisk::new(alloc, b"", refused)?,
-    ) else {
-        return Err(Fail::from("not opened"));
-    };
+    let (opened, _) = read_all(alloc, marks, UnreadTearing::new(alloc, b"", refused)?)?;
+    let OpenedJournal { found, kept, torn } = opened;
     if !kept.is_new {
         return Err(Fail::from("not new"));
     }
@@ -116,19 +141,10 @@ fn text_of_first(alloc: Global, commits: usize) -> Result<String, AllocError> {
 
 /// How many commits a file keeps: it is opened again, and they are the first of the log.
 pub(crate) fn kept_in(alloc: Global, bytes: &[u8]) -> Result<usize, Fail> {
-    let Ok(
-        OpenedJournal {
-            found: _,
-            kept,
-            torn: _,
-        },
-    ) = open(alloc, &marks(), TearingDisk::new(alloc, bytes, None)?)
-    else {
-        return Err(Fail::from("not opened again"));
-    };
-    let count = kept.commits.len();
+    let (_, commits) = read_all(alloc, &marks(), UnreadTearing::new(alloc, bytes, None)?)?;
+    let count = commits.len();
     let trace = Trace {
-        commits: Items::from_vec(kept.commits),
+        commits: Items::from_vec(commits),
         answers: Items::from_vec(Vec::new(alloc)),
     };
     let mut text = Vec::new(alloc);
@@ -142,13 +158,8 @@ pub(crate) fn kept_in(alloc: Global, bytes: &[u8]) -> Result<usize, Fail> {
 /// The journal of a file that is opened again.
 pub(crate) fn mended(alloc: Global, bytes: &[u8]) -> Result<Journal<TearingDisk>, Fail> {
     let marks = marks();
-    let Ok(OpenedJournal { found, kept, torn }) = open(
-        alloc,
-        &marks,
-        TearingDisk::new(alloc, bytes, None)?,
-    ) else {
-        return Err(Fail::from("not opened again"));
-    };
+    let (opened, _) = read_all(alloc, &marks, UnreadTearing::new(alloc, bytes, None)?)?;
+    let OpenedJournal { found, kept, torn } = opened;
     let torn = InMemory.keep_torn(torn)?;
     match begin::<TearingDisk, InMemory>(alloc, &marks, found, kept.is_new, &torn) {
         Ok(journal) => Ok(journal),

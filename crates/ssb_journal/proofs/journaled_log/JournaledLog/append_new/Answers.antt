@@ -1,4 +1,4 @@
-use Rattle.std.proofs.Common.{◌≡◌, ◌<◌, ◌∙◌, List, ℕ, drop, false, ap, sym, subst}
+use Rattle.std.proofs.Common.{◌≡◌, ◌<◌, ◌∙◌, List, drop, false, ap, sym, subst}
 use Rattle.std.specs.Prelude.{IfErr}
 use Rattle.journal.specs.Disk.{LeavesOnly, Only}
 use Rattle.journal.specs.declared.disk.DiskError.TheVariants.{Failed, Full}

@@ -1,0 +1,51 @@
+//! Journals that have two faults: the first in the file is told.
+
+use crate::UnreadTearing;
+use crate::tests::runs::{marks, mended};
+use journal::MAX_GROUP;
+use ssb_journal::{JournalFault, JournalOpenFault, open, seal};
+use std::alloc::Global;
+use std::test::Fail;
+
+// A text that spells no commits.
+const NO_COMMITS: &[u8] = b"nothing\n";
+
+// What is told of a journal that has these groups behind its head: they are read together.
+fn fault_of(alloc: Global, groups: &[Vec<u8>]) -> Result<JournalFault, Fail> {
+    let mut journal = mended(alloc, b"")?;
+    for group in groups {
+        if group.len() > MAX_GROUP {
+            return Err(Fail::from("too long"));
+        }
+        journal = match journal.append(alloc, group) {
+            Ok(journal) => journal,
+            Err((error, _)) => return Err(Fail::from(error)),
+        };
+    }
+    let disk = journal.into_disk();
+    let bytes = disk.crashed(disk.calls(), 0)?;
+    let marks = marks();
+    let Ok(reader) = open(alloc, &marks, UnreadTearing::new(alloc, &bytes, None)?) else {
+        return Err(Fail::from("not opened"));
+    };
+    match reader.next(alloc) {
+        Err((JournalOpenFault::Journal(fault), _)) => Ok(fault),
+        _ => Err(Fail::from("no fault")),
+    }
+}
+
+// A text of no commits comes before a damaged group, and behind it.
+#[test]
+fn of_two_faults_the_first_is_told(rt: HostRuntime) -> Result<(), Fail> {
+    let alloc = rt.alloc();
+    let sound = seal(alloc, b"")?;
+    let no_commits = seal(alloc, NO_COMMITS)?;
+    let damaged = Vec::from_slice(alloc, NO_COMMITS)?;
+    let mut groups = vec![in alloc; sound, no_commits, damaged]?;
+    assert_eq!(rt; fault_of(alloc, &groups)?, JournalFault::Damaged(2));
+    groups.swap(1, 2);
+    assert_eq!(rt; fault_of(alloc, &groups)?, JournalFault::Damaged(2));
+    groups.swap(0, 2);
+    assert_eq!(rt; fault_of(alloc, &groups)?, JournalFault::Damaged(1));
+    Ok(())
+}

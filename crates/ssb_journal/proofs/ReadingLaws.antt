@@ -1,0 +1,226 @@
+-- What is told of a journal's file, of the groups that were read of it.
+use Rattle.std.proofs.Common.{◌≡◌, ℕ, ◌+◌, ◌<◌, Bool, false, inl, inr, ⊎_elim, List, [], ◌∷◌, ◌++◌, length, map, take}
+use Rattle.std.proofs.Common.{Vec, Global, get_or, Some, refl, sym, ◌∙◌, ap, subst, arith, append_assoc, length-append}
+use Rattle.std.specs.Prelude.{slice_get}
+use Rattle.std.specs.List.{flat_map}
+use Rattle.std.proofs.lemmas.Bool.{both_ways}
+use Rattle.std.proofs.lemmas.Grind.{flat_map-append}
+use Rattle.std.proofs.lemmas.List.{append-nil, get_or_at, length-map, map-append, map_push, take_at}
+use Rattle.std.proofs.lemmas.Option.{get_or_from_slice_get, slice_get-get_or, slice_get_read, slice_get_within}
+use Rattle.std.proofs.Math.Seq.{get_or-append-add, take-append-add}
+use Rattle.journal.specs.Disk.{BeginsAsRead}
+use Rattle.journal.specs.Groups.{recovered, behind, lists}
+use Rattle.journal.specs.Reading.{HasFirst}
+use Rattle.row_store.specs.History.{CommitRecord}
+use Rattle.ssb_journal.specs.Gathered.{fault_behind, AreNext, IsFirstGroupFault, IsNoBatchBehind}
+use Rattle.ssb_journal.specs.Heads.{head_text}
+use Rattle.ssb_journal.specs.Kept.{BeginsWithCommits, IsFirstNoBatch, SpellCommits, SpellsBatch}
+use Rattle.ssb_journal.specs.Opening.{AreKept, IsKept, IsOpenFault}
+use Rattle.ssb_journal.specs.Reading.{IsReading}
+use Rattle.ssb_journal.specs.Seals.{sealed}
+use Rattle.ssb_journal.specs.Texts.{AreSealed, IsBeginning, IsDamaged}
+use Rattle.ssb_journal.specs.declared.fault.JournalFault.{JournalFault}
+use Rattle.ssb_journal.specs.declared.fault.JournalFault.TheVariants.{Damaged, NotAJournal}
+use Rattle.ssb_journal.specs.declared.head.HeadForm.{HeadForm}
+use Rattle.ssb_journal.specs.declared.head.TableMark.{TableMark}
+use Rattle.ssb_journal.specs.declared.kept.KeptCommits.{KeptCommits}
+use Rattle.ssb_journal.proofs.TogetherLaws.{zip_both}
+
+-- texts, and more texts behind them
+spell_both : (texts more : List (List ℕ)) (commits batch : List CommitRecord) → SpellCommits texts commits
+    → SpellCommits more batch → SpellCommits (texts ++ more) (commits ++ batch)
+spell_both texts more commits batch first second = record {
+  batches = first.batches ++ second.batches;
+  spelled = zip_both SpellsBatch texts more first.batches second.batches first.spelled second.spelled;
+  whole = flat_map-append (λ (b : List CommitRecord). b) first.batches second.batches
+      ∙ ap (λ (cs : List CommitRecord). cs ++ flat_map (λ (b : List CommitRecord). b) second.batches) first.whole
+      ∙ ap (λ (cs : List CommitRecord). commits ++ cs) second.whole;
+}
+
+sealed_more : (form : HeadForm) (marks : List TableMark) (texts more groups : List (List ℕ)) → AreSealed form marks texts groups
+    → AreSealed form marks (texts ++ more) (groups ++ map sealed more)
+sealed_more form marks texts more groups is =
+    ap (λ (gs : List (List ℕ)). gs ++ map sealed more) is ∙ sym (map-append sealed (head_text form marks ∷ texts) more)
+
+at_seam : {X : Type 0} (xs : List X) (x : X) (ys : List X) (n : ℕ) → n ≡ length xs → slice_get (xs ++ x ∷ ys) n ≡ Some x
+at_seam xs x ys n is =
+    slice_get_read (xs ++ x ∷ ys) (length (xs ++ x ∷ ys)) n x refl (omega (arith, is, length-append xs (x ∷ ys)))
+    (sym (get_or_at xs x ys x n (sym is)))
+
+pub at_behind : {X : Type 0} (xs ys : List X) (k n : ℕ) (x : X) → n ≡ length xs + k → slice_get ys k ≡ Some x
+    → slice_get (xs ++ ys) n ≡ Some x
+at_behind {X} xs ys k n x n_is is =
+    let inside : k < length ys = slice_get_within ys k x is in
+    slice_get-get_or (xs ++ ys) n x (omega (arith, n_is, inside, length-append xs ys))
+    ∙ ap (λ (y : X). Some y) (ap (λ (m : ℕ). get_or (xs ++ ys) m x) n_is ∙ get_or-append-add xs ys k x ∙ get_or_from_slice_get ys k x x is)
+
+-- behind texts that spell commits, one that spells none
+no_batch_behind : (texts more : List (List ℕ)) (commits : List CommitRecord) (before : ℕ) (told fault : JournalFault)
+    → before ≡ length texts → SpellCommits texts commits → fault ≡ fault_behind before told → IsFirstNoBatch more told
+    → IsFirstNoBatch (texts ++ more) fault
+no_batch_behind texts more commits before told fault count spelled is first =
+    let number : before + (first.place + 1) ≡ length texts + first.place + 1 = omega (arith, count) in
+    record {
+      place = length texts + first.place;
+      told = is ∙ ap (fault_behind before) first.told ∙ ap (λ (n : ℕ). Damaged n) number;
+      text = first.text;
+      is = at_behind texts more first.place (length texts + first.place) first.text refl first.is;
+      no_batch = first.no_batch;
+      before = commits ++ first.before;
+      spelled = subst (λ (ts : List (List ℕ)). SpellCommits ts (commits ++ first.before)) (sym (take-append-add texts more first.place))
+          (spell_both texts (take first.place more) commits first.before spelled first.spelled);
+    }
+
+are_kept : (marks : List TableMark) (groups : List (List ℕ)) (kept : KeptCommits) → IsKept marks groups kept
+    → kept.is_new ≡ false → AreKept marks groups kept
+are_kept marks groups kept is old =
+    ⊎_elim (λ new. absurd (both_ways kept.is_new old new.0)) (λ was. was.1) is
+
+-- what is told of texts that were read together is a fault of each file that begins with all of these groups
+pub no_batch_told : (marks : List TableMark) (groups new more texts : List (List ℕ)) (kept : KeptCommits) (before : ℕ)
+    (damaged : Bool) (file : List ℕ) (fault : JournalFault) → IsKept marks groups kept → kept.is_new ≡ false
+    → length groups ≡ before + 1 → AreNext texts damaged groups new → recovered file ≡ new ++ more
+    → IsNoBatchBehind before texts damaged fault → IsOpenFault marks (recovered file) (behind file) fault
+no_batch_told marks groups new more texts kept before damaged file fault is old count next has (inl told) =
+    let k = are_kept marks groups kept is old in
+    let many : before ≡ length k.texts = omega (arith, count, ap length k.sealed, length-map k.texts sealed) in
+    inr (record {
+      first_groups = groups ++ map sealed texts;
+      more = next.rest ++ more;
+      are = has ∙ ap (λ (gs : List (List ℕ)). gs ++ more) next.grown ∙ append_assoc (groups ++ map sealed texts) next.rest more;
+      form = kept.form;
+      texts = k.texts ++ texts;
+      sealed = sealed_more kept.form marks k.texts texts groups k.sealed;
+      first = no_batch_behind k.texts texts kept.commits.items before told.0 fault many k.spelled told.1 told.2;
+    })
+no_batch_told marks groups new more texts kept before damaged file fault is old count next has (inr told) =
+    let k = are_kept marks groups kept is old in
+    let b = next.broken told.0 in
+    let sound = groups ++ map sealed texts in
+    let number = before + length texts + 1 in
+    let many : number ≡ length sound = omega (arith, count, length-append groups (map sealed texts), length-map texts sealed) in
+    let whole : recovered file ≡ sound ++ b.0 ∷ more =
+    has ∙ ap (λ (gs : List (List ℕ)). gs ++ more) (next.grown ∙ ap (λ (gs : List (List ℕ)). sound ++ gs) b.1) ∙ append_assoc sound (b.0 ∷ []) more in
+    inl (inl (subst (IsDamaged (recovered file)) (sym told.1) (record {
+      group = b.0;
+      is = ap (λ (gs : List (List ℕ)). slice_get gs number) whole ∙ at_seam sound b.0 more number many;
+      damaged = b.2;
+      before = head_text kept.form marks ∷ (k.texts ++ texts);
+      sealed_before = ap (take number) whole ∙ take_at sound (b.0 ∷ more) number (sym many)
+          ∙ sealed_more kept.form marks k.texts texts groups k.sealed;
+    })))
+
+-- some texts more are kept
+pub kept_more : (marks : List TableMark) (groups new texts : List (List ℕ)) (kept now : KeptCommits) (batch : List CommitRecord)
+    (damaged : Bool) → IsKept marks groups kept → kept.is_new ≡ false → AreNext texts damaged groups new → damaged ≡ false
+    → SpellCommits texts batch → now.form ≡ kept.form → now.is_new ≡ kept.is_new
+    → now.commits.items ≡ kept.commits.items ++ batch → IsKept marks new now
+kept_more marks groups new texts kept now batch damaged is old next whole spelled form same grown =
+    let k = are_kept marks groups kept is old in
+    let all : new ≡ groups ++ map sealed texts =
+    next.grown ∙ ap (λ (gs : List (List ℕ)). groups ++ map sealed texts ++ gs) (next.whole whole) ∙ append-nil (groups ++ map sealed texts) in
+    inr (
+      same ∙ old,
+      record {
+        texts = k.texts ++ texts;
+        sealed = all ∙ sealed_more kept.form marks k.texts texts groups k.sealed
+            ∙ ap (λ (f : HeadForm). map sealed (head_text f marks ∷ (k.texts ++ texts))) (sym form);
+        spelled = subst (SpellCommits (k.texts ++ texts)) (sym grown) (spell_both k.texts texts kept.commits.items batch k.spelled spelled);
+      },
+    )
+
+-- and so many groups they are
+pub counted_more : (groups new texts : List (List ℕ)) (before : ℕ) (damaged : Bool) → AreNext texts damaged groups new
+    → damaged ≡ false → length groups ≡ before + 1 → length new ≡ before + length texts + 1
+counted_more groups new texts before damaged next whole count =
+    omega (
+      arith,
+      count,
+      ap length (next.grown ∙ ap (λ (gs : List (List ℕ)). groups ++ map sealed texts ++ gs) (next.whole whole) ∙ append-nil (groups ++ map sealed texts)),
+      length-append groups (map sealed texts),
+      length-map texts sealed,
+    )
+
+-- a file that begins with what was read begins with its groups
+pub file_groups : (groups : List (List ℕ)) (taken : List ℕ) (Ended : Type 0) (file : List ℕ)
+    → ((more : List ℕ) → HasFirst groups (taken ++ more)) → BeginsAsRead taken Ended file → HasFirst groups file
+file_groups groups taken Ended file first is = ((first is.rest).0, ap recovered is.begins ∙ (first is.rest).1)
+
+-- .. and is what was read, where that is all
+pub whole_file : (taken : List ℕ) (Ended : Type 0) (file : List ℕ) → Ended → BeginsAsRead taken Ended file → file ≡ taken
+whole_file taken Ended file ended is =
+    is.begins ∙ ap (λ (l : List ℕ). taken ++ l) (is.whole ended) ∙ append-nil taken
+
+-- such a file keeps the commits of its first groups
+pub begins_with : (marks : List TableMark) (groups : List (List ℕ)) (kept : KeptCommits) (file : List ℕ)
+    → IsKept marks groups kept → kept.is_new ≡ false → HasFirst groups file
+    → BeginsWithCommits marks kept.commits.items file
+begins_with marks groups kept file is old has =
+    let k = are_kept marks groups kept is old in
+    record {
+      first = groups;
+      more = has.0;
+      groups = has.1;
+      form = kept.form;
+      texts = k.texts;
+      sealed = k.sealed;
+      spelled = k.spelled;
+    }
+
+-- what is told of the first group is a fault of each file that begins with it
+pub first_group_told : (marks : List TableMark) (group : List ℕ) (more : List (List ℕ)) (file : List ℕ) (fault : JournalFault)
+    → recovered file ≡ group ∷ more → IsFirstGroupFault marks group fault
+    → IsOpenFault marks (recovered file) (behind file) fault
+first_group_told marks group more file fault has (inl told) =
+    inl (inl (subst (IsDamaged (recovered file)) (sym told.0) (record {
+      group = group;
+      is = ap (λ (gs : List (List ℕ)). slice_get gs 0) has ∙ at_seam [] group more 0 refl;
+      damaged = told.1;
+      before = [];
+      sealed_before = ap (take 0) has;
+    })))
+first_group_told marks group more file fault has (inr told) =
+    inl (inr (inr (record {
+      head = told.0;
+      more = more;
+      are = has ∙ ap (λ (g : List ℕ). g ∷ more) told.1;
+      told = told.2;
+    })))
+
+-- of a file without groups, that what is there is no beginning of a journal
+pub other_file_told : (marks : List TableMark) (rest taken : List ℕ) (Ended : Type 0) (file : List ℕ) → recovered taken ≡ []
+    → behind taken ≡ rest → Ended → (IsBeginning marks rest → ⊥) → BeginsAsRead taken Ended file
+    → IsOpenFault marks (recovered file) (behind file) NotAJournal
+other_file_told marks rest taken Ended file none is ended other read =
+    let same = whole_file taken Ended file ended read in
+    inl (inr (inl (refl, ap recovered same ∙ none, λ begins. other (subst (IsBeginning marks) (ap behind same ∙ is) begins))))
+
+-- what is kept and counted with some texts more
+pub reading_more : (marks : List TableMark) (groups new texts : List (List ℕ)) (was rest : List ℕ) (was_done done : Bool) (before count : ℕ)
+    (kept now : KeptCommits) (batch : List CommitRecord) (damaged : Bool) → IsReading marks groups was was_done before kept
+    → kept.is_new ≡ false → AreNext texts damaged groups new → damaged ≡ false → SpellCommits texts batch → now.form ≡ kept.form
+    → now.is_new ≡ kept.is_new → now.commits.items ≡ kept.commits.items ++ batch → count ≡ length texts
+    → IsReading marks new rest done (before + count) now
+reading_more marks groups new texts was rest was_done done before count kept now batch damaged is old next whole spelled form same grown counts = record {
+  kept_is = kept_more marks groups new texts kept now batch damaged is.kept_is old next whole spelled form same grown;
+  counted = λ _. counted_more groups new texts before damaged next whole (is.counted old) ∙ omega (arith, counts);
+  new = λ is_new. absurd (both_ways now.is_new (same ∙ old) is_new);
+}
+
+-- one text more, and no damaged group
+pub next_one : (old was new : List (List ℕ)) (texts pushed : List (Vec ℕ Global)) (text : Vec ℕ Global) (group : List ℕ)
+    → was ≡ old ++ map sealed (lists texts) → new ≡ was ++ group ∷ [] → group ≡ sealed text.items → pushed ≡ texts ++ text ∷ []
+    → AreNext (lists pushed) false old new
+next_one old was new texts pushed text group was_is new_is sealed_is pushed_is =
+    let all : new ≡ old ++ map sealed (lists pushed) =
+    new_is ∙ ap (λ (g : List ℕ). was ++ g ∷ []) sealed_is ∙ ap (λ (gs : List (List ℕ)). gs ++ sealed text.items ∷ []) was_is
+    ∙ append_assoc old (map sealed (lists texts)) (sealed text.items ∷ [])
+    ∙ ap (λ (gs : List (List ℕ)). old ++ gs) (sym (map_push sealed (lists texts) text.items))
+    ∙ ap (λ (ts : List (List ℕ)). old ++ map sealed ts) (sym (map_push (λ (v : Vec ℕ Global). v.items) texts text))
+    ∙ ap (λ (ps : List (Vec ℕ Global)). old ++ map sealed (lists ps)) (sym pushed_is) in
+    record {
+      rest = [];
+      grown = all ∙ sym (append-nil (old ++ map sealed (lists pushed)));
+      whole = λ _. refl;
+      broken = λ is. absurd (both_ways false refl is);
+    }
