@@ -1,17 +1,48 @@
-//! Clients that open their own ends, attended to while they are served.
+//! Clients served behind a journal's file: one whose ends are open, and those that open their own.
 
 ghost use Rattle.std.specs.Thread.{IsSend};
 
 use journal_file::JournalFile;
 use journal_opening::JournalPath;
-use serve_command::{JournalPlace, PathClients, ServeSettings, serve_clients};
+use serve_command::{
+    JournalPlace, PathClients, ServeSettings, StreamClient, serve_clients, serve_stream,
+};
 use ssb_text::TableFiles;
-use std::io::{Print, Read};
+use std::io::{Print, Read, Write};
 use std::rt::Files;
 use std::sync::Wait;
 use std::thread;
 use std::thread::Threads;
 use std::time::Clock;
+
+/// How a client whose ends are open was served: the exit status, and whether it sent no request.
+#[derive(Clone, Copy, Debug, PartialEq, Eq)]
+pub(crate) struct OneServed {
+    pub(crate) status: u8,
+    pub(crate) was_unasked: bool,
+}
+
+/// Serves a client whose ends are open.
+pub(crate) fn serve_one<R, F, T, I: Read + Drop + Send, W: Write + Drop + Send, E: Print>(
+    rt: &R,
+    settings: ServeSettings,
+    tables: TableFiles<T>,
+    place: Option<JournalPlace<'_, JournalPath<'_, F>>>,
+    client: StreamClient<I, W>,
+    errors: &E,
+) -> OneServed
+where
+    R: Clock + Threads + Sync + Wait + AllocGlobal,
+    F: Files,
+    F::File: JournalFile + Send,
+    T: Read + Drop,
+{
+    let ended = serve_stream(rt, settings, tables, place, client, errors);
+    OneServed {
+        status: ended.status,
+        was_unasked: ended.was_unasked,
+    }
+}
 
 /// Serves clients that open their own ends, and attends to them meanwhile.
 pub(crate) fn attend_clients<R, F, I: Read + Drop, E: Print + Sync>(

@@ -1,6 +1,6 @@
 //! What the words of a command line do.
 
-use crate::attending::attend_clients;
+use crate::attending::{attend_clients, serve_one};
 use crate::commits_screen::serve_shown;
 use crate::job_help::tell_help;
 use crate::metrics::{MetricsFile, push_metrics};
@@ -23,7 +23,7 @@ use query_command::{
 use run_command::{RunInput, RunSettings, demo, open_trace, run_scripts};
 use serve_command::{
     Attendant, EndPaths, JournalPlace, MOST_CLIENTS, PathClients, ServeFault, ServeRefusal,
-    ServeSettings, StreamClient, report_no_pipes, serve_stream,
+    ServeSettings, StreamClient, report_no_pipes,
 };
 use server_figures::LiveFigures;
 use ssb_files::{
@@ -419,8 +419,7 @@ where
     };
     let output = HelpedOutput::new(alloc, streams.output, io::writer(errors), helped);
     let client = StreamClient { input, output };
-    let ended = serve_stream(rt, settings, tables, place, client, errors);
-    ended.status
+    serve_one(rt, settings, tables, place, client, errors).status
 }
 
 /// Serves clients over tables that are loaded and counted now: those that the words name, or else standard input and
@@ -483,7 +482,7 @@ where
         input: streams.input,
         output: streams.output,
     };
-    let ended = serve_stream(rt, settings, tables, place, client, errors);
+    let ended = serve_one(rt, settings, tables, place, client, errors);
     if ended.was_unasked {
         let mut err = io::writer(errors);
         let _ = writeln!(err, "ssb_live: its input has ended after 0 requests");

@@ -2,7 +2,8 @@ pub mod StandingLaws
 pub mod ApartLaws
 pub mod SoundLaws
 pub mod WritingLaws
-pub mod LastGoneLaws
+pub mod StandingOrderLaws
+pub mod FollowLaws
 pub mod NextLaws
 pub mod StepLaws
 pub mod ExportLaws

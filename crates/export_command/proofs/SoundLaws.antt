@@ -1,7 +1,7 @@
 use Rattle.std.proofs.Common.{arith}
 -- The tables after a legal history keep what those of a base keep.
 use Rattle.std.proofs.Common.{◌≡◌, ℕ, ◌+◌, Bool, true, false, not, ◌&&◌, ◌||◌, nat_eq, List, [], ◌∷◌, ◌++◌}
-use Rattle.std.proofs.Common.{length, take, Option, Some, None, slice_get, refl, sym, ap, ◌∙◌, subst, append_assoc}
+use Rattle.std.proofs.Common.{length, Option, Some, None, refl, sym, subst, append_assoc}
 use Rattle.std.proofs.Common.{append-nil}
 use Rattle.std.specs.Prelude.{if◌then◌else◌}
 use Rattle.std.specs.List.{AllByRecursion, list_any}
@@ -13,7 +13,6 @@ use Rattle.row_store.specs.Lines.{is_of, is_present, lines_after_action, lines_a
 use Rattle.row_store.specs.Refusals.{cause_of, first_refusal, lacks_customer, lacks_date, lacks_part, lacks_supplier}
 use Rattle.row_store.specs.Refusals.{order_cause, refusal_of}
 use Rattle.row_store.specs.declared.refusal.Cause.{Cause}
-use Rattle.row_store.specs.declared.refusal.Cause.TheVariants as cause
 use Rattle.row_store.proofs.FewLaws.{legal_histories_are_few}
 use Rattle.row_store.proofs.StateLaws.{lines_after-push}
 use Rattle.ssb_base.specs.Base.{Dimensions, IsKnown, Tables, customer_key, date_key, has_key, is_same_line, part_key}
@@ -24,6 +23,7 @@ use Rattle.ssb_schema.specs.declared.refresh.Action.{Action}
 use Rattle.ssb_schema.specs.declared.refresh.Action.TheVariants.{Add, Amend, Withdraw}
 use Rattle.export_command.specs.After.{AddsOrder, TablesAfterAreSound, actions_of}
 use Rattle.export_command.proofs.ApartLaws.{IsApart, all_append, all_filter, all_more, apart_append, apart_filter}
+use Rattle.export_command.proofs.NextLaws.{at_seam, front_of}
 use Rattle.export_command.proofs.ApartLaws.{apart_more, apart_of_distinct, distinct_of_apart}
 
 -- lines that may be those of a sound base over these dimensions
@@ -92,10 +92,10 @@ keys-known d (line ∷ order) c s p e =
       keys-known d order customer.1 supplier.1 part.1 date.1,
     )
 
-none-tested : {X : Type 0} (b : Bool) (found : X) (rest : Option X) → (if b then Some found else rest) ≡ None
+pub none_tested : {X : Type 0} (b : Bool) (found : X) (rest : Option X) → (if b then Some found else rest) ≡ None
     → (b ≡ false) × (rest ≡ None)
-none-tested true found rest e = absurd cc
-none-tested false found rest e = (refl, e)
+none_tested true found rest e = absurd cc
+none_tested false found rest e = (refl, e)
 
 first-none : (first second : Option Cause) → option_or first second ≡ None → first ≡ None
 first-none None second e = refl
@@ -103,7 +103,7 @@ first-none (Some found) second e = absurd cc
 
 order-known : (base : Tables) (lines order : List LineFields) → order_cause base lines order ≡ None
     → AllByRecursion (IsKnown base.dimensions) order
-order-known base lines order none = grind (arith, first-none, none-tested, keys-known)
+order-known base lines order none = grind (arith, first-none, none_tested, keys-known)
 
 -- an order joins lines of other orders
 good-joined : (base : Tables) (lines order : List LineFields) → AreGood base.dimensions lines
@@ -122,7 +122,7 @@ good-without d key lines good = grind (arith, apart_filter, all_filter)
 
 good-action : (base : Tables) (lines : List LineFields) (action : Action) → AreGood base.dimensions lines
     → AddsOrder action → cause_of base lines action ≡ None → AreGood base.dimensions (lines_after_action lines action)
-good-action base lines (Add order) good is none = grind (arith, none-tested, good-joined, absent, order-known)
+good-action base lines (Add order) good is none = grind (arith, none_tested, good-joined, absent, order-known)
 good-action base lines (Amend order) good is none = grind (arith, good-joined, good-without, without-it, order-known)
 good-action base lines (Withdraw key) good is none = grind (arith, good-without)
 
@@ -141,15 +141,6 @@ good-refresh base number lines (action ∷ actions) good orders none =
     good-refresh base (number + 1) (lines_after_action lines action) actions
     (good-action base lines action good orders.0 both.0) orders.1 both.1
 
--- the elements at the seam of two lists
-at-seam : {X : Type 0} (front : List X) (x : X) (back : List X) → slice_get (front ++ x ∷ back) (length front) ≡ Some x
-at-seam [] x back = refl
-at-seam (y ∷ front) x back = at-seam front x back
-
-front-of : {X : Type 0} (front back : List X) → take (length front) (front ++ back) ≡ front
-front-of [] back = refl
-front-of (y ∷ front) back = ap (λ l. y ∷ l) (front-of front back)
-
 all-front : {X : Type 0} (P : X → Type 0) (xs ys : List X) → AllByRecursion P (xs ++ ys)
     → AllByRecursion P xs × AllByRecursion P ys
 all-front P [] ys all = grind arith
@@ -159,7 +150,7 @@ all-front P (x ∷ xs) ys all = grind (arith, all-front P xs ys all.1)
 good-commit : (base : Tables) (front : List CommitRecord) (commit : CommitRecord)
     → AreGood base.dimensions (lines_after base front) → AllByRecursion AddsOrder commit.actions
     → refusal_of base front commit.actions ≡ None → AreGood base.dimensions (lines_after base (front ++ commit ∷ []))
-good-commit base front commit good orders none = grind (arith, none-tested, lines_after-push, good-refresh)
+good-commit base front commit good orders none = grind (arith, none_tested, lines_after-push, good-refresh)
 
 -- and so do all commits of a legal history, from the first ones on
 good-after : (base : Tables) (front rest : List CommitRecord) → IsLegal base (front ++ rest)
@@ -171,8 +162,8 @@ good-after base front (commit ∷ later) legal orders good =
     let whole : (front ++ commit ∷ []) ++ later ≡ front ++ commit ∷ later = append_assoc front (commit ∷ []) later in
     let parts = all-front AddsOrder commit.actions (actions_of later) orders in
     let accepted : refusal_of base front commit.actions ≡ None =
-    subst (λ history. refusal_of base history commit.actions ≡ None) (front-of front (commit ∷ later))
-    (legal.accepted (length front) commit (at-seam front commit later)) in
+    subst (λ history. refusal_of base history commit.actions ≡ None) (front_of front (commit ∷ later))
+    (legal.accepted (length front) commit (at_seam front commit later)) in
     subst (λ history. AreGood base.dimensions (lines_after base history)) whole
     (good-after base (front ++ commit ∷ []) later (subst (IsLegal base) (sym whole) legal) parts.1
     (good-commit base front commit good parts.0 accepted))

@@ -1,8 +1,7 @@
 -- The lines after a history are the loaded lines that stand, and those that its actions added and that stand.
-use Rattle.std.proofs.Common.{◌≡◌, ℕ, suc, ◌+◌, not, ◌||◌, nat_eq, List, [], ◌∷◌, ◌++◌, length, drop, filter, flat_map}
+use Rattle.std.proofs.Common.{◌≡◌, ℕ, suc, ◌+◌, not, nat_eq, List, [], ◌∷◌, ◌++◌, length, drop, filter, flat_map}
 use Rattle.std.proofs.Common.{fold, refl, sym, ap, ◌∙◌, append_assoc, length-append, arith, add-one}
 use Rattle.std.specs.List.{list_any}
-use Rattle.std.proofs.lemmas.List.Elements.{filter-append}
 use Rattle.std.proofs.lemmas.List.Folds.{list_any-append}
 use Rattle.std.proofs.lemmas.List.Sums.{fold-append}
 use Rattle.row_store.specs.Absorbing.{gone_by, lines_without_all}
@@ -12,7 +11,7 @@ use Rattle.row_store.proofs.AbsorbedLaws.{absorbed}
 use Rattle.ssb_schema.specs.declared.line.LineFields.{LineFields}
 use Rattle.ssb_schema.specs.declared.refresh.Action.{Action}
 use Rattle.ssb_schema.specs.declared.refresh.Action.TheVariants.{Add, Amend, Withdraw}
-use Rattle.export_command.specs.After.{LinesStand, actions_of, goes_by, standing, standing_added, stands}
+use Rattle.export_command.specs.After.{LinesStand, actions_of, goes_by, standing, standing_added}
 
 -- the commits one after another are their actions one after another
 by-actions : (lines : List LineFields) (history : List CommitRecord)
@@ -74,19 +73,3 @@ lines_stand base history =
     ∙ (sym (absorbed base.lines actions)
     ∙ (ap (λ lines. lines ++ lines_after_refresh [] actions) (not-gone actions base.lines)
     ∙ ap (λ lines. standing actions 0 base.lines ++ lines) (added [] actions)))
-
-pub standing_both : (actions : List Action) (number : ℕ) (one other : List LineFields)
-    → standing actions number (one ++ other) ≡ standing actions number one ++ standing actions number other
-standing_both actions number one other = filter-append (λ line. stands actions number line.order_key) one other
-
-pub added_both : (actions : List Action) (before after : ℕ) (one other : List Action) → after ≡ before + length one
-    → standing_added actions before (one ++ other)
-    ≡ standing_added actions before one ++ standing_added actions after other
-added_both actions before after [] other is =
-    let same : before ≡ after = omega (arith, is) in
-    ap (λ n. standing_added actions n other) same
-added_both actions before after (action ∷ one) other is =
-    let count : after ≡ (before + 1) + length one = omega (arith, is) in
-    let first = standing actions (before + 1) (added_by action) in
-    ap (λ lines. first ++ lines) (added_both actions (before + 1) after one other count)
-    ∙ sym (append_assoc first (standing_added actions (before + 1) one) (standing_added actions after other))

@@ -1,7 +1,6 @@
 -- The tables after a history, and which lines stand after it.
-use Rattle.std.specs.Prelude.{◌≡◌, ℕ, ◌+◌, ◌-◌, ◌<◌, Bool, true, false, not, nat_eq, List, [], ◌∷◌, ◌++◌}
-use Rattle.std.specs.Prelude.{drop, filter, flat_map, slice_get, Option, Some, None}
-use Rattle.std.specs.HashMap.{get}
+use Rattle.std.specs.Prelude.{◌≡◌, ℕ, ◌+◌, Bool, not, nat_eq, List, [], ◌∷◌, ◌++◌}
+use Rattle.std.specs.Prelude.{drop, filter, flat_map}
 use Rattle.std.specs.List.{AllByRecursion, list_any}
 use Rattle.row_store.specs.Absorbing.{gone_by}
 use Rattle.row_store.specs.History.{CommitRecord, lines_after}
@@ -12,7 +11,6 @@ use Rattle.ssb_schema.specs.declared.line.LineFields.{LineFields}
 use Rattle.ssb_schema.specs.Orders.{IsOrder}
 use Rattle.ssb_schema.specs.declared.refresh.Action.{Action}
 use Rattle.ssb_schema.specs.declared.refresh.Action.TheVariants.{Add, Amend, Withdraw}
-use Rattle.export_command.specs.declared.last_gone.LastGone.{LastGone}
 
 -- the dimensions as they were, and the lines after the history
 abbrev pub tables_after : Tables → List CommitRecord → Tables
@@ -41,17 +39,6 @@ abbrev pub standing_added : List Action → ℕ → List Action → List LineFie
 standing_added actions before [] = []
 standing_added actions before (action ∷ later) =
     standing actions (before + 1) (added_by action) ++ standing_added actions (before + 1) later
-
--- this is the number of the last action by which the order's earlier lines go; there is none where it has no number
-abbrev pub IsLastOf : List Action → ℕ → Option ℕ → Type 0
-IsLastOf actions key None = list_any (goes_by key) actions ≡ false
-IsLastOf actions key (Some number) =
-    (action : Action) × (slice_get actions (number - 1) ≡ Some action) × (0 < number) × (goes_by key action ≡ true)
-    × (list_any (goes_by key) (drop number actions) ≡ false)
-
--- each order has the number of that action
-abbrev pub IsLastGoneOf : List Action → LastGone → Type 0
-IsLastGoneOf actions last = (key : ℕ) → IsLastOf actions key (get nat_eq last.numbers key)
 
 -- the lines after a history are the loaded lines that stand, and then those that its actions added and that stand
 abbrev pub LinesStand : Type 0

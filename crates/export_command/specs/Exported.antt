@@ -15,6 +15,7 @@ use Rattle.ssb_files.specs.Loaded.{AreRefusedToServe, IsLoadedToServe}
 use Rattle.ssb_files.specs.Status.{status_of}
 use Rattle.ssb_files.specs.declared.job.JobFault.{JobFault}
 use Rattle.ssb_files.specs.declared.job.JobFault.TheVariants as job
+use Rattle.ssb_journal.specs.Kept.{BeginsWithCommits}
 use Rattle.ssb_journal.specs.Opening.{TellsOpenFault}
 use Rattle.ssb_journal.specs.Replays.{IsReplayFault}
 use Rattle.ssb_journal.specs.declared.head.TableMark.{TableMark}
@@ -41,6 +42,19 @@ HasSoMany marks count file = (commits : List CommitRecord) × HasCommits marks c
 abbrev pub HasSoManyTorn : ℕ → List ℕ → Type 0
 HasSoManyTorn count file = (torn : List ℕ) × AreTorn file torn × (length torn ≡ count)
 
+-- loaded tables, by what a journal's head knows them, and the bytes of a journal's file over them
+pub record ReadJournal : Type 0 where
+  pub base : Tables
+  pub marks : List TableMark
+  pub file : List ℕ
+
+-- these are the tables after its commits, which are so many, and so many bytes are torn
+pub record AreOfFile (base : Tables) (marks : List TableMark) (file : List ℕ) (tables : Tables) (commits torn : ℕ)
+    : Type 0 where
+  pub after : AreTablesAfter base marks file tables
+  pub so_many : HasSoMany marks commits file
+  pub so_many_torn : HasSoManyTorn torn file
+
 -- the folder has the five texts of the tables after the commits that the file keeps, and each crash from now on leaves
 -- them; they spell these tables, of which nothing is refused
 pub record IsExport (base : Tables) (marks : List TableMark) (file : List ℕ) (calls : List FolderCall) : Type 0 where
@@ -65,22 +79,32 @@ LeftNoneOrExport base marks file calls =
 abbrev pub TellsJournalFault : Tables → List TableMark → List ℕ → JobFault ExportRefusal → Type 0
 TellsJournalFault base marks file (job.Found (refusal.Journal (opening.Kept why))) = TellsOpenFault marks file why
 TellsJournalFault base marks file (job.Found (refusal.Journal (opening.Replay why))) =
-    (commits : List CommitRecord) × HasCommits marks commits file × IsReplayFault base commits why
+    (commits : List CommitRecord) × BeginsWithCommits marks commits file × IsReplayFault base commits why
 TellsJournalFault base marks file _ = Unit {0}
 
--- it tells nothing of a journal
-abbrev pub TellsNoJournal : JobFault ExportRefusal → Type 0
-TellsNoJournal (job.Found (refusal.Journal why)) = ⊥
-TellsNoJournal _ = Unit {0}
+-- it is of a journal's commits, or memory ran out
+abbrev pub IsReadFault : JobFault ExportRefusal → Type 0
+IsReadFault (job.Program why) = status_of why ≡ 4
+IsReadFault (job.Found (refusal.Journal (opening.Kept why))) = Unit {0}
+IsReadFault (job.Found (refusal.Journal (opening.Replay why))) = Unit {0}
+IsReadFault (job.Found (refusal.Journal (opening.File why))) = ⊥
+IsReadFault (job.Found (refusal.Journal (opening.HasBytes path))) = ⊥
+IsReadFault (job.Found (refusal.CannotWrite path)) = ⊥
+IsReadFault (job.Found (refusal.Folder why)) = ⊥
 
--- why the tables after a journal's file were not written into a folder: of the file this is told, the folder could not
--- be made, or a call of the system failed, or memory ran out
+-- why there are no tables after a journal's file: of the file, which is the known one, where one is known, this is told;
+-- or memory ran out
+pub record IsJournalRefusal (base : Tables) (marks : List TableMark) (known : Option (List ℕ))
+    (why : JobFault ExportRefusal) : Type 0 where
+  pub file : List ℕ
+  pub is_file : IsKnown known file
+  pub told : TellsJournalFault base marks file why
+  pub is : IsReadFault why
+
+-- why tables were not written into a folder: that could not be made, or a call of the system failed, or memory ran out
 abbrev pub IsFillFault : JobFault ExportRefusal → Type 0
 IsFillFault (job.Program why) = status_of why ≡ 4
-IsFillFault (job.Found (refusal.Journal (opening.Kept why))) = Unit {0}
-IsFillFault (job.Found (refusal.Journal (opening.Replay why))) = Unit {0}
-IsFillFault (job.Found (refusal.Journal (opening.File why))) = ⊥
-IsFillFault (job.Found (refusal.Journal (opening.HasBytes path))) = ⊥
+IsFillFault (job.Found (refusal.Journal why)) = ⊥
 IsFillFault (job.Found (refusal.CannotWrite path)) = Unit {0}
 IsFillFault (job.Found (refusal.Folder why)) = ⊥
 

@@ -1,10 +1,10 @@
 //! `export`: the tables after a journal's commits, into a folder.
 
-ghost use Rattle.std.specs.Prelude.{◌≡◌, ◌≢◌, ℕ, [], List, IfOk, IfErr, OnOk};
-ghost use Rattle.journal.specs.Disk.{Only};
-ghost use Rattle.export_command.specs.Exported.{AreTablesAfter, Exports, IsExport, LeftNoneOrExport};
-ghost use Rattle.export_command.specs.Exported.{HasSoMany, HasSoManyTorn, IsFillFault, IsFindFault};
-ghost use Rattle.export_command.specs.Exported.{TellsExportFault, TellsJournalFault, TellsNoJournal};
+ghost use Rattle.std.specs.Prelude.{◌≡◌, ◌≢◌, ℕ, [], List, true, IfOk, IfErr, OnOk};
+ghost use Rattle.journal_opening.specs.Kept.{IsKnown};
+ghost use Rattle.export_command.specs.Exported.{Exports, IsExport, IsFillFault, IsFindFault, IsJournalRefusal};
+ghost use Rattle.export_command.specs.Exported.{LeftNoneOrExport, TellsExportFault};
+ghost use Rattle.export_command.specs.Standing.{Follows};
 ghost use Rattle.export_command.specs.Status.{export_status};
 ghost use Rattle.ssb_schema.specs.declared.table.Table.{Table};
 ghost use Rattle.ssb_text.specs.Layouts.{AreRows};
@@ -12,17 +12,20 @@ ghost use Rattle.table_folder.specs.FilesFolder.{IsUntouched};
 
 use crate::fault::ExportRefusal::Journal;
 use crate::fault::{ExportFault, ExportRefusal, NotEmpty};
+use crate::standing_orders::StandingOrders;
 use crate::tables_after::TablesAfter;
-use journal::Disk;
+use journal::{Disk, Found as FoundFile, UnreadDisk};
 use journal_opening::{OpeningFault, OpensJournal, table_marks, tell_form};
+use row_store::RowStore;
 use ssb_base::Base;
 use ssb_files::JobFault::{Found, Program};
 use ssb_files::{Fault, LoadedFor, TableBytes, checked_base_of};
-use ssb_journal::{HeadForm, OpenedJournal, TableMark, open, replay};
+use ssb_journal::{HeadForm, JournalReader, OpenedJournal, TableMark, open, replay};
 use ssb_text::{TableFiles, tables_are_read_back};
 use std::alloc::Global;
 use std::hash::RandomState;
 use std::io::{self, ErrorKind, Read, Write};
+use std::marker::Model;
 use std::rt::Files;
 use std::sync::Arc;
 use std::thread::Threads;
@@ -43,84 +46,125 @@ pub struct ExportPlace<'a, F: Files, P> {
     pub tells: bool,
 }
 
-/// Loaded tables, and a journal over them.
+/// Loaded tables, and a journal's file over them, of which nothing was read.
 #[derive(Drop)]
-pub struct ExportSource<'a, D: Disk + Drop> {
+pub struct ExportSource<'a, U: UnreadDisk + Drop> {
     pub base: Arc<Base>,
     /// By what the journal's head knows the tables.
     pub marks: &'a [TableMark],
     /// The journal's file.
-    pub disk: D,
-    /// Whether it is told how many commits the journal has.
-    pub tells: bool,
+    pub file: U,
 }
 
-// The tables after a journal's commits, how many these are, the form of its head, and how many bytes stand behind its
-// last whole group.
+/// The tables after a journal's commits, and the journal's file, which was read to its end and is as it was. Contracts
+/// see the tables that were loaded, by what the journal's head knows them, and the bytes of the file.
 #[derive(Drop)]
-struct JournalTables {
+pub struct JournalTables<'a, D: Disk> {
+    base: Arc<Base>,
+    marks: &'a [TableMark],
+    found: FoundFile<D>,
     tables: TablesAfter,
-    commits: usize,
+    // How many commits there are, the form of the journal's head, and how many bytes stand behind its last whole group.
+    commits: u64,
     form: HeadForm,
     torn: usize,
 }
 
-// The tables after the commits of a journal's file that was just opened. Nothing is written.
-fn tables_after_journal<D: Disk + Drop>(
+impl<'a, D: Disk> Model for JournalTables<'a, D> {
+    ghost use Rattle.export_command.specs.Exported.{AreOfFile, ReadJournal};
+
+    ghost Value = { ReadJournal };
+
+    ghost view = { λ r. record { base = r.base.value; marks = r.marks.now; file = D.seen r.found } };
+
+    ghost invariant = { λ r. AreOfFile r.base.value r.marks.now (D.seen r.found) r.tables r.commits r.torn };
+}
+
+// Makes the commits of a journal's file again, as that is read, and forgets them but for the orders that stand.
+fn replay_all<'a, U: UnreadDisk + Drop>(
+    alloc: Global,
+    store: &mut RowStore,
+    orders: &mut StandingOrders,
+    journal: JournalReader<'a, U>,
+) -> Result<JournalReader<'a, U>, ExportFault>
+    requires commits { store.old.log ≡ journal.commits }
+    requires orders { Follows store.old.base store.old.log orders.old }
+    ensures store { IfOk result (λ read. store.new ≡ record { base = store.old.base; log = read.commits }) }
+    ensures orders { OnOk result (Follows store.new.base store.new.log orders.new) }
+    ensures marks { IfOk result (λ read. read.marks ≡ journal.entry.marks) }
+    ensures known { IfOk result (λ read. U.holds read.unread ≡ U.holds journal.entry.unread) }
+    ensures end { IfOk result (λ read. read.is_done ≡ true) }
+    ensures fault { IfErr result (IsJournalRefusal store.old.base journal.entry.marks (U.holds journal.entry.unread)) }
+{
+    let mut journal = journal;
+    loop {
+        let (next, found) = match journal.next(alloc) {
+            Ok(next) => next,
+            Err((fault, _)) => return Err(Found(Journal(OpeningFault::Kept(fault)))),
+        };
+        let Some(commits) = found else {
+            return Ok(next);
+        };
+        if let Err(fault) = replay(store, &commits) {
+            return Err(Found(Journal(OpeningFault::Replay(fault))));
+        }
+        store.soundness();
+        let count = store.len();
+        orders.follow(&commits)?;
+        store.forget(count as u64);
+        journal = next;
+    }
+}
+
+/// The tables after the commits of a journal's file, which are applied as that is read. Of two faults the first in the
+/// file is told. Nothing is written.
+pub fn read_journal<'a, U: UnreadDisk + Drop>(
     alloc: Global,
     hashing: RandomState,
-    source: ExportSource<'_, D>,
-) -> Result<JournalTables, ExportFault>
-    requires readable { D.is_readable source.disk }
-    requires durable { Only (D.seen source.disk) (D.may_leave source.disk) }
-    ensures after { IfOk result (λ found.
-        AreTablesAfter source.entry.base.value source.entry.marks.now (D.seen source.entry.disk) found.tables) }
-    ensures commits { IfOk result (λ found. HasSoMany source.entry.marks.now found.commits (D.seen source.entry.disk)) }
-    ensures torn { IfOk result (λ found. HasSoManyTorn found.torn (D.seen source.entry.disk)) }
-    ensures journal { IfErr result (TellsJournalFault source.entry.base.value source.entry.marks.now
-        (D.seen source.entry.disk)) }
-    ensures fault { IfErr result IsFillFault }
-    ensures words { IfErr result (λ fault. export_status fault ≢ 2) }
-    ensures trace { IfErr result (λ fault. export_status fault ≢ 3) }
+    source: ExportSource<'a, U>,
+) -> Result<JournalTables<'a, U::Whole>, ExportFault>
+    requires unread { U.taken source.file ≡ [] }
+    ensures base { IfOk result (λ read. read.base ≡ source.entry.base.value) }
+    ensures marks { IfOk result (λ read. read.marks ≡ source.entry.marks.now) }
+    ensures known { IfOk result (λ read. IsKnown (U.holds source.entry.file) read.file) }
+    ensures fault { IfErr result (IsJournalRefusal source.entry.base.value source.entry.marks.now
+        (U.holds source.entry.file)) }
 {
-    let ExportSource {
-        base,
-        marks,
-        disk,
-        tells: _,
-    } = source;
-    let opened = match open(alloc, marks, disk) {
-        Ok(opened) => opened,
+    let ExportSource { base, marks, file } = source;
+    let journal = match open(alloc, marks, file) {
+        Ok(journal) => journal,
         Err((fault, _)) => return Err(Found(Journal(OpeningFault::Kept(fault)))),
     };
-    let OpenedJournal {
-        found: _,
-        kept,
-        torn,
-    } = opened;
-    let store = match replay(alloc, base, hashing, kept.commits.as_slice()) {
-        Ok(store) => store,
-        Err(fault) => return Err(Found(Journal(OpeningFault::Replay(fault)))),
+    let shared = Arc::try_clone(&base)?;
+    let mut store = RowStore::new(alloc, shared, hashing)?;
+    let mut orders = StandingOrders::new(alloc, hashing);
+    let journal = match replay_all(alloc, &mut store, &mut orders, journal) {
+        Ok(journal) => journal,
+        Err(fault) => return Err(fault),
     };
-    let commits = kept.commits.len();
-    let torn = torn.len();
+    store.soundness();
+    let tables = TablesAfter::new(store, orders);
+    let OpenedJournal { found, kept, torn } = journal.finish();
     Ok(JournalTables {
-        tables: TablesAfter::new(alloc, hashing, store)?,
-        commits,
+        base,
+        marks,
+        found,
+        tables,
+        commits: kept.count,
         form: kept.form,
-        torn,
+        torn: torn.len(),
     })
 }
 
 // Tells that the journal's tables are not checked, if they are not; and if it is asked for, how many commits the
 // journal has, and how many bytes stand behind them.
-fn tell_found<E: Write>(err: &mut E, found: &JournalTables, tells_commits: bool) {
-    tell_form(err, found.form);
+fn tell_read<D: Disk, E: Write>(err: &mut E, read: &JournalTables<'_, D>, tells_commits: bool) {
+    tell_form(err, read.form);
     if !tells_commits {
         return;
     }
-    let commits = found.commits;
-    let _ = match found.torn {
+    let commits = read.commits;
+    let _ = match read.torn {
         0 => writeln!(err, "ssb_live: journal: {commits} commits"),
         torn => writeln!(
             err,
@@ -137,7 +181,6 @@ fn lacks_memory(error: &io::Error) -> bool {
 fn not_filled(alloc: Global, path: &str, fault: &FillFault) -> ExportFault
     ensures status { export_status result ≡ 4 }
     ensures fault { IsFillFault result }
-    ensures journal { TellsNoJournal result }
 {
     match fault {
         FillFault::Folder(error) | FillFault::Tables(error) if lacks_memory(error) => {
@@ -152,38 +195,27 @@ fn not_filled(alloc: Global, path: &str, fault: &FillFault) -> ExportFault
 }
 
 /// Writes the tables after a journal's commits into a folder on which no call was made, and tells on `err` what is to
-/// be told of the journal. All of that is looked at before anything is made.
+/// be told of the journal.
 ///
 /// At `Ok` the folder has the five texts, and each crash from then on leaves them. A crash at any moment, also before
 /// an `Err`, leaves no `lineorder`, or all five.
 pub fn export_into<D: Disk + Drop, T: TableFolder, E: Write>(
     alloc: Global,
-    hashing: RandomState,
-    source: ExportSource<'_, D>,
+    read: JournalTables<'_, D>,
     folder: &mut T,
     err: &mut E,
+    tells_commits: bool,
 ) -> Result<(), ExportFault>
-    requires readable { D.is_readable source.disk }
-    requires durable { Only (D.seen source.disk) (D.may_leave source.disk) }
     requires new { T.calls folder.old ≡ [] }
-    ensures exported { OnOk result
-        (IsExport source.entry.base.value source.entry.marks.now (D.seen source.entry.disk) (T.calls folder.new)) }
-    ensures any_moment { LeftNoneOrExport source.entry.base.value source.entry.marks.now (D.seen source.entry.disk)
-        (T.calls folder.new) }
-    ensures journal { IfErr result (TellsJournalFault source.entry.base.value source.entry.marks.now
-        (D.seen source.entry.disk)) }
-    // Where the journal is refused, nothing was made.
-    ensures refused { IfErr result (λ fault. export_status fault ≡ 1 → T.calls folder.new ≡ []) }
+    ensures exported { OnOk result (IsExport read.entry.base read.entry.marks read.entry.file (T.calls folder.new)) }
+    ensures any_moment { LeftNoneOrExport read.entry.base read.entry.marks read.entry.file (T.calls folder.new) }
+    ensures status { IfErr result (λ fault. export_status fault ≡ 4) }
     ensures fault { IfErr result IsFillFault }
-    ensures words { IfErr result (λ fault. export_status fault ≢ 2) }
-    ensures trace { IfErr result (λ fault. export_status fault ≢ 3) }
 {
-    let tells = source.tells;
-    let found = tables_after_journal(alloc, hashing, source)?;
-    tell_found(err, &found, tells);
-    found.tables.soundness();
+    tell_read(err, &read, tells_commits);
+    read.tables.soundness();
     tables_are_read_back();
-    match fill(alloc, folder, &found.tables) {
+    match fill(alloc, folder, &read.tables) {
         Ok(()) => Ok(()),
         Err(fault) => Err(not_filled(alloc, folder.path(), &fault)),
     }
@@ -232,17 +264,19 @@ pub fn export<R: Threads + Sync + AllocGlobal, F: Files, P: OpensJournal, I: Rea
     let (base, checksums) = read;
     let marks = table_marks(&base, layout, place.bytes, &checksums);
     let base = Arc::new(alloc, base)?;
-    let disk = match place.journal.open(alloc) {
-        Ok(disk) => disk,
+    let file = match place.journal.open(alloc) {
+        Ok(file) => file,
         Err(error) => return Err(Found(Journal(OpeningFault::File(error)))),
     };
     let source = ExportSource {
         base,
         marks: &marks,
-        disk,
-        tells: place.tells,
+        file,
     };
-    export_into(alloc, hashing, source, &mut folder, err)
+    match read_journal(alloc, hashing, source) {
+        Ok(read) => export_into(alloc, read, &mut folder, err, place.tells),
+        Err(fault) => Err(fault),
+    }
 }
 
 /// Exports the tables, as `export` does, and tells a fault on a line of `err`.

@@ -1,36 +1,41 @@
 //! The word `export`: the five tables as they are after a journal's commits, written into a folder.
 //!
 //! ```text
-//! tables ── base_of ─▶ base ───────┐
-//! journal ── open ─▶ commits ──── replay ─▶ history ── TablesAfter ─▶ lines after it ── fill ─▶ FOLDER
+//! tables ── base_of ─▶ base ────────────────────────────────────────────────────┐
+//! journal ── next ─▶ commits, some after some ── replay, follow ─▶ standing orders ── fill ─▶ FOLDER
 //! ```
 //!
 //! The tables after a history (`specs/After`: `tables_after`) are the dimensions as they were and the lines after it.
 //! Those of the loaded lines that still stand come first, and then the lines that commits added and none took away, in
-//! the order of the commits: each order has at most one last action by which its earlier lines go (`last_gone`), so that
-//! one pass over the loaded lines and one over the log write them all, and no line is copied.
+//! the order of the commits. Commits are forgotten once they were made again, so the length of a journal takes no
+//! memory: `standing_orders` keeps the keys of the loaded orders that are gone, and of the orders that commits added
+//! those that stand, each by its refresh, and at most as many others or a few more. One pass over the loaded lines and
+//! one over these orders write all lines, and none is copied.
 //!
-//! The contract of [`write_table`]: what is written is the text of a table after the history. That of [`export_into`]
-//! (`specs/Exported`), over a journal's disk and a folder as its model has it (`table_folder`): at `Ok` the folder has the
-//! five texts of the tables after the commits that the file keeps, each crash from then on leaves them, and a load of them
-//! gives these tables; a crash at any moment until then leaves no `lineorder`, or all five. [`run_export`] opens both: with
-//! status 0 the tables spell a base, and the texts of the tables after the commits of the file spell these, which are sound.
+//! The contract of [`write_table`]: what is written is the text of a table after the history. That of
+//! [`read_journal`] (`specs/Exported`): the tables after the commits that the file keeps, or why there are none. That of
+//! [`export_into`], over these and a folder as its model has it (`table_folder`): at `Ok` the folder has the five texts
+//! of the tables, each crash from then on leaves them, and a load of them gives these tables; a crash at any moment until
+//! then leaves no `lineorder`, or all five. [`run_export`] opens both: with status 0 the tables spell a base, and the
+//! texts of the tables after the commits of the file spell these, which are sound.
 //!
 //! ```text
-//! let source = ExportSource { base, marks: &marks, disk, tells: true };
-//! export_into(alloc, hashing, source, &mut folder, &mut err)?;      // ssb_live: journal: 1204 commits
+//! let read = read_journal(alloc, hashing, ExportSource { base, marks: &marks, file })?;
+//! export_into(alloc, read, &mut folder, &mut err, true)?;      // ssb_live: journal: 1204 commits
 //! ```
 #![tactic(auto)]
 
 mod exporting;
 mod fault;
-mod last_gone;
 mod laws;
 mod orders;
+mod standing_orders;
 mod tables_after;
 mod writing;
 
-pub use exporting::{ExportPlace, ExportSource, export, export_into, run_export};
+pub use exporting::{
+    ExportPlace, ExportSource, JournalTables, export, export_into, read_journal, run_export,
+};
 pub use fault::{ExportFault, ExportRefusal, NotEmpty};
 pub use laws::tables_after_are_sound;
 pub use tables_after::TablesAfter;

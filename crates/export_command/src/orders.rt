@@ -1,12 +1,12 @@
 //! What the actions of commits hold by their types: they add orders.
 
 ghost use Rattle.std.specs.List.{AllByRecursion};
-ghost use Rattle.export_command.specs.After.{AddsOrder, actions_of};
+ghost use Rattle.export_command.specs.After.{AddsOrder};
 
-use row_store::Commit;
 use ssb_schema::Action;
 
-fn adds_order(action: &Action)
+// Whatever an action adds is an order. This looks at it, and does nothing.
+pub(crate) fn adds_order(action: &Action)
     ensures { AddsOrder action.now }
 {
     match action {
@@ -17,19 +17,11 @@ fn adds_order(action: &Action)
     }
 }
 
-fn all_add_orders(actions: &[Action])
+// The same of each action of a commit.
+pub(crate) fn all_add_orders(actions: &[Action])
     ensures { AllByRecursion AddsOrder actions.now }
 {
     for action in actions {
         adds_order(action);
-    }
-}
-
-// Whatever an action of a log adds is an order. This looks at each, and does nothing.
-pub(crate) fn log_adds_orders(log: &[Commit])
-    ensures { AllByRecursion AddsOrder (actions_of log.now) }
-{
-    for commit in log {
-        all_add_orders(commit.refresh.actions());
     }
 }

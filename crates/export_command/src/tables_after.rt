@@ -1,78 +1,58 @@
 //! The tables after a history.
 
-ghost use Rattle.std.specs.Prelude.{◌≡◌, IfOk};
+ghost use Rattle.std.specs.Prelude.{◌≡◌};
 ghost use Rattle.ssb_base.specs.Base.{IsSound};
 ghost use Rattle.export_command.specs.After.{tables_after};
+ghost use Rattle.export_command.specs.Standing.{Follows};
 ghost use Rattle.ssb_text.specs.RoundTrip.{AreTableRows};
 ghost use Rattle.ssb_text.specs.TableText.{base_texts};
 
-use crate::last_gone::LastGone;
-use crate::orders::log_adds_orders;
+use crate::standing_orders::StandingOrders;
 use crate::writing::write_table;
-use row_store::{Commit, Log, RowStore};
+use row_store::RowStore;
 use ssb_base::Base;
 use ssb_schema::Table;
-use std::alloc::{AllocError, Global};
-use std::hash::RandomState;
 use std::io::{self, ErrorKind, Write};
 use std::marker::Model;
 use std::sync::Arc;
 use table_folder::TableTexts;
 
-/// The tables after a legal history over a base. Contracts see them as the tables of a base.
+/// The tables after a legal history over a base. Contracts see them as the tables of a base; memory has the base and
+/// the added orders that stand.
 #[derive(Drop)]
 pub struct TablesAfter {
     pub(crate) base: Arc<Base>,
-    pub(crate) log: Vec<Commit>,
-    pub(crate) last: LastGone,
+    pub(crate) orders: StandingOrders,
 }
 
 impl Model for TablesAfter {
-    ghost use Rattle.ssb_base.specs.Base.{Tables};
-    ghost use Rattle.export_command.specs.After.{tables_after};
-    ghost use Rattle.export_command.specs.Standing.{AreAfter};
+    ghost use Rattle.ssb_base.specs.Base.{IsSound, Tables};
+    ghost use Rattle.export_command.specs.Standing.{tables_left};
 
     ghost Value = { Tables };
 
-    ghost view = { λ after. tables_after after.base.value after.log.items };
+    ghost view = { λ after. tables_left after.base.value after.orders };
 
-    ghost invariant = { λ after. AreAfter after.base.value after.log.items after.last };
-}
-
-// The commits of a row store that forgot none, as one does that nobody tells to forget.
-fn all_commits(log: Log) -> Result<Vec<Commit>, AllocError>
-    ensures { IfOk result (λ commits. commits.items ≡ log) }
-{
-    match log.into_commits() {
-        Some(commits) => Ok(commits),
-        None => Err(AllocError),
-    }
+    ghost invariant = { λ after. IsSound (tables_left after.base.value after.orders) };
 }
 
 impl TablesAfter {
-    /// The tables after the history of a row store.
-    pub fn new(
-        alloc: Global,
-        hashing: RandomState,
-        store: RowStore,
-    ) -> Result<TablesAfter, AllocError>
-        ensures { IfOk result (λ after. after ≡ tables_after store.base store.log) }
+    /// The tables after the history of a row store, of which these orders stand.
+    pub(crate) fn new(store: RowStore, orders: StandingOrders) -> TablesAfter
+        requires { Follows store.base store.log orders }
+        ensures { result ≡ tables_after store.base store.log }
     {
         store.soundness();
         store.base().soundness();
-        let _count = store.len();
-        let (base, log) = store.into_parts();
-        let log = all_commits(log)?;
-        log_adds_orders(log.as_slice());
-        let last = LastGone::of(alloc, hashing, log.as_slice())?;
-        Ok(TablesAfter { base, log, last })
+        let (base, _) = store.into_parts();
+        TablesAfter { base, orders }
     }
 
     /// They keep what the tables of a base keep, so that one can be loaded of them. The law alone: it does nothing.
     pub fn soundness(&self)
         ensures { IsSound self.now }
     {
-        let _log = &self.log;
+        let _orders = &self.orders;
     }
 }
 

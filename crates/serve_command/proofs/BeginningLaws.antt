@@ -18,7 +18,7 @@ use Rattle.ssb_journal.specs.Counts.{Begun, KeepsBeginning, KeepsFirst, KeepsSin
 use Rattle.ssb_journal.specs.Kept.{IsAsItWasOrNew, KeepsCommits, SpellCommits}
 use Rattle.ssb_journal.specs.Opening.{IsKept}
 use Rattle.ssb_journal.specs.Texts.{AreSealed}
-use Rattle.ssb_journal.specs.declared.opening.KeptCommits.{KeptCommits}
+use Rattle.ssb_journal.specs.declared.kept.KeptCommits.{KeptCommits}
 use Rattle.ssb_journal.specs.declared.head.HeadForm.{HeadForm}
 use Rattle.ssb_journal.specs.declared.head.TableMark.{TableMark}
 use Rattle.ssb_server.specs.Opening.{IsOpenFault}
@@ -28,8 +28,8 @@ use Rattle.ssb_server.specs.declared.opening.OpenFault.TheVariants as opening
 use Rattle.ssb_serving.specs.RunFaults.{IsRunFault, fault_of}
 use Rattle.ssb_serving.specs.Members.{IsStill}
 use Rattle.ssb_serving.specs.declared.run_fault.RunFault.{RunFault}
-use Rattle.serve_command.specs.JournaledRun.{HasKept, IsBegunOn, IsFoundOrKept, IsJournaledFault, IsJournaledRun}
-use Rattle.serve_command.specs.JournaledRun.{IsOpenedFault, KeepsAll, KeepsRecovered, begun_on}
+use Rattle.serve_command.specs.JournaledRun.{HasKept, IsBegunOn, IsFoundOrKept, IsJournaledRun, IsUnservedFault}
+use Rattle.serve_command.specs.JournaledRun.{KeepsAll, KeepsRecovered, begun_on}
 use Rattle.serve_command.specs.declared.unserved.JournaledFault.{JournaledFault}
 use Rattle.serve_command.specs.declared.unserved.JournaledFault.TheVariants as fault
 
@@ -155,29 +155,10 @@ kept_since moment left_since found begun disk marks kept groups least seen first
     (λ file keeps. (has.log, begins, keeps)))
 
 -- that a journal was out, or memory ran out, tells nothing of its commits
-pub unserved_fault : (base : Tables) (commits : List CommitRecord) (why : JournaledFault)
-    → (why ≡ fault.Disturbed) ⊎ (why ≡ fault.OutOfMemory) → IsOpenedFault base commits why
-unserved_fault base commits why is =
-    ⊎_elim (λ one. subst (IsOpenedFault base commits) (sym one) tt)
-    (λ other. subst (IsOpenedFault base commits) (sym other) tt) is
-
--- what an opened server does not serve is not served
-not_served : (base : Tables) (commits : List CommitRecord) (dispatchers : ℕ) (why : JournaledFault)
-    → IsOpenedFault base commits why → IsJournaledFault base commits dispatchers why
-not_served base commits dispatchers (fault.NotRun why) is = absurd is
-not_served base commits dispatchers (fault.Replay why) is = is
-not_served base commits dispatchers fault.Disturbed is = tt
-not_served base commits dispatchers fault.Write is = tt
-not_served base commits dispatchers fault.OutOfMemory is = tt
-
-pub fault_over : {X E : Type 0} (fault_in : E → JournaledFault) (result : Result X E) (opened base : Tables)
-    (commits : List CommitRecord) (dispatchers : ℕ) → opened ≡ base
-    → IfErr result (λ e. IsOpenedFault opened commits (fault_in e))
-    → IfErr result (λ e. IsJournaledFault base commits dispatchers (fault_in e))
-fault_over fault_in (Ok run) opened base commits dispatchers same is = tt
-fault_over fault_in (Err why) opened base commits dispatchers same is =
-    subst (λ b. IsJournaledFault b commits dispatchers (fault_in why)) same
-    (not_served opened commits dispatchers (fault_in why) is)
+pub unserved_fault : (why : JournaledFault) → (why ≡ fault.Disturbed) ⊎ (why ≡ fault.OutOfMemory)
+    → IsUnservedFault why
+unserved_fault why is =
+    ⊎_elim (λ one. subst IsUnservedFault (sym one) tt) (λ other. subst IsUnservedFault (sym other) tt) is
 
 -- no server was opened
 pub run_fault : (clients dispatchers : ℕ) (why : OpenFault) (told : RunFault) → told ≡ fault_of why

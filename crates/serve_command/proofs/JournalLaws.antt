@@ -14,12 +14,8 @@ use Rattle.journal_opening.specs.declared.fault.OpeningFault.TheVariants as open
 use Rattle.journal_opening.specs.declared.start.JournalStart.{JournalStart}
 use Rattle.journal_opening.specs.declared.start.JournalStart.TheVariants as start
 use Rattle.row_store.specs.History.{CommitRecord}
-use Rattle.serve_command.specs.JournaledRun.{IsJournaledFault}
 use Rattle.serve_command.specs.Journals.{AreOnDisk, AreRefused, GoesOn, GoesOnFrom, IsRefusedFile, Journal, RefusesFile}
-use Rattle.serve_command.specs.Status.{journaled_status}
 use Rattle.serve_command.specs.declared.runs.KeptLog.{KeptLog}
-use Rattle.serve_command.specs.declared.unserved.JournaledFault.{JournaledFault}
-use Rattle.serve_command.specs.declared.unserved.JournaledFault.TheVariants as journaled
 use Rattle.ssb_base.specs.Base.{Tables}
 use Rattle.ssb_files.specs.Loaded.{AreRefusedToServe, IsLoadedToServe}
 use Rattle.ssb_files.specs.Standing.{MayNotStandToServe}
@@ -30,8 +26,7 @@ use Rattle.ssb_journal.specs.declared.fault.JournalFault.TheVariants as journal
 use Rattle.ssb_journal.specs.declared.head.TableMark.{TableMark}
 use Rattle.ssb_journal.specs.declared.opening.JournalOpenFault.{JournalOpenFault}
 use Rattle.ssb_journal.specs.declared.opening.JournalOpenFault.TheVariants as kept
-use Rattle.ssb_journal.specs.declared.opening.KeptCommits.{KeptCommits}
-use Rattle.ssb_journal.specs.declared.replaying.ReplayFault.TheVariants as replay
+use Rattle.ssb_journal.specs.declared.kept.KeptCommits.{KeptCommits}
 use Rattle.ssb_questions.specs.declared.query.Query.{Query}
 use Rattle.ssb_questions.specs.declared.value.Value.{Value}
 use Rattle.ssb_schema.specs.declared.table.Table.{Table}
@@ -77,22 +72,6 @@ refused_open base marks start.GoesOn path file (opening.File why) tells status =
 refused_open base marks start.Begins path file (opening.File why) tells status = absurd tells
 refused_open base marks start.GoesOn path file (opening.Replay why) tells status = absurd tells
 refused_open base marks start.Begins path file (opening.Replay why) tells status = absurd tells
-
-pub refused_replay : (base : Tables) (marks : List TableMark) (Begins : Type 0) (file : List ℕ)
-    (commits : List CommitRecord) (dispatchers : ℕ) (why : JournaledFault) → HasCommits marks commits file
-    → IsJournaledFault base commits dispatchers why → journaled_status why ≡ 1 → IsRefusedFile base marks Begins file
-refused_replay base marks Begins file commits dispatchers (journaled.Replay (replay.Refused number action cause)) has is
-    status =
-    inr (inl (record { commits = commits; has = has; number = number; action = action; cause = cause; first = is }))
-refused_replay base marks Begins file commits dispatchers (journaled.Replay replay.OutOfMemory) has is status =
-    absurd (omega (arith, status))
-refused_replay base marks Begins file commits dispatchers (journaled.NotRun why) has is status =
-    absurd (omega (arith, status))
-refused_replay base marks Begins file commits dispatchers journaled.Disturbed has is status =
-    absurd (omega (arith, status))
-refused_replay base marks Begins file commits dispatchers journaled.Write has is status = absurd (omega (arith, status))
-refused_replay base marks Begins file commits dispatchers journaled.OutOfMemory has is status =
-    absurd (omega (arith, status))
 
 -- what speaks against a base is refused with a journal, and without one
 pub refused_base : (texts : Table → List ℕ) (standing : List (Query × List Value)) (server : Journal)

@@ -2,6 +2,7 @@ mod BeginningLaws
 mod ReadingLaws
 mod SeatLaws
 mod RemakingLaws
+mod RemadeLaws
 mod RunLaws
 mod StatusLaws
 mod SessionLaws

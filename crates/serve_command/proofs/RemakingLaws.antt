@@ -2,7 +2,7 @@
 use Rattle.std.proofs.Common.{◌≡◌, ℕ, ◌+◌, ◌<◌, List, [], ◌∷◌, ◌++◌, length, take, get_or, set, Some, refl, sym, ap}
 use Rattle.std.proofs.Common.{◌∙◌, ◌-◌, ◌≤◌, Result, Ok, Err, subst, arith}
 use Rattle.std.specs.Prelude.{IfErr, slice_get}
-use Rattle.std.proofs.lemmas.List.{length_push, length-take-le, take_more}
+use Rattle.std.proofs.lemmas.List.{append_assoc, length_push, length-take-le, take_more}
 use Rattle.std.proofs.lemmas.Option.{slice_get_read}
 use Rattle.history.specs.Tokens.{TableRecord, TokenRecord}
 use Rattle.history_core.specs.declared.event.Who.TheVariants.{Client}
@@ -96,75 +96,76 @@ remade table before commit number receipt client shown made reader again seated 
       };
     }
 
--- the commit at a place
-pub commit_at : (commits : List CommitRecord) (place : ℕ) (commit : CommitRecord) → place < length commits
-    → commit ≡ get_or commits place commit → slice_get commits place ≡ Some commit
-commit_at commits place commit within here = slice_get_read commits (length commits) place commit refl within here
+-- the commit at a place, behind others
+commit_behind : (before commits : List CommitRecord) (place : ℕ) (commit : CommitRecord) → place < length commits
+    → commit ≡ get_or commits place commit
+    → slice_get (before ++ commits) (length (before ++ take place commits)) ≡ Some commit
+commit_behind [] commits place commit within here =
+    ap (slice_get commits) (length-take-le place commits (omega (arith, within)))
+    ∙ slice_get_read commits (length commits) place commit refl within here
+commit_behind (first ∷ before) commits place commit within here = commit_behind before commits place commit within here
+
+-- and those before it
+before_commit : (before commits : List CommitRecord) (place : ℕ) → place < length commits
+    → take (length (before ++ take place commits)) (before ++ commits) ≡ before ++ take place commits
+before_commit [] commits place within =
+    ap (λ n. take n commits) (length-take-le place commits (omega (arith, within)))
+before_commit (first ∷ before) commits place within = ap (λ l. first ∷ l) (before_commit before commits place within)
 
 -- one commit more
-pub one_more : (commits now after : List CommitRecord) (place : ℕ) (commit : CommitRecord) → place < length commits
-    → commit ≡ get_or commits place commit → now ≡ take place commits → after ≡ now ++ commit ∷ []
-    → after ≡ take (place + 1) commits
-one_more commits now after place commit within here was is =
-    is ∙ ap (λ l. l ++ commit ∷ []) was ∙ ap (λ c. take place commits ++ c ∷ []) here
-    ∙ sym (take_more commits place commit within)
-
-pub longer_by_one : (commits : List CommitRecord) (place : ℕ) → place < length commits
-    → IsPrefix (take place commits) (take (place + 1) commits)
-longer_by_one [] place within = absurd (omega (arith, within))
-longer_by_one (c ∷ commits) place within =
-    subst (IsPrefix (take place (c ∷ commits))) (sym (take_more (c ∷ commits) place c within))
-    (prefix_append (take place (c ∷ commits)) (get_or (c ∷ commits) place c ∷ []))
-
--- how many came before
-pub before_place : (commits now : List CommitRecord) (place : ℕ) → place < length commits → now ≡ take place commits
-    → length now ≡ place
-before_place commits now place within was =
-    ap length was ∙ length-take-le place commits (omega (arith, within))
+pub one_more : (before commits now after : List CommitRecord) (place : ℕ) (commit : CommitRecord)
+    → place < length commits → commit ≡ get_or commits place commit → now ≡ before ++ take place commits
+    → after ≡ now ++ commit ∷ [] → after ≡ before ++ take (place + 1) commits
+one_more before commits now after place commit within here was is =
+    is ∙ ap (λ l. l ++ commit ∷ []) was ∙ append_assoc before (take place commits) (commit ∷ [])
+    ∙ ap (λ c. before ++ (take place commits ++ c ∷ [])) here
+    ∙ ap (λ l. before ++ l) (sym (take_more commits place commit within))
 
 -- the first commit that is not made again is the first that is refused
-pub remake_fault : (base : Tables) (commits now : List CommitRecord) (place : ℕ) (commit : CommitRecord)
-    (why : JournaledFault) → place < length commits → commit ≡ get_or commits place commit → now ≡ take place commits
-    → IsNotMade base now commit why → IsRemakeFault base commits why
-remake_fault base commits now place commit (fault.NotRun why) within here was is = absurd is
-remake_fault base commits now place commit (fault.Replay (replay.Refused number action cause)) within here was is =
+pub remake_fault : (base : Tables) (before commits now : List CommitRecord) (place : ℕ) (commit : CommitRecord)
+    (why : JournaledFault) → place < length commits → commit ≡ get_or commits place commit
+    → now ≡ before ++ take place commits → IsNotMade base now commit why
+    → IsRemakeFault base (before ++ commits) why
+remake_fault base before commits now place commit (fault.NotRun why) within here was is = absurd is
+remake_fault base before commits now place commit (fault.Replay (replay.Refused number action cause)) within here was
+    is =
+    let all : now ≡ take (length now) (before ++ commits) =
+    was ∙ sym (before_commit before commits place within) ∙ ap (λ l. take (length l) (before ++ commits)) (sym was) in
     record {
-      place = place;
-      numbered = is.numbered ∙ ap (λ n. n + 1) (before_place commits now place within was);
+      place = length now;
+      numbered = is.numbered;
       commit = commit;
-      is = commit_at commits place commit within here;
-      legal = subst (IsLegal base) was is.legal;
+      is = ap (λ l. slice_get (before ++ commits) (length l)) was ∙ commit_behind before commits place commit within here;
+      legal = subst (IsLegal base) all is.legal;
       refused = subst
-          (λ l. refusal_of base l commit.actions ≡ Some (record { action = action; cause = cause })) was is.refused;
+          (λ l. refusal_of base l commit.actions ≡ Some (record { action = action; cause = cause })) all is.refused;
     }
-remake_fault base commits now place commit (fault.Replay replay.OutOfMemory) within here was is = absurd is
-remake_fault base commits now place commit fault.Disturbed within here was is = tt
-remake_fault base commits now place commit fault.Write within here was is = absurd is
-remake_fault base commits now place commit fault.OutOfMemory within here was is = tt
+remake_fault base before commits now place commit (fault.Replay replay.OutOfMemory) within here was is = absurd is
+remake_fault base before commits now place commit fault.Disturbed within here was is = tt
+remake_fault base before commits now place commit fault.Write within here was is = absurd is
+remake_fault base before commits now place commit fault.OutOfMemory within here was is = tt
 
 -- the client of a commit
-pub seat_of : (table : TableRecord) (history seen : List CommitRecord) (clients : List TokenRecord) (number named : ℕ)
-    (client : TokenRecord) → AreSeated table history clients → seen ≡ history → number ≡ named → 0 < number
+pub seat_of : (table : TableRecord) (seen : List CommitRecord) (clients : List TokenRecord) (number named : ℕ)
+    (client : TokenRecord) → AreSeated table seen clients → number ≡ named → 0 < number
     → number ≤ length clients → client ≡ get_or clients (number - 1) client
     → IsSeated table seen named (get_or clients (number - 1) client)
-seat_of table history seen clients number named client seated was is some within here =
-    subst (IsSeated table seen named) here (subst (λ l. IsSeated table l named client) (sym was)
-    (seated_at table history clients (number - 1) named client seated (omega (arith, is, some)) (omega (
+seat_of table seen clients number named client seated is some within here =
+    subst (IsSeated table seen named) here
+    (seated_at table seen clients (number - 1) named client seated (omega (arith, is, some)) (omega (
       arith,
       some,
       within,
-    )) here))
+    )) here)
 
 -- one commit more, and its client has seen it
-pub next_seated : (table : TableRecord) (commits after : List CommitRecord) (place : ℕ) (commit : CommitRecord)
-    (clients : List TokenRecord) (number : ℕ) (client : TokenRecord) → AreSeated table (take place commits) clients
-    → place < length commits → after ≡ take (place + 1) commits → number ≡ commit.client → 0 < number
-    → IsSeated table after commit.client client
-    → AreSeated table (take (place + 1) commits) (set clients (number - 1) client)
-next_seated table commits after place commit clients number client seated within grown is some new =
-    seated_set table (take place commits) (take (place + 1) commits) clients (set clients (number - 1) client)
-    (number - 1) commit.client client seated (longer_by_one commits place within) refl (omega (arith, is, some))
-    (subst (λ l. IsSeated table l commit.client client) grown new)
+pub next_seated : (table : TableRecord) (seen after : List CommitRecord) (commit : CommitRecord)
+    (clients : List TokenRecord) (number : ℕ) (client : TokenRecord) → AreSeated table seen clients
+    → after ≡ seen ++ commit ∷ [] → number ≡ commit.client → 0 < number
+    → IsSeated table after commit.client client → AreSeated table after (set clients (number - 1) client)
+next_seated table seen after commit clients number client seated grown is some new =
+    seated_set table seen after clients (set clients (number - 1) client) (number - 1) commit.client client seated
+    (subst (IsPrefix seen) (sym grown) (prefix_append seen (commit ∷ []))) refl (omega (arith, is, some)) new
 
 pub still_still : (first second third : TokenRecord) → IsStill first second → IsStill second third
     → IsStill first third

@@ -63,17 +63,13 @@ parted table recovered count all seated resting are shown few front back = recor
   many = ap length front ∙ length-take-le count all few;
 }
 
--- the same of clients that were lent and came back
-pub parted_again : (table : TableRecord) (recovered : List CommitRecord) (count n len : ℕ)
-    (old all seated resting : List TokenRecord) → AreSeated table recovered all → AllHaveSeen recovered all → n ≡ count
-    → count ≤ table.clients → len ≡ table.clients → seated ≡ take n (take len (all ++ drop (length all) old))
-    → resting ≡ drop n (take len (all ++ drop (length all) old)) → AreParted table recovered count seated resting
-parted_again table recovered count n len old all seated resting are shown same few whole front back =
-    let back_again : take len (all ++ drop (length all) old) ≡ all =
-    take_at all (drop (length all) old) len (are.count ∙ sym whole) in
+-- the same by how many there are to be in front
+pub parted_at : (table : TableRecord) (recovered : List CommitRecord) (count n : ℕ) (all seated resting : List TokenRecord)
+    → AreSeated table recovered all → AllHaveSeen recovered all → n ≡ count → count ≤ table.clients
+    → seated ≡ take n all → resting ≡ drop n all → AreParted table recovered count seated resting
+parted_at table recovered count n all seated resting are shown same few front back =
     parted table recovered count all seated resting are shown (omega (arith, few, are.count))
-    (front ∙ (ap (λ xs. take n xs) back_again ∙ ap (λ k. take k all) same))
-    (back ∙ (ap (λ xs. drop n xs) back_again ∙ ap (λ k. drop k all) same))
+    (front ∙ ap (λ k. take k all) same) (back ∙ ap (λ k. drop k all) same)
 
 parts_stand : (table : TableRecord) (recovered : List CommitRecord) (count : ℕ) (seated resting : List TokenRecord)
     → AreParted table recovered count seated resting → AreStanding table 1 (seated ++ resting)

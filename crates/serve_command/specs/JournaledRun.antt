@@ -10,10 +10,8 @@ use Rattle.row_store.specs.History.{CommitRecord, IsPrefix}
 use Rattle.row_store.specs.Legal.{IsLegal}
 use Rattle.ssb_base.specs.Base.{Tables}
 use Rattle.ssb_journal.specs.Counts.{Begun, KeepsBeginning, KeepsSince}
-use Rattle.ssb_journal.specs.Replays.{IsReplayFault}
 use Rattle.history_core.specs.Counts.{most_clients}
 use Rattle.ssb_serving.specs.Members.{AreStill}
-use Rattle.ssb_serving.specs.RunFaults.{IsRunFault}
 use Rattle.ssb_serving.specs.Streams.{IsSpoken}
 use Rattle.serve_command.specs.declared.unserved.JournaledFault.{JournaledFault}
 use Rattle.serve_command.specs.declared.unserved.JournaledFault.TheVariants as fault
@@ -102,19 +100,10 @@ pub record IsJournaledRun {S L : Type 0} (Spoken : S → TokenRecord → TokenRe
   pub legal : IsLegal base log
   pub named : IsOfClients most_clients log
 
--- why an opened server served nothing: a commit of the journal is refused, and then it is the first that is; the others
--- tell nothing of the journal's commits
-abbrev pub IsOpenedFault : Tables → List CommitRecord → JournaledFault → Type 0
-IsOpenedFault base recovered (fault.NotRun why) = ⊥
-IsOpenedFault base recovered (fault.Replay why) = IsReplayFault base recovered why
-IsOpenedFault base recovered fault.Disturbed = Unit {0}
-IsOpenedFault base recovered fault.Write = Unit {0}
-IsOpenedFault base recovered fault.OutOfMemory = Unit {0}
-
--- why nothing was served: no server was opened for as many clients as there can be and so many dispatchers; or an opened one served nothing
-abbrev pub IsJournaledFault : Tables → List CommitRecord → ℕ → JournaledFault → Type 0
-IsJournaledFault base recovered dispatchers (fault.NotRun why) = IsRunFault most_clients dispatchers why
-IsJournaledFault base recovered dispatchers (fault.Replay why) = IsOpenedFault base recovered (fault.Replay why)
-IsJournaledFault base recovered dispatchers fault.Disturbed = IsOpenedFault base recovered fault.Disturbed
-IsJournaledFault base recovered dispatchers fault.Write = IsOpenedFault base recovered fault.Write
-IsJournaledFault base recovered dispatchers fault.OutOfMemory = IsOpenedFault base recovered fault.OutOfMemory
+-- why a server served nothing, or not to the end, behind a journal's commits that were made again: none is refused
+abbrev pub IsUnservedFault : JournaledFault → Type 0
+IsUnservedFault (fault.NotRun why) = ⊥
+IsUnservedFault (fault.Replay why) = ⊥
+IsUnservedFault fault.Disturbed = Unit {0}
+IsUnservedFault fault.Write = Unit {0}
+IsUnservedFault fault.OutOfMemory = Unit {0}

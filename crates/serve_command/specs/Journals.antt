@@ -14,6 +14,7 @@ use Rattle.ssb_base.specs.Base.{Tables}
 use Rattle.ssb_files.specs.Loaded.{AreRefusedToServe, IsLoadedToServe}
 use Rattle.ssb_files.specs.Standing.{MayNotStandToServe}
 use Rattle.ssb_journal.specs.Counts.{KeepsBeginning}
+use Rattle.ssb_journal.specs.Kept.{BeginsWithCommits}
 use Rattle.ssb_journal.specs.Opening.{IsOpenFault}
 use Rattle.ssb_journal.specs.Replays.{IsFirstRefused}
 use Rattle.ssb_journal.specs.declared.fault.JournalFault.{JournalFault}
@@ -85,10 +86,16 @@ pub record AreOnDisk (may_leave : List ℕ → Type 0) (file : List ℕ) (Well :
   pub crash : (left : List ℕ) → may_leave left → KeepsBeginning told log left
   pub written : Well → KeepsBeginning told log file
 
--- a file keeps commits, one of which is refused over the base
+-- a journal's file, the known one where one is known, keeps no commits over tables of these marks
+pub record KeepsNone (marks : List TableMark) (known : Option (List ℕ)) : Type 0 where
+  pub file : List ℕ
+  pub is_file : IsKnown known file
+  pub has : HasCommits marks [] file
+
+-- a file begins with a journal of commits, one of which is refused over the base
 pub record KeepsRefused (base : Tables) (marks : List TableMark) (file : List ℕ) : Type 0 where
   pub commits : List CommitRecord
-  pub has : HasCommits marks commits file
+  pub begins : BeginsWithCommits marks commits file
   pub number : ℕ
   pub action : ℕ
   pub cause : Cause

@@ -1,20 +1,19 @@
 //! A journal's file, from its opening to the sessions that go on from its commits.
 
 ghost use Rattle.std.specs.Prelude.{◌≡◌, ◌≢◌, ◌⊎◌, ◌≤◌, [], All, IfOk, IfErr, OnOk, vec_len};
-ghost use Rattle.journal.specs.Disk.{Only};
-ghost use Rattle.journal_opening.specs.Kept.{HasCommits, IsKnown};
 ghost use Rattle.journal_opening.specs.declared.start.JournalStart.TheVariants.{Begins};
-ghost use Rattle.serve_command.specs.Journals.{GoesOn, IsRefusedFile};
+ghost use Rattle.serve_command.specs.Journals.{GoesOnFrom, KeepsNone, RefusesFile};
 ghost use Rattle.serve_command.specs.Status.{refusal_status, serving_status};
 ghost use Rattle.ssb_journal.specs.Counts.{IsLeft};
 ghost use Rattle.history_core.specs.Counts.{most_clients};
 
 use crate::acknowledging::Durable;
 use crate::fault::{ServeFault, ServeRefusal};
-use crate::journaled_run::{JournaledRun, Recovered, run_journaled};
+use crate::journaled_run::{JournaledRun, run_journaled};
 use crate::ready::{ReadyLine, tell_ready};
-use journal::{Disk, KeepsTorn};
-use journal_opening::{OpeningFault, OpensJournal, open_started, tell_form};
+use crate::remade::remake_journal;
+use journal::{KeepsTorn, UnreadDisk};
+use journal_opening::{OpeningFault, OpensJournal, StartedJournal, tell_form};
 use ssb_files::TableBytes;
 use ssb_journal::TableMark;
 use ssb_server::Loaded;
@@ -36,13 +35,13 @@ pub struct JournalPlace<'a, P> {
     pub tells: bool,
 }
 
-/// A loaded base, and a journal's file over its tables that was just opened.
+/// A loaded base, and a journal's file over its tables, of which nothing was read.
 #[derive(Drop)]
-pub struct JournalSource<'a, D: Disk + Drop> {
+pub struct JournalSource<'a, U: UnreadDisk + Drop> {
     pub loaded: Loaded,
     /// By what the journal's head knows the tables.
     pub marks: &'a [TableMark],
-    pub disk: D,
+    pub file: U,
     /// What is told when the server is ready, if anything is.
     pub ready: Option<ReadyLine>,
 }
@@ -81,81 +80,79 @@ impl<'a, P: KeepsTorn, E: Print> KeepsTorn for TornKeeper<'a, P, E> {
 }
 
 /// Serves clients at once, one for each speaker, by 1 to 4 dispatchers over a loaded base, behind the commits of a
-/// journal's file that was just opened; where the journal begins, it has none. All of it is looked at before anything is
+/// journal's file that was just opened; where the journal begins, it has none. All of it is read before anything is
 /// written; what a crash has torn is kept at the place before it is cut off.
-pub fn run_source<R, P, D, S, E>(
+pub fn run_source<R, P, U, S, E>(
     rt: &R,
     dispatchers: u32,
     place: &JournalPlace<'_, P>,
-    source: JournalSource<'_, D>,
+    source: JournalSource<'_, U>,
     speakers: Vec<S>,
     screen: &E,
-) -> Result<JournaledRun<D, S::Left>, ServeRefusal>
+) -> Result<JournaledRun<U::Whole, S::Left>, ServeRefusal>
 where
     R: Threads + Sync + Wait + Clock + AllocGlobal,
     P: OpensJournal + KeepsTorn,
     P::Kept: Drop,
-    D: Disk + Drop + Send,
+    U: UnreadDisk + Drop,
+    U::Whole: Send,
     S: Speaks<R, Durable> + Drop + Send,
     S::Left: Drop + Send,
     E: Print,
-    requires readable { D.is_readable source.disk }
-    requires durable { Only (D.seen source.disk) (D.may_leave source.disk) }
+    requires unread { U.taken source.file ≡ [] }
     requires few { vec_len speakers ≤ most_clients }
-    ensures served { IfOk result (λ run. GoesOn S.spoken source.entry.loaded source.entry.marks.now
-        (D.seen source.entry.disk) speakers.items dispatchers run.left.items run.log) }
+    ensures served { IfOk result (λ run. GoesOnFrom S.spoken (U.holds source.entry.file) source.entry.loaded
+        source.entry.marks.now speakers.items dispatchers run.left.items run.log) }
     ensures begun { OnOk result (P.starts place.now.file.now ≡ Begins
-        → HasCommits source.entry.marks.now [] (D.seen source.entry.disk)) }
+        → KeepsNone source.entry.marks.now (U.holds source.entry.file)) }
     // Whatever crashes from now on leaves the first commits of the log, at least so many, ..
-    ensures kept { IfOk result (λ run. IsLeft (D.may_leave run.disk) (D.seen run.disk) run.count run.log
+    ensures kept { IfOk result (λ run. IsLeft (U.Whole.may_leave run.disk) (U.Whole.seen run.disk) run.count run.log
         run.was_written) }
     // .. and no client was told of more.
     ensures told { IfOk result (λ run. All (λ left. S.told left ≤ run.count) run.left.items) }
     ensures left { IfOk result (λ run. vec_len run.left ≡ vec_len speakers) }
-    ensures refused { IfErr result (λ refusal. refusal_status refusal ≡ 1 → IsRefusedFile source.entry.loaded
-        source.entry.marks.now (P.starts place.now.file.now ≡ Begins) (D.seen source.entry.disk)) }
+    ensures refused { IfErr result (λ refusal. refusal_status refusal ≡ 1 → RefusesFile source.entry.loaded
+        source.entry.marks.now (P.starts place.now.file.now ≡ Begins) (U.holds source.entry.file)) }
     ensures words { IfErr result (λ refusal. refusal_status refusal ≢ 2) }
 {
     let JournalSource {
         loaded,
         marks,
-        disk,
+        file,
         ready,
     } = source;
-    let file = place.file;
-    let opened = match open_started(rt.alloc(), marks, file.start(), file.path(), disk) {
-        Ok(opened) => opened,
+    let at = place.file;
+    let started = match StartedJournal::open(rt.alloc(), marks, at.start(), at.path(), file) {
+        Ok(started) => started,
         Err((fault, _)) => return Err(ServeRefusal::Journal(fault)),
     };
-    tell_form(&mut io::writer(screen), opened.kept.form);
+    let remade = match remake_journal(rt, rt.alloc(), loaded, dispatchers, marks, started) {
+        Ok(remade) => remade,
+        Err(refusal) => return Err(refusal),
+    };
+    tell_form(&mut io::writer(screen), remade.opened.kept.form);
     let keeper = TornKeeper {
         place,
-        commits: opened.kept.commits.len() as u64,
+        commits: remade.opened.kept.count,
         ready,
         screen,
     };
-    let recovered = Recovered {
-        opened,
-        marks,
-        keeper: &keeper,
-    };
-    match run_journaled(rt, rt.alloc(), loaded, speakers, dispatchers, recovered) {
+    match run_journaled(rt, rt.alloc(), remade, speakers, &keeper) {
         Ok(run) => Ok(run),
         Err(unserved) => Err(ServeRefusal::NotServed(unserved.fault)),
     }
 }
 
-/// Opens the file of a journal.
+/// Opens the file of a journal: nothing was read of it.
 pub(crate) fn open_file<P: OpensJournal>(alloc: Global, file: &P) -> Result<P::Opened, ServeFault>
-    ensures readable { IfOk result P.Opened.is_readable }
-    ensures durable { IfOk result (λ disk. Only (P.Opened.seen disk) (P.Opened.may_leave disk)) }
-    ensures held { IfOk result (λ disk. IsKnown (P.holds file.now) (P.Opened.seen disk)) }
+    ensures unread { IfOk result (λ opened. P.Opened.taken opened ≡ []) }
+    ensures held { IfOk result (λ opened. P.Opened.holds opened ≡ P.holds file.now) }
     ensures refused { IfErr result (λ fault. serving_status fault ≡ 1
         → P.is_taken file.now ⊎ P.is_missing file.now) }
     ensures words { IfErr result (λ fault. serving_status fault ≢ 2) }
 {
     match file.open(alloc) {
-        Ok(disk) => Ok(disk),
+        Ok(opened) => Ok(opened),
         Err(error) => {
             let fault = OpeningFault::File(error);
             Err(ServeFault::Found(ServeRefusal::Journal(fault)))

@@ -1,36 +1,33 @@
 //! Sessions over a server with a journal, from its opening to its end.
 
 ghost use Rattle.std.specs.Prelude.{◌≡◌, ◌+◌, ◌≤◌, ◌++◌, [], ◌∷◌, All, IfOk, IfErr, IfSome, OnOk};
-ghost use Rattle.std.specs.Prelude.{◌⊎◌, IsSome, Some, map, true, vec_len};
-ghost use Rattle.history.specs.Tokens.{new_clients, new_dispatchers};
+ghost use Rattle.std.specs.Prelude.{◌⊎◌, IsSome, Some, length, map, true, vec_len};
 ghost use Rattle.journal.specs.Groups.{recovered as recovered_groups, AreTorn};
 ghost use Rattle.journal.specs.Disk.{LeavesOnly};
 ghost use Rattle.ssb_journal.specs.Counts.{IsLeft, KeepsFirst, KeepsSince};
 ghost use Rattle.ssb_journal.specs.Kept.{IsAsItWasOrNew};
 ghost use Rattle.ssb_journal.specs.Opening.{IsKept};
 ghost use Rattle.history_core.specs.Counts.{most_clients};
-ghost use Rattle.std.specs.Option.{is_some};
-ghost use Rattle.ssb_clients.specs.Tickets.{IsOf, IsQuiet, with_reader};
-ghost use Rattle.ssb_serving.specs.Members.{AreStill, IsReady, IsStill};
+ghost use Rattle.ssb_clients.specs.Tickets.{IsOf, IsQuiet};
+ghost use Rattle.ssb_serving.specs.Members.{AreStill, IsReady};
 ghost use Rattle.ssb_serving.specs.Streams.{AreSpoken, IsClosedWith};
 ghost use Rattle.serve_command.specs.Reading.{IsLater};
-ghost use Rattle.serve_command.specs.Seated.{AllHaveSeen, AreSeated};
-ghost use Rattle.serve_command.specs.JournaledRun.{IsJournaledFault, IsJournaledRun, IsOpenedFault};
+ghost use Rattle.serve_command.specs.Remade.{AreAtLog};
+ghost use Rattle.serve_command.specs.Seated.{AllHaveSeen};
+ghost use Rattle.serve_command.specs.JournaledRun.{IsJournaledRun, IsUnservedFault};
 ghost use Rattle.serve_command.specs.JournaledRun.{HasKept, IsBegunOn, IsFoundOrKept, KeepsRecovered, begun_on};
-ghost use Rattle.serve_command.specs.declared.unserved.JournaledFault.TheVariants.{Disturbed, OutOfMemory};
+ghost use Rattle.serve_command.specs.declared.unserved.JournaledFault.TheVariants.{Disturbed, OutOfMemory, Write};
 
 use crate::acknowledging::{Durable, JournalAcknowledger};
-use crate::remaking::{remake, show_all};
+use crate::remade::{RemadeServer, Seats};
 use crate::server_log::{JournalLeft, LogStart, ServerLog, left_of};
 use crate::unserved::{JournaledFault, UnservedSessions};
 use journal::{Disk, Journal, KeepsTorn};
-use row_store::{Commit, Log};
+use row_store::Log;
 use ssb_journal::laws::{begun_journal_keeps, first_of_log};
-use ssb_journal::{JournaledLog, KeptCommits, OpenedJournal, SharedJournal, TableMark, begin};
-use ssb_server::{
-    Client, Closed, Dispatcher, Keeps, Loaded, LogReader, MOST_CLIENTS, Opened, Server, open,
-};
-use ssb_serving::{EndedThreads, RunFault, Spoken, serve_opened};
+use ssb_journal::{JournaledLog, OpenedJournal, SharedJournal, TableMark, begin};
+use ssb_server::{Client, Closed, Dispatcher, LogReader, Opened, Server};
+use ssb_serving::{EndedThreads, Spoken, serve_opened};
 use std::alloc::{AllocError, Global};
 use std::marker::Brand;
 use std::sync::Wait;
@@ -38,14 +35,6 @@ use std::sync::atomic::AtomicBool;
 use std::thread::Threads;
 use std::time::Clock;
 use stream_sessions::{Service, Speaker, Speaks};
-
-/// A journal that was read and looked at, over tables of these marks, and what keeps what a crash has torn of it.
-#[derive(Drop)]
-pub struct Recovered<'a, D: Disk, T> {
-    pub opened: OpenedJournal<D>,
-    pub marks: &'a [TableMark],
-    pub keeper: &'a T,
-}
 
 /// What the sessions of a server with a journal leave: what each speaker left, in their order, the log, and the
 /// journal's disk with how many commits of the log are on it.
@@ -75,88 +64,43 @@ struct Participants<W: Wait + Drop, S: Drop> {
     dispatchers: Vec<Dispatcher<W>>,
 }
 
-// Makes the journal's commits again, and lets each client see them all.
-fn remake_all<W: Wait + Drop, R: Wait>(
-    rt: &R,
-    server: &Server<W>,
-    clients: &mut [Client<W>],
-    reader: &mut LogReader<W>,
-    commits: &[Commit],
-) -> Result<(), JournaledFault>
-    requires clients { AreSeated server.now [] clients.old }
-    requires reader { (reader.old.table ≡ server.now) × (reader.old.seen ≡ []) }
-    ensures clients { OnOk result (AreSeated server.now commits.now clients.new) }
-    ensures shown { OnOk result (AllHaveSeen commits.now clients.new) }
-    ensures reader { OnOk result (IsStill reader.old reader.new) }
-    ensures seen { OnOk result (reader.new.seen ≡ commits.now) }
-    ensures fault { IfErr result (IsOpenedFault server.now.base commits.now) }
-{
-    remake(rt, server, clients, reader, commits)?;
-    show_all(server, clients, reader, commits.len() as u64)?;
-    Ok(())
-}
-
-// Makes the journal's commits again, keeps what a crash has torn, and begins the journal.
-fn begin_again<D, T, W, R>(
-    rt: &R,
+// Keeps what a crash has torn, and begins the journal.
+fn begin_again<D, T, W>(
     alloc: Global,
-    server: &Server<W>,
-    clients: &mut [Client<W>],
     reader: LogReader<W>,
-    recovered: Recovered<'_, D, T>,
+    marks: &[TableMark],
+    opened: OpenedJournal<D>,
+    keeper: &T,
 ) -> Result<BegunJournal<D, W>, UnservedSessions<D>>
 where
     D: Disk + Drop,
     T: KeepsTorn,
     T::Kept: Drop,
     W: Wait + Drop,
-    R: Wait,
-    requires clients { AreSeated server.now [] clients.old }
-    requires reader { (reader.table ≡ server.now) × (reader.seen ≡ []) }
-    requires kept { IsKept recovered.marks.now (recovered_groups (D.seen recovered.opened.found))
-        recovered.opened.kept }
-    requires torn { AreTorn (D.seen recovered.opened.found) recovered.opened.torn.items }
-    ensures clients { OnOk result (AreSeated server.now recovered.entry.opened.kept.commits.items clients.new) }
-    ensures shown { OnOk result (AllHaveSeen recovered.entry.opened.kept.commits.items clients.new) }
-    ensures reader { IfOk result (λ begun. IsStill reader begun.reader) }
-    ensures seen { IfOk result (λ begun. begun.reader.seen ≡ recovered.entry.opened.kept.commits.items) }
+    requires seen { reader.seen ≡ opened.kept.commits.items }
+    requires kept { IsKept marks.now (recovered_groups (D.seen opened.found)) opened.kept }
+    requires torn { AreTorn (D.seen opened.found) opened.torn.items }
+    ensures reader { IfOk result (λ begun. begun.reader ≡ reader) }
     ensures kept { IfOk result (λ begun. KeepsFirst begun.count begun.reader.seen (D.seen begun.journal)) }
-    ensures count { IfOk result (λ begun. begun.count ≡ vec_len recovered.entry.opened.kept.commits) }
-    ensures any_moment { IfOk result (λ begun. LeavesOnly D.moment D.left_since recovered.entry.opened.found
-        begun.journal
-        (IsAsItWasOrNew recovered.entry.marks.now (recovered_groups (D.seen recovered.entry.opened.found)))) }
-    ensures fault { IfErr result (λ unserved. IsOpenedFault server.now.base
-        recovered.entry.opened.kept.commits.items unserved.fault) }
-    ensures handed { IfErr result (λ unserved. (unserved.fault ≡ Disturbed) ⊎ IsSome unserved.disk) }
+    ensures count { IfOk result (λ begun. begun.count ≡ length opened.kept.commits.items) }
+    ensures any_moment { IfOk result (λ begun. LeavesOnly D.moment D.left_since opened.found begun.journal
+        (IsAsItWasOrNew marks.now (recovered_groups (D.seen opened.found)))) }
+    ensures fault { IfErr result (λ unserved. unserved.fault ≡ Write) }
+    ensures handed { IfErr result (λ unserved. IsSome unserved.disk) }
     ensures any_moment_err { IfErr result (λ unserved. IfSome unserved.disk (IsFoundOrKept D.moment D.left_since
-        recovered.entry.opened.found recovered.entry.opened.kept.commits.items)) }
+        opened.found opened.kept.commits.items)) }
 {
-    let mut reader = reader;
-    let Recovered {
-        opened,
-        marks,
-        keeper,
-    } = recovered;
     let OpenedJournal { found, kept, torn } = opened;
-    let KeptCommits {
-        commits,
-        form: _,
-        is_new,
-    } = kept;
-    match remake_all(rt, server, clients, &mut reader, &commits) {
-        Ok(()) => {},
-        Err(fault) => return Err(UnservedSessions::new(fault, found.into_disk())),
-    }
     let Ok(torn) = keeper.keep_torn(torn) else {
         return Err(UnservedSessions::new(JournaledFault::Write, found.into_disk()));
     };
     begun_journal_keeps();
     first_of_log();
-    match begin::<D, T>(alloc, marks, found, is_new, &torn) {
+    match begin::<D, T>(alloc, marks, found, kept.is_new, &torn) {
         Ok(journal) => Ok(BegunJournal {
             journal,
             reader,
-            count: commits.len() as u64,
+            count: kept.count,
         }),
         Err((_, disk)) => Err(UnservedSessions::new(JournaledFault::Write, disk)),
     }
@@ -328,45 +272,18 @@ where
     true
 }
 
-// A new server with who reads its log.
-#[derive(Drop)]
-struct OpenedWithReader<W: Wait + Drop> {
-    server: Server<W>,
-    clients: Vec<Client<W>>,
-    reader: LogReader<W>,
-    dispatchers: Vec<Dispatcher<W>>,
-}
-
-// A server that was opened with who reads its log.
-fn with_its_reader<W: Wait + Drop>(opened: Opened<W>) -> OpenedWithReader<W>
-    requires { is_some opened.reader ≡ true }
-    ensures server { result.server ≡ opened.server }
-    ensures clients { result.clients.items ≡ opened.clients.items }
-    ensures dispatchers { result.dispatchers.items ++ result.reader ∷ []
-        ≡ with_reader opened.dispatchers.items opened.reader }
-{
-    let Opened {
-        server,
-        clients,
-        dispatchers,
-        reader,
-    } = opened;
-    let Some(reader) = reader else { unreachable!() };
-    OpenedWithReader {
-        server,
-        clients,
-        reader,
-        dispatchers,
-    }
-}
-
-// Serves the speakers by an opened server.
-fn run_recovered<D, T, W, R, S>(
+/// Serves 1 to 16 clients, one for each speaker, by a server whose log is the commits of a journal's file; each client
+/// and each dispatcher in a thread of its own. What a crash has torn of the file is kept, and the journal is begun. What
+/// is told to a client is on the disk before. It waits until all of them have ended.
+///
+/// A journal that could not be begun is `Write`. An `Err` hands the disk back, but where another has it out, which is
+/// `Disturbed`.
+pub fn run_journaled<D, T, W, R, S>(
     rt: &R,
     alloc: Global,
-    opened: OpenedWithReader<W>,
+    remade: RemadeServer<'_, W, D>,
     speakers: Vec<S>,
-    recovered: Recovered<'_, D, T>,
+    keeper: &T,
 ) -> Result<JournaledRun<D, S::Left>, UnservedSessions<D>>
 where
     D: Disk + Drop + Send,
@@ -377,33 +294,41 @@ where
     S: Speaks<R, Durable> + Drop + Send,
     S::Left: Drop + Send,
     requires few { vec_len speakers ≤ most_clients }
-    requires kept { IsKept recovered.marks.now (recovered_groups (D.seen recovered.opened.found))
-        recovered.opened.kept }
-    requires torn { AreTorn (D.seen recovered.opened.found) recovered.opened.torn.items }
-    requires clients { opened.clients.items ≡ new_clients opened.server }
-    requires full { opened.server.clients ≡ most_clients }
-    requires dispatchers { opened.dispatchers.items ++ opened.reader ∷ [] ≡ new_dispatchers opened.server }
-    ensures served { IfOk result (λ run. IsJournaledRun S.spoken opened.server.base
-        recovered.entry.opened.kept.commits.items speakers.items opened.server.dispatchers run.left.items run.log) }
+    requires full { remade.server.clients ≡ most_clients }
+    requires at_log { AreAtLog remade.server remade.opened.kept.commits.items remade.seats.clients.items
+        remade.seats.reader remade.seats.dispatchers.items }
+    requires shown { AllHaveSeen remade.opened.kept.commits.items remade.seats.clients.items }
+    requires kept { IsKept remade.marks.now (recovered_groups (D.seen remade.opened.found)) remade.opened.kept }
+    requires torn { AreTorn (D.seen remade.opened.found) remade.opened.torn.items }
+    ensures served { IfOk result (λ run. IsJournaledRun S.spoken remade.entry.server.base
+        remade.entry.opened.kept.commits.items speakers.items remade.entry.server.dispatchers run.left.items run.log) }
+    // A crash at any moment of the run leaves the first commits of the log, all that were recovered among them.
+    ensures any_moment { IfOk result (λ run. LeavesOnly D.moment D.left_since remade.entry.opened.found run.disk
+        (KeepsRecovered remade.entry.opened.kept.commits.items run.log)) }
+    // Whatever crashes from now on leaves the first commits of the log, at least so many, ..
     ensures kept { IfOk result (λ run. IsLeft (D.may_leave run.disk) (D.seen run.disk) run.count run.log
         run.was_written) }
-    ensures any_moment { IfOk result (λ run. LeavesOnly D.moment D.left_since recovered.entry.opened.found run.disk
-        (KeepsRecovered recovered.entry.opened.kept.commits.items run.log)) }
+    // .. and no client was told of more.
     ensures told { IfOk result (λ run. All (λ left. S.told left ≤ run.count) run.left.items) }
     ensures left { IfOk result (λ run. vec_len run.left ≡ vec_len speakers) }
-    ensures fault { IfErr result (λ unserved. IsOpenedFault opened.server.base
-        recovered.entry.opened.kept.commits.items unserved.fault) }
+    ensures fault { IfErr result (λ unserved. IsUnservedFault unserved.fault) }
     ensures handed { IfErr result (λ unserved. (unserved.fault ≡ Disturbed) ⊎ IsSome unserved.disk) }
+    // It is as it was found, or a crash at any moment of the run leaves all that was recovered.
     ensures any_moment_err { IfErr result (λ unserved. IfSome unserved.disk (IsFoundOrKept D.moment D.left_since
-        recovered.entry.opened.found recovered.entry.opened.kept.commits.items)) }
+        remade.entry.opened.found remade.entry.opened.kept.commits.items)) }
 {
-    let OpenedWithReader {
+    let RemadeServer {
         server,
+        seats,
+        marks,
+        opened,
+    } = remade;
+    let Seats {
         mut clients,
         reader,
         dispatchers,
-    } = opened;
-    let begun = begin_again(rt, alloc, &server, &mut clients, reader, recovered)?;
+    } = seats;
+    let begun = begin_again(alloc, reader, marks, opened, keeper)?;
     first_of_log();
     let Ok(resting) = clients.split_off(speakers.len()) else {
         let disk = begun.journal.into_disk();
@@ -420,57 +345,4 @@ where
     }
     let closed = close_run(alloc, server, ended, resting, left)?;
     Ok(closed)
-}
-
-/// Serves 1 to 16 clients, one for each speaker, by 1 to 4 dispatchers over a loaded base, behind the commits that a
-/// journal keeps; each client and each dispatcher in a thread of its own. The journal's commits are the beginning of
-/// the log, and what is told to a client is on the disk before. It waits until all of them have ended.
-///
-/// The first commit that is refused over the base is `Replay`, and the journal's file is as it was then. A journal that
-/// could not be begun is `Write`. An `Err` hands the disk back, but where another has it out, which is `Disturbed`.
-pub fn run_journaled<D, T, R, S>(
-    rt: &R,
-    alloc: Global,
-    loaded: Loaded,
-    speakers: Vec<S>,
-    dispatchers: u32,
-    recovered: Recovered<'_, D, T>,
-) -> Result<JournaledRun<D, S::Left>, UnservedSessions<D>>
-where
-    D: Disk + Drop + Send,
-    T: KeepsTorn,
-    T::Kept: Drop,
-    R: Wait + Threads + Sync + Clock,
-    S: Speaks<R, Durable> + Drop + Send,
-    S::Left: Drop + Send,
-    requires few { vec_len speakers ≤ most_clients }
-    requires kept { IsKept recovered.marks.now (recovered_groups (D.seen recovered.opened.found))
-        recovered.opened.kept }
-    requires torn { AreTorn (D.seen recovered.opened.found) recovered.opened.torn.items }
-    // Who reads the log for the journal is one dispatcher more.
-    ensures served { IfOk result (λ run. IsJournaledRun S.spoken loaded
-        recovered.entry.opened.kept.commits.items speakers.items (dispatchers + 1) run.left.items run.log) }
-    // A crash at any moment of the run leaves the first commits of the log, all that were recovered among them.
-    ensures any_moment { IfOk result (λ run. LeavesOnly D.moment D.left_since recovered.entry.opened.found run.disk
-        (KeepsRecovered recovered.entry.opened.kept.commits.items run.log)) }
-    // Whatever crashes from now on leaves the first commits of the log, at least so many, ..
-    ensures kept { IfOk result (λ run. IsLeft (D.may_leave run.disk) (D.seen run.disk) run.count run.log
-        run.was_written) }
-    // .. and no client was told of more.
-    ensures told { IfOk result (λ run. All (λ left. S.told left ≤ run.count) run.left.items) }
-    ensures left { IfOk result (λ run. vec_len run.left ≡ vec_len speakers) }
-    ensures fault { IfErr result (λ unserved. IsJournaledFault loaded
-        recovered.entry.opened.kept.commits.items dispatchers unserved.fault) }
-    ensures handed { IfErr result (λ unserved. (unserved.fault ≡ Disturbed) ⊎ IsSome unserved.disk) }
-    // It is as it was found, or a crash at any moment of the run leaves all that was recovered.
-    ensures any_moment_err { IfErr result (λ unserved. IfSome unserved.disk (IsFoundOrKept D.moment D.left_since
-        recovered.entry.opened.found recovered.entry.opened.kept.commits.items)) }
-{
-    match open(alloc, rt, loaded, MOST_CLIENTS, dispatchers, Keeps::Unread) {
-        Ok(opened) => run_recovered(rt, alloc, with_its_reader(opened), speakers, recovered),
-        Err(fault) => {
-            let fault = JournaledFault::NotRun(RunFault::from(fault));
-            Err(UnservedSessions::new(fault, recovered.opened.found.into_disk()))
-        },
-    }
 }

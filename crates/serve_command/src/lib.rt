@@ -27,10 +27,12 @@
 //! client has seen them before its first session; and whatever crashes after the run leaves at least as many commits as
 //! any client was told of. That is what its wires passed on, with evidence in hand ([`Durable`]), and no number of its
 //! own. A server without one goes on from no commits. That of [`run_source`] (`specs/JournaledRun.antt`): it opens a
-//! server of sixteen clients with a reader of its log, has the clients make the journal's commits again, cuts off what
-//! a crash has torn, and runs the sessions; clients without a session rest. Nothing is written before all commits are
-//! made again: the first that is refused is a fault. One session writes all new commits as a group, the others wait for
-//! it, and what comes meanwhile is the next group. No thread is the journal's own.
+//! server of sixteen clients with a reader of its log, and has the clients make the journal's commits again, as its file
+//! is read part by part ([`remake_journal`]): the copies of the columns follow, and the log forgets what they have. Then
+//! it cuts off what a crash has torn, and runs the sessions ([`run_journaled`]); clients without a session rest. Nothing
+//! is written before all commits are made again: the first that is refused is a fault. One session writes all new
+//! commits as a group, the others wait for it, and what comes meanwhile is the next group. No thread is the journal's
+//! own.
 //!
 //! What the system opens is in no contract. What a person types is read by `terminal::Prompted`.
 //!
@@ -58,6 +60,7 @@ mod journaled_run;
 mod opening;
 mod pipe_locks;
 mod ready;
+mod remade;
 mod remaking;
 mod runs;
 mod server_log;

@@ -52,8 +52,8 @@ fn remake_one<W: Wait + Drop, R: Wait>(
     Ok(())
 }
 
-/// Makes the commits of a journal again over a new server, each by its client: then the reader of the log has seen them
-/// and no others. The first that is refused is told.
+/// Makes the next commits of a journal again, each by its client, behind those that the reader of the log has seen, and
+/// lets it see them and no others. The first that is refused is told.
 pub(crate) fn remake<W: Wait + Drop, R: Wait>(
     rt: &R,
     server: &Server<W>,
@@ -61,21 +61,24 @@ pub(crate) fn remake<W: Wait + Drop, R: Wait>(
     reader: &mut LogReader<W>,
     commits: &[Commit],
 ) -> Result<(), JournaledFault>
-    requires clients { AreSeated server.now [] clients.old }
-    requires reader { (reader.old.table ≡ server.now) × (reader.old.seen ≡ []) }
-    ensures clients { OnOk result (AreSeated server.now commits.now clients.new) }
+    requires reader { reader.old.table ≡ server.now }
+    requires clients { AreSeated server.now reader.old.seen clients.old }
     ensures reader { OnOk result (IsStill reader.old reader.new) }
-    ensures seen { OnOk result (reader.new.seen ≡ commits.now) }
-    ensures fault { IfErr result (IsRemakeFault server.now.base commits.now) }
+    ensures seen { OnOk result (reader.new.seen ≡ reader.old.seen ++ commits.now) }
+    ensures clients { OnOk result (AreSeated server.now reader.new.seen clients.new) }
+    ensures fault { IfErr result (IsRemakeFault server.now.base (reader.old.seen ++ commits.now)) }
 {
-    for (place, commit) in commits.iter().enumerate() {
+    for commit in commits {
         // The text of a journal has commits of clients 1 to 16 alone.
-        let number = commit.client as usize;
-        if number == 0 || clients.len() < number {
+        let seat = commit.client as usize;
+        if seat == 0 || clients.len() < seat {
             return Err(JournaledFault::Disturbed);
         }
-        let client = &mut clients[number - 1];
-        remake_one(rt, server, client, reader, commit, place as u64 + 1)?;
+        let client = &mut clients[seat - 1];
+        let Some(number) = reader.seen().checked_add(1) else {
+            return Err(JournaledFault::Disturbed);
+        };
+        remake_one(rt, server, client, reader, commit, number)?;
     }
     Ok(())
 }

@@ -191,11 +191,11 @@ fn run_behind<R, P, S, E>(
     tables: MarkedTables,
     speakers: Vec<S>,
     screen: &E,
-) -> Result<SessionsRun<S::Left, P::Opened>, ServeFault>
+) -> Result<SessionsRun<S::Left, P::Disk>, ServeFault>
 where
     R: Threads + Sync + Wait + Clock + AllocGlobal,
     P: OpensJournal + KeepsTorn,
-    P::Opened: Send,
+    P::Disk: Send,
     P::Kept: Drop,
     S: Speaks<R, Durable> + Drop + Send,
     S::Left: Drop + Send,
@@ -204,8 +204,8 @@ where
     ensures run { IfOk result (λ run. GoesOnFrom S.spoken (P.holds place.now.file.now) tables.loaded tables.marks
         speakers.items dispatchers run.left.items run.log) }
     ensures left { IfOk result (λ run. vec_len run.left ≡ vec_len speakers) }
-    ensures kept { IfOk result (λ run. IfSome run.kept (λ kept. IsLeft (P.Opened.may_leave kept.disk)
-        (P.Opened.seen kept.disk) kept.count run.log kept.was_written)) }
+    ensures kept { IfOk result (λ run. IfSome run.kept (λ kept. IsLeft (P.Disk.may_leave kept.disk)
+        (P.Disk.seen kept.disk) kept.count run.log kept.was_written)) }
     ensures told { IfOk result (λ run. IfSome run.kept (λ kept. All (λ left. S.told left ≤ kept.count)
         run.left.items)) }
     ensures journal { IfOk result (λ run. is_some run.kept ≡ true) }
@@ -220,11 +220,11 @@ where
         marks,
         ready,
     } = tables;
-    let disk = open_file(rt.alloc(), place.file)?;
+    let file = open_file(rt.alloc(), place.file)?;
     let source = JournalSource {
         loaded,
         marks: &marks,
-        disk,
+        file,
         ready,
     };
     let run = match run_source(rt, dispatchers, place, source, speakers, screen) {
@@ -258,11 +258,11 @@ pub(crate) fn run_over<R, P, I, S, E>(
     place: Option<JournalPlace<'_, P>>,
     speakers: Vec<S>,
     screen: &E,
-) -> Result<SessionsRun<S::Left, P::Opened>, ServeFault>
+) -> Result<SessionsRun<S::Left, P::Disk>, ServeFault>
 where
     R: Threads + Sync + Wait + Clock + AllocGlobal,
     P: OpensJournal + KeepsTorn,
-    P::Opened: Send,
+    P::Disk: Send,
     P::Kept: Drop,
     I: Read + Drop,
     S: Speaks<R, Nothing> + Speaks<R, Durable> + Drop + Send,
@@ -274,8 +274,8 @@ where
         settings.dispatchers run.left.items run.log) }
     ensures left { IfOk result (λ run. vec_len run.left ≡ vec_len speakers) }
     ensures counts { OnOk result (IsNone place.entry → AreCounts (vec_len speakers) settings.dispatchers) }
-    ensures kept { IfOk result (λ run. IfSome run.kept (λ kept. IsLeft (P.Opened.may_leave kept.disk)
-        (P.Opened.seen kept.disk) kept.count run.log kept.was_written)) }
+    ensures kept { IfOk result (λ run. IfSome run.kept (λ kept. IsLeft (P.Disk.may_leave kept.disk)
+        (P.Disk.seen kept.disk) kept.count run.log kept.was_written)) }
     ensures told { IfOk result (λ run. IfSome run.kept (λ kept. All (λ left. S.told left ≤ kept.count)
         run.left.items)) }
     ensures journal { IfOk result (λ run. is_some run.kept ≡ is_some place.entry) }

@@ -71,11 +71,11 @@ fn run_alone<R, P, I, J, O, E>(
     place: Option<JournalPlace<'_, P>>,
     client: StreamClient<J, O>,
     screen: &E,
-) -> Result<AloneLeft<O, P::Opened>, ServeFault>
+) -> Result<AloneLeft<O, P::Disk>, ServeFault>
 where
     R: Threads + Sync + Wait + Clock + AllocGlobal,
     P: OpensJournal + KeepsTorn,
-    P::Opened: Send,
+    P::Disk: Send,
     P::Kept: Drop,
     I: Read + Drop,
     J: Read + Drop + Send,
@@ -84,8 +84,8 @@ where
     ensures ended { IfOk result (λ left. (texts : Table → List ℕ) → AreRows I.remaining tables texts
         → HasEndedAlone left.one.ended (option_map (λ place. P.holds place.file.now) place.entry) texts
         settings.dispatchers (J.remaining client.input) (O.contents client.output) (O.contents left.one.output)
-        (λ log told. IfSome left.kept (λ kept. AreOnDisk (P.Opened.may_leave kept.disk) (P.Opened.seen kept.disk)
-        (IsTrue kept.was_written) log told))) }
+        (λ log told. IfSome left.kept (λ kept. AreOnDisk (P.Disk.may_leave kept.disk)
+        (P.Disk.seen kept.disk) (IsTrue kept.was_written) log told))) }
     ensures journal { IfOk result (λ left. is_some left.kept ≡ is_some place.entry) }
     ensures refused { IfErr result (λ fault. serving_status fault ≡ 1 → (texts : Table → List ℕ)
         → AreRows I.remaining tables texts → AreRefused texts settings.standing.items
@@ -168,11 +168,11 @@ pub fn serve_stream<R, P, I, J, O, E>(
     place: Option<JournalPlace<'_, P>>,
     client: StreamClient<J, O>,
     screen: &E,
-) -> StreamEnd<O, P::Opened>
+) -> StreamEnd<O, P::Disk>
 where
     R: Threads + Sync + Wait + Clock + AllocGlobal,
     P: OpensJournal + KeepsTorn,
-    P::Opened: Send,
+    P::Disk: Send,
     P::Kept: Drop,
     I: Read + Drop,
     J: Read + Drop + Send,
@@ -181,8 +181,8 @@ where
     ensures ended { IfSome result.output (λ output. (texts : Table → List ℕ) → AreRows I.remaining tables texts
         → EndsAlone result.status (option_map (λ place. P.holds place.file.now) place.entry) texts settings.dispatchers
         (J.remaining client.input) (O.contents client.output) (O.contents output)
-        (λ log told. IfSome result.disk (λ disk. AreOnDisk (P.Opened.may_leave disk) (P.Opened.seen disk)
-        (result.status ≡ 0) log told))) }
+        (λ log told. IfSome result.disk (λ disk. AreOnDisk (P.Disk.may_leave disk)
+        (P.Disk.seen disk) (result.status ≡ 0) log told))) }
     ensures closed { result.status ≡ 0 → IsSome result.output }
     ensures disk { MatchOption result.output (result.disk ≡ None) (λ _. is_some result.disk ≡ is_some place.entry) }
     ensures refused { result.status ≡ 1 → (texts : Table → List ℕ) → AreRows I.remaining tables texts
@@ -300,14 +300,14 @@ pub fn serve_clients<R, F, P, I, E>(
     place: Option<JournalPlace<'_, P>>,
     clients: PathClients<'_, F>,
     screen: &E,
-) -> ClientsEnd<P::Opened>
+) -> ClientsEnd<P::Disk>
 where
     R: Threads + Sync + Wait + Clock + AllocGlobal,
     F: Files + Sync + AllocGlobal,
     F::File: Send,
     F::Dir: Send,
     P: OpensJournal + KeepsTorn,
-    P::Opened: Send,
+    P::Disk: Send,
     P::Kept: Drop,
     I: Read + Drop,
     E: Print + Sync,
@@ -315,8 +315,8 @@ where
         → AreRows I.remaining tables texts
         → ServesClients result.status (option_map (λ place. P.holds place.file.now) place.entry) texts
         (vec_len clients.entry.ends) settings.dispatchers
-        (λ log told. IfSome result.disk (λ disk. AreOnDisk (P.Opened.may_leave disk) (P.Opened.seen disk)
-        (result.status ≡ 0) log told)) }
+        (λ log told. IfSome result.disk (λ disk. AreOnDisk (P.Disk.may_leave disk)
+        (P.Disk.seen disk) (result.status ≡ 0) log told)) }
     ensures disk { result.status ≡ 0 → is_some result.disk ≡ is_some place.entry }
     ensures counts { result.status ≡ 0 → IsNone place.entry
         → AreCounts (vec_len clients.entry.ends) settings.dispatchers }

@@ -1,11 +1,13 @@
-use Rattle.std.proofs.Common.{◌≡◌, ◌∙◌, Err, List, ℕ, ap, arith, rules}
+use Rattle.std.proofs.Common.{◌≡◌, ◌∙◌, Err, List, ℕ, ap, arith, rules, subst, sym}
+use Rattle.journal_opening.specs.Kept.{IsKnown}
+use Rattle.journal_opening.specs.Marks.{AreMarks, HaveChecksums}
 use Rattle.ssb_files.specs.declared.fault.Fault.TheVariants as common
 use Rattle.ssb_files.specs.declared.job.JobFault.TheVariants.{Program}
 use Rattle.ssb_schema.specs.declared.table.Table.{Table}
 use Rattle.ssb_text.specs.Layouts.{AreRows}
-use Rattle.export_command.specs.Exported.{TellsExportFault}
-use Rattle.export_command.proofs.ExportLaws.{exports, file_fault_tells, fill_fault_tells, find_fault_tells, if_err}
-use Rattle.export_command.proofs.ExportLaws.{on_ok}
+use Rattle.export_command.specs.Exported.{IsJournalRefusal, TellsExportFault}
+use Rattle.export_command.proofs.ExportLaws.{exports, file_fault_tells, find_fault_tells, on_ok}
+use Rattle.export_command.proofs.ExportLaws.{read_fault_tells}
 use Rattle.export_command.proofs.exporting.export.Goals as goal
 
 pub returns-in_err-folder-clause-fault : goal.returns-in_err-folder-clause-fault
@@ -45,20 +47,27 @@ returns-in-Err-clause-fault g c =
     c.in-Err.error
     (λ same. c.in-Err.ensures.taken (ap Err same)) c.in-Err.ensures.missing
 
-pub returns-clause-exported : goal.returns-clause-exported
-returns-clause-exported g c =
+pub returns-in-Ok-read_journal-clause-exported : goal.returns-in-Ok-read_journal-clause-exported
+returns-in-Ok-read_journal-clause-exported g c =
     on_ok _ _ c.export_into.result
     (λ is texts are.
-    exports texts _ c.in_ok-read.read.0 c.in_ok-base.base.value _ _ _ (c.in_ok-read.ensures.base texts are)
-    c.table_marks-marks.ensures.marks (c.table_marks-marks.ensures.checksums texts (c.in_ok-read.ensures.checksums texts are))
-    c.in-Ok.ensures.held c.in_ok-base.ensures.ok is)
+    let base = c.in_ok-read.read.0 in
+    let read = c.in-Ok-read_journal.read in
+    let marks = sym c.in-Ok-read_journal.ensures.marks in
+    exports texts _ base read.base read.marks read.file _ (c.in_ok-read.ensures.base texts are)
+    (subst (AreMarks base) marks c.table_marks-marks.ensures.marks)
+    (subst (HaveChecksums texts) marks
+    (c.table_marks-marks.ensures.checksums texts (c.in_ok-read.ensures.checksums texts are)))
+    (subst (λ known. IsKnown known read.file) c.in-Ok.ensures.held c.in-Ok-read_journal.ensures.known)
+    (c.in-Ok-read_journal.ensures.base ∙ c.in_ok-base.ensures.ok) is)
     c.export_into.ensures.exported
 
 pub returns-clause-fault : goal.returns-clause-fault
-returns-clause-fault g c =
-    if_err _ _ _ c.export_into.result
-    (λ why is told texts are.
-    fill_fault_tells texts _ _ _ c.in_ok-read.read.0 c.in_ok-base.base.value _ _ why (c.in_ok-read.ensures.base texts are)
-    c.table_marks-marks.ensures.marks (c.table_marks-marks.ensures.checksums texts (c.in_ok-read.ensures.checksums texts are))
-    c.in-Ok.ensures.held c.in_ok-base.ensures.ok is told)
-    c.export_into.ensures.fault c.export_into.ensures.journal
+returns-clause-fault g c = λ texts are.
+    let fault = c.in-Err-read_journal.fault in
+    let marks = c.table_marks-marks.result in
+    read_fault_tells texts _ _ _ c.in_ok-read.read.0 c.in_ok-base.base.value marks fault
+    (c.in_ok-read.ensures.base texts are) c.table_marks-marks.ensures.marks
+    (c.table_marks-marks.ensures.checksums texts (c.in_ok-read.ensures.checksums texts are)) c.in_ok-base.ensures.ok
+    (subst (λ known. IsJournalRefusal c.in_ok-base.base.value marks known fault) c.in-Ok.ensures.held
+    c.in-Err-read_journal.ensures.fault)

@@ -5,7 +5,6 @@ use Rattle.ssb_base.specs.Base.{IsSound, Tables}
 use Rattle.ssb_schema.specs.Rows.{line_values}
 use Rattle.ssb_schema.specs.declared.table.Table.TheVariants as table
 use Rattle.ssb_text.specs.RoundTrip.{AreTableRows, IsTableRow}
-use Rattle.export_command.proofs.SoundLaws.{tables_after_are_sound}
 use Rattle.export_command.proofs.writing.write_table.Goals as goal
 
 lines-are-rows : {X E : Type 0} (result : Result X E) (base : Tables)
@@ -20,10 +19,6 @@ lines-are-rows (Err e) base rows sound = tt
 pub returns-in-Lineorder-clause-rows : goal.returns-in-Lineorder-clause-rows
 returns-in-Lineorder-clause-rows g c =
     let tables = c.args.tables.now in
-    let keeps = c.tables.invariant in
-    let base = c.tables.inside.base.value in
-    let log = c.tables.inside.log.items in
-    let sound : IsSound tables =
-    subst IsSound c.tables.view_is (tables_after_are_sound base log keeps.sound keeps.legal keeps.orders) in
+    let sound : IsSound tables = subst IsSound c.tables.view_is c.tables.invariant in
     subst (λ t. OnOk c.write_lines.result (AreTableRows tables t)) (sym c.in-Lineorder.is)
     (lines-are-rows c.write_lines.result tables c.write_lines.ensures.rows sound)

@@ -1,29 +1,197 @@
-use Rattle.std.proofs.Common.{◌+◌, ◌∙◌, ap, sym}
-use Rattle.history.specs.Tokens.{TableRecord, new_dispatchers}
-use Rattle.serve_command.proofs.BeginningLaws.{fault_over, run_fault, run_over}
+use Rattle.std.proofs.Common.{◌≡◌, ◌≤◌, ◌∙◌, Err, List, length, ap, inr, refl, subst, sym, arith, rules}
+use Rattle.std.proofs.lemmas.Option.{IfSome_then}
+use Rattle.journal.specs.Groups.{recovered as recovered_groups}
+use Rattle.row_store.proofs.PrefixLaws.{beginnings_chain}
+use Rattle.row_store.specs.History.{CommitRecord, IsPrefix}
+use Rattle.serve_command.proofs.BeginningLaws.{as_it_was, begun_table, kept_in_beginning, kept_since}
+use Rattle.serve_command.proofs.BeginningLaws.{kept_throughout, opened_dispatchers, opened_reader, unserved_fault}
+use Rattle.serve_command.proofs.RemadeLaws.{still_of, still_on}
+use Rattle.serve_command.proofs.RunLaws.{journaled_run, later_begins, left_of_log, parted_at, reader_begins}
+use Rattle.serve_command.proofs.RunLaws.{ready_to_close, seated_quiet, told_each}
+use Rattle.ssb_journal.specs.Kept.{IsAsItWasOrNew}
+use Rattle.serve_command.specs.JournaledRun.{HasKept, IsFoundOrKept}
+use Rattle.serve_command.specs.Reading.{IsLater}
+use Rattle.ssb_serving.specs.Members.{IsStill}
+use Rattle.history.specs.Tokens.{TokenRecord}
 use Rattle.serve_command.proofs.journaled_run.run_journaled.Goals as goal
 
-pub returns-in-Ok-clause-served : goal.returns-in-Ok-clause-served
-returns-in-Ok-clause-served g c =
-    run_over g.S.Speaker.spoken (λ run. run.left.items) (λ run. run.log) c.run_recovered.result
-    c.with_its_reader.result.server.base c.args.loaded c.args.recovered.opened.kept.commits.items c.args.speakers.items
-    c.with_its_reader.result.server.dispatchers (c.args.dispatchers + 1)
-    (ap (λ (table : TableRecord). table.base) c.with_its_reader.ensures.server ∙ c.in-Ok.ensures.base)
-    (ap (λ (table : TableRecord). table.dispatchers) c.with_its_reader.ensures.server ∙ c.in-Ok.ensures.counts.1)
-    c.run_recovered.ensures.served
+pub run_sessions-requires-clause-clients : goal.run_sessions-requires-clause-clients
+run_sessions-requires-clause-clients g c κs within =
+    let at = c.requires.at_log in
+    let parts = parted_at c.args.remade.server c.args.remade.opened.kept.commits.items (length c.args.speakers.items)
+    c.len.result c.args.remade.seats.clients.items c.split_off.new.self.items c.in-Ok.resting.items at.seated
+    c.requires.shown (omega (arith, c.len.ensures, c.args.speakers.ok.0, c.args.speakers.ok.1))
+    (omega (arith, c.requires.few, c.requires.full, c.args.speakers.ok.0, c.args.speakers.ok.1))
+    c.in-Ok.ensures.items c.in-Ok.ensures.tail in
+    seated_quiet c.args.remade.server c.args.remade.opened.kept.commits.items (length c.args.speakers.items)
+    c.split_off.new.self.items c.in-Ok.resting.items parts
 
-pub returns-in-Ok-clause-fault : goal.returns-in-Ok-clause-fault
-returns-in-Ok-clause-fault g c =
-    fault_over (λ unserved. unserved.fault) c.run_recovered.result c.with_its_reader.result.server.base c.args.loaded
-    c.args.recovered.opened.kept.commits.items c.args.dispatchers
-    (ap (λ (table : TableRecord). table.base) c.with_its_reader.ensures.server ∙ c.in-Ok.ensures.base)
-    c.run_recovered.ensures.fault
+pub run_sessions-requires-clause-dispatchers : goal.run_sessions-requires-clause-dispatchers
+run_sessions-requires-clause-dispatchers g c κs within =
+    let at = c.requires.at_log in
+    still_of c.args.remade.server at.made_with c.args.remade.seats.dispatchers.items
+    (opened_dispatchers c.args.remade.server at.made_with at.made_reader at.are_new) at.still
 
-pub returns-in-Err-clause-fault : goal.returns-in-Err-clause-fault
-returns-in-Err-clause-fault g c =
-    rw c.new.ensures
-    (run_fault 16 c.args.dispatchers c.in-Err.fault c.from.result c.from.ensures c.in-Err.ensures.fault)
+pub run_sessions-requires-clause-reader : goal.run_sessions-requires-clause-reader
+run_sessions-requires-clause-reader g c κs within =
+    let at = c.requires.at_log in
+    rw c.in_ok-begun.ensures.reader
+    (begun_table c.args.remade.server at.made_reader c.args.remade.seats.reader
+    (opened_reader c.args.remade.server at.made_with at.made_reader at.are_new).1.0 at.reader_still)
 
-pub run_recovered-requires-clause-dispatchers : goal.run_recovered-requires-clause-dispatchers
-run_recovered-requires-clause-dispatchers g c κs outlives = c.with_its_reader.ensures.dispatchers
-    ∙ (c.in-Ok.ensures.dispatchers ∙ ap new_dispatchers (sym c.with_its_reader.ensures.server))
+pub run_sessions-requires-clause-begun : goal.run_sessions-requires-clause-begun
+run_sessions-requires-clause-begun g c κs within =
+    record { moment_is = refl; count_is = refl; past_is = λ t file. (λ was. was, λ left. left) }
+
+pub close_run-requires : goal.close_run-requires
+close_run-requires g c =
+    let at = c.requires.at_log in
+    let parts = parted_at c.args.remade.server c.args.remade.opened.kept.commits.items (length c.args.speakers.items)
+    c.len.result c.args.remade.seats.clients.items c.split_off.new.self.items c.in-Ok.resting.items at.seated
+    c.requires.shown (omega (arith, c.len.ensures, c.args.speakers.ok.0, c.args.speakers.ok.1))
+    (omega (arith, c.requires.few, c.requires.full, c.args.speakers.ok.0, c.args.speakers.ok.1))
+    c.in-Ok.ensures.items c.in-Ok.ensures.tail in
+    ready_to_close g.S.Speaker.spoken c.args.remade.server c.args.remade.opened.kept.commits.items
+    c.args.speakers.items c.split_off.new.self.items c.in-Ok.resting.items _ _ at.made_with
+    c.in_ok-ended.ended.dispatchers.items at.made_reader c.in_ok-begun.begun.reader c.in_ok-ended.left.reader parts
+    c.in_ok-ended.ensures.served at.are_new
+    (still_on at.made_with c.args.remade.seats.dispatchers.items c.in_ok-ended.ended.dispatchers.items at.still
+    c.in_ok-ended.ensures.dispatchers)
+    (subst (IsStill at.made_reader) (sym c.in_ok-begun.ensures.reader) at.reader_still)
+    c.in_ok-ended.ensures.reader
+
+pub returns-clause-served : goal.returns-clause-served
+returns-clause-served g c =
+    let at = c.requires.at_log in
+    let parts = parted_at c.args.remade.server c.args.remade.opened.kept.commits.items (length c.args.speakers.items)
+    c.len.result c.args.remade.seats.clients.items c.split_off.new.self.items c.in-Ok.resting.items at.seated
+    c.requires.shown (omega (arith, c.len.ensures, c.args.speakers.ok.0, c.args.speakers.ok.1))
+    (omega (arith, c.requires.few, c.requires.full, c.args.speakers.ok.0, c.args.speakers.ok.1))
+    c.in-Ok.ensures.items c.in-Ok.ensures.tail in
+    journaled_run g.S.Speaker.spoken c.args.remade.server c.args.remade.opened.kept.commits.items
+    c.in_ok-closed.closed.log c.args.speakers.items c.split_off.new.self.items c.in-Ok.resting.items _ _
+    c.in_ok-closed.closed.left.items at.made_with c.in_ok-ended.ended.dispatchers.items at.made_reader
+    c.in_ok-begun.begun.reader c.in_ok-ended.left.reader parts c.in_ok-ended.ensures.served c.requires.full
+    (ap (λ (t : TokenRecord). t.seen) c.in_ok-begun.ensures.reader ∙ at.seen) at.are_new
+    (still_on at.made_with c.args.remade.seats.dispatchers.items c.in_ok-ended.ended.dispatchers.items at.still
+    c.in_ok-ended.ensures.dispatchers)
+    (subst (IsStill at.made_reader) (sym c.in_ok-begun.ensures.reader) at.reader_still)
+    c.in_ok-ended.ensures.reader
+    c.in_ok-closed.ensures.left c.in_ok-closed.ensures.closed
+
+pub returns-clause-kept : goal.returns-clause-kept
+returns-clause-kept g c =
+    let left = c.in_ok-ended.left in
+    let same = c.in_ok-closed.ensures.journal in
+    rw (same.0, same.1, same.2)
+    (left_of_log (g.D.Disk.may_leave left.disk) (g.D.Disk.seen left.disk) c.args.remade.server _
+    c.in_ok-ended.ended.dispatchers.items left.reader c.in_ok-closed.closed.log left.count left.is_whole
+    c.in_ok-closed.ensures.closed
+    c.in_ok-ended.ensures.left)
+
+pub returns-clause-told : goal.returns-clause-told
+returns-clause-told g c =
+    let same = c.in_ok-closed.ensures.journal in
+    rw same.1
+    (told_each c.in_ok-ended.ended.spoken.items c.deref.result.now c.in_ok-closed.closed.left.items
+    (λ one. one.left) g.S.Speaker.told c.in_ok-ended.left.count c.in_ok-closed.ensures.left c.deref.ensures.value
+    (c.all_are_kept.ensures c.if-not-all_are_kept.false))
+
+pub returns-clause-any_moment : goal.returns-clause-any_moment
+returns-clause-any_moment g c =
+    let kept = c.args.remade.opened.kept in
+    let groups = recovered_groups (g.D.Disk.seen c.args.remade.opened.found) in
+    let found = c.args.remade.opened.found in
+    let now = c.in_ok-ended.left in
+    let log = c.in_ok-closed.closed.log in
+    let begins = reader_begins c.args.remade.server _ c.in_ok-ended.ended.dispatchers.items now.reader log
+    c.in_ok-closed.ensures.closed in
+    let later : IsLater c.in_ok-begun.begun.reader now.reader =
+    c.in_ok-ended.ensures.reader in
+    let goes_on : IsPrefix kept.commits.items log =
+    subst (λ (l : List CommitRecord). IsPrefix l log) (ap (λ (t : TokenRecord). t.seen) c.in_ok-begun.ensures.reader ∙ c.requires.at_log.seen)
+    (beginnings_chain c.in_ok-begun.begun.reader.seen now.reader.seen log
+    (later_begins c.in_ok-begun.begun.reader now.reader later) begins) in
+    rw c.in_ok-closed.ensures.journal.0
+    (kept_throughout g.D.Disk.moment g.D.Disk.left_since found c.in_ok-begun.begun.journal now.disk
+    (IsAsItWasOrNew c.args.remade.marks.now groups) c.in_ok-begun.begun.count now.count kept.commits.items
+    now.reader.seen log c.in_ok-begun.ensures.any_moment
+    c.in_ok-begun.ensures.count
+    c.in_ok-ended.ensures.since begins
+    (λ file left. as_it_was c.args.remade.marks.now kept groups log file c.first_of_log.ensures c.requires.kept
+    goes_on left))
+
+pub returns-in_default-clause-any_moment_err : goal.returns-in_default-clause-any_moment_err
+returns-in_default-clause-any_moment_err g c =
+    let found = c.args.remade.opened.found in
+    rw (c.new.ensures, c.into_disk-disk.ensures.same)
+    (kept_in_beginning g.D.Disk.moment g.D.Disk.left_since found c.in_ok-begun.begun.journal
+    c.args.remade.marks.now c.args.remade.opened.kept (recovered_groups (g.D.Disk.seen found))
+    c.first_of_log.ensures c.requires.kept c.in_ok-begun.ensures.any_moment)
+
+pub returns-then-not-all_are_kept-clause-any_moment_err : goal.returns-then-not-all_are_kept-clause-any_moment_err
+returns-then-not-all_are_kept-clause-any_moment_err g c =
+    let kept = c.args.remade.opened.kept in
+    let found = c.args.remade.opened.found in
+    let begun = c.in_ok-begun.begun in
+    let left = c.in_ok-ended.left in
+    rw c.new-then-not-all_are_kept.ensures
+    (kept_since g.D.Disk.moment g.D.Disk.left_since found begun.journal left.disk c.args.remade.marks.now kept
+    (recovered_groups (g.D.Disk.seen found)) begun.count begun.reader.seen c.first_of_log.ensures c.requires.kept
+    c.in_ok-begun.ensures.any_moment
+    c.in_ok-begun.ensures.count (ap (λ (t : TokenRecord). t.seen) c.in_ok-begun.ensures.reader ∙ c.requires.at_log.seen)
+    (record {
+      count = left.count;
+      log = left.reader.seen;
+      begins = later_begins begun.reader left.reader c.in_ok-ended.ensures.reader;
+      since = c.in_ok-ended.ensures.since;
+    }))
+
+pub returns-in_err-ended-clause-fault : goal.returns-in_err-ended-clause-fault
+returns-in_err-ended-clause-fault g c =
+    let is : c.from_residual-in_err-ended.result ≡ Err c.in_err-ended.field-0.0 = search rules in
+    rw is (unserved_fault c.in_err-ended.field-0.0.fault c.in_err-ended.ensures.fault)
+
+pub returns-in_err-ended-clause-any_moment_err : goal.returns-in_err-ended-clause-any_moment_err
+returns-in_err-ended-clause-any_moment_err g c =
+    let kept = c.args.remade.opened.kept in
+    let found = c.args.remade.opened.found in
+    let begun = c.in_ok-begun.begun in
+    let is : c.from_residual-in_err-ended.result ≡ Err c.in_err-ended.field-0.0 = search rules in
+    rw is
+    (IfSome_then c.in_err-ended.field-0.0.disk
+    {P = HasKept g.D.Disk.moment g.D.Disk.left_since begun.journal begun.count begun.reader.seen}
+    {Q = IsFoundOrKept g.D.Disk.moment g.D.Disk.left_since found kept.commits.items} c.in_err-ended.ensures.since_err
+    (λ disk has. kept_since g.D.Disk.moment g.D.Disk.left_since found begun.journal disk c.args.remade.marks.now kept
+    (recovered_groups (g.D.Disk.seen found)) begun.count begun.reader.seen c.first_of_log.ensures c.requires.kept
+    c.in_ok-begun.ensures.any_moment
+    c.in_ok-begun.ensures.count (ap (λ (t : TokenRecord). t.seen) c.in_ok-begun.ensures.reader ∙ c.requires.at_log.seen) has))
+
+pub returns-in_err-closed-clause-fault : goal.returns-in_err-closed-clause-fault
+returns-in_err-closed-clause-fault g c =
+    let is : c.from_residual-in_err-closed.result ≡ Err c.in_err-closed.field-0.0 = search rules in
+    rw (is, c.in_err-closed.ensures.handed) tt
+
+pub returns-in_err-closed-clause-handed : goal.returns-in_err-closed-clause-handed
+returns-in_err-closed-clause-handed g c =
+    let is : c.from_residual-in_err-closed.result ≡ Err c.in_err-closed.field-0.0 = search rules in
+    rw (is, c.in_err-closed.ensures.handed) (inr refl)
+
+pub returns-in_err-closed-clause-any_moment_err : goal.returns-in_err-closed-clause-any_moment_err
+returns-in_err-closed-clause-any_moment_err g c =
+    let kept = c.args.remade.opened.kept in
+    let found = c.args.remade.opened.found in
+    let begun = c.in_ok-begun.begun in
+    let left = c.in_ok-ended.left in
+    let is : c.from_residual-in_err-closed.result ≡ Err c.in_err-closed.field-0.0 = search rules in
+    rw (is, c.in_err-closed.ensures.handed)
+    (kept_since g.D.Disk.moment g.D.Disk.left_since found begun.journal left.disk c.args.remade.marks.now kept
+    (recovered_groups (g.D.Disk.seen found)) begun.count begun.reader.seen c.first_of_log.ensures c.requires.kept
+    c.in_ok-begun.ensures.any_moment
+    c.in_ok-begun.ensures.count (ap (λ (t : TokenRecord). t.seen) c.in_ok-begun.ensures.reader ∙ c.requires.at_log.seen)
+    (record {
+      count = left.count;
+      log = left.reader.seen;
+      begins = later_begins begun.reader left.reader c.in_ok-ended.ensures.reader;
+      since = c.in_ok-ended.ensures.since;
+    }))

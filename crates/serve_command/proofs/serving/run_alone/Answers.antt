@@ -42,5 +42,5 @@ returns-clause-ended g c = λ texts are.
     let popped = only_popped _ _ _ c.in-Some.ensures.items count in
     let alone = is_alone _ _ texts _ _ _ _ _ _ (c.in_ok-run.ensures.run texts are) pushed popped in
     ended_alone _ _ _ texts _ _ _ _ _ _ _ _ _ alone alone.by.spoken
-    (told_alone g.P.Opened.Disk.may_leave g.P.Opened.Disk.seen (λ one. one.told) c.in_ok-run.run'.kept _ _ _
+    (told_alone g.P.Disk.Disk.may_leave g.P.Disk.Disk.seen (λ one. one.told) c.in_ok-run.run'.kept _ _ _
     c.in_ok-run.ensures.kept c.in_ok-run.ensures.told popped)

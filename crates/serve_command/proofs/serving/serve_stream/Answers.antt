@@ -7,7 +7,7 @@ use Rattle.serve_command.proofs.serving.serve_stream.Goals as goal
 pub returns-in-Ok-clause-ended : goal.returns-in-Ok-clause-ended
 returns-in-Ok-clause-ended g c = λ texts are.
     ends_alone _ _ _ texts _ _ _ _ _ _ (c.in-Ok.ensures.ended texts are)
-    (λ log told kept. kept_on_disk g.P.Opened.Disk.may_leave g.P.Opened.Disk.seen _ _ log told _ kept c.disk_of.ensures
+    (λ log told kept. kept_on_disk g.P.Disk.Disk.may_leave g.P.Disk.Disk.seen _ _ log told _ kept c.disk_of.ensures
     (λ zero. all_written _ _ c.was_written-written.ensures (c.tell_end.ensures.written zero)))
     c.tell_end.ensures.served
     (λ broke. ⊎_elim (λ not. inr (one_unwritten _ _ c.args.place _ c.was_written-written.ensures not
