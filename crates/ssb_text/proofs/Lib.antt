@@ -21,6 +21,7 @@ pub mod AheadLaws
 pub mod WrittenLaws
 pub mod OneListLaws
 pub mod RecordTextLaws
+pub mod DirectLaws
 pub mod FieldTextLaws
 pub mod NumberTextLaws
 pub mod ColumnTextLaws

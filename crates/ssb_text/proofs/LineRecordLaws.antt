@@ -68,7 +68,7 @@ lines_join (line ∷ lines) (c ∷ contents) more behind ended are =
     subst (RecordsFrom ((line ++ concat lines) ++ more)) records
     (subst (λ t. RecordsFrom t (records_in c ++ (flat_map records_in contents ++ behind))) text all)
 
-no_records : RecordsFrom [] []
+pub no_records : RecordsFrom [] []
 unfolding Reached next_record
 no_records = (st.StartRecord, [], (refl, refl), refl)
 

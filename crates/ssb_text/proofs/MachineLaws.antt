@@ -109,7 +109,7 @@ after_return : (u : List ℕ) → next st.AfterCr [] [] (10 ∷ u) ≡ next st.S
 unfolding next_record
 after_return u = refl
 
-empty_line : (u : List ℕ) → next st.StartRecord [] [] (10 ∷ u) ≡ next st.StartRecord [] [] u
+pub empty_line : (u : List ℕ) → next st.StartRecord [] [] (10 ∷ u) ≡ next st.StartRecord [] [] u
 unfolding next_record
 empty_line u = refl
 
@@ -118,7 +118,7 @@ unfolding next_record
 empty_line_return u = refl
 
 -- records from a state and bytes on are those from others whose next record is the same
-same_records : (s t : State) (xs ys : List ℕ) (records : List (List (List ℕ)))
+pub same_records : (s t : State) (xs ys : List ℕ) (records : List (List (List ℕ)))
     → next s [] [] xs ≡ next t [] [] ys → AreRecords record_config s xs records → AreRecords record_config t ys records
 unfolding Reached
 same_records s t xs ys [] same are = grind arith
@@ -151,7 +151,7 @@ first_split fields s t xs ys more (r ∷ records) read same are =
           (are.0, are.1, subst Rest p are.2.3, are.3),
     )
 
-first_join : (fields : List (List ℕ)) (s t : State) (xs ys more : List ℕ) (behind : List (List (List ℕ)))
+pub first_join : (fields : List (List ℕ)) (s t : State) (xs ys more : List ℕ) (behind : List (List (List ℕ)))
     → next st.StartRecord [] [] xs ≡ Some (fields, s, ys) → next s [] [] ys ≡ next t [] [] more
     → AreRecords record_config t more behind → AreRecords record_config st.StartRecord xs (fields ∷ behind)
 unfolding Reached

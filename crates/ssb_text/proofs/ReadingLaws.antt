@@ -34,7 +34,7 @@ if_known None P h = tt
 if_known (Some text) P h = h text refl
 
 -- a pair more at the ends
-AllZip-push : {A B : Type 0} (P : A → B → Type 0) (xs : List A) (ys : List B) (x : A) (y : B) → AllZip P xs ys → P x y
+pub AllZip-push : {A B : Type 0} (P : A → B → Type 0) (xs : List A) (ys : List B) (x : A) (y : B) → AllZip P xs ys → P x y
     → AllZip P (xs ++ x ∷ []) (ys ++ y ∷ [])
 AllZip-push P [] [] x y all here = (here, tt)
 AllZip-push P [] (b ∷ ys) x y all here = absurd all

@@ -28,11 +28,11 @@ not-false true e = absurd cc
 not-false false e = refl
 
 -- a plain byte is no mark of the format
-plain-byte : (b : ℕ) → is_plain_byte b ≡ true → ((b == 124) ≡ false) × ((b == 13) ≡ false) × ((b == 10) ≡ false)
+pub plain-byte : (b : ℕ) → is_plain_byte b ≡ true → ((b == 124) ≡ false) × ((b == 13) ≡ false) × ((b == 10) ≡ false)
 plain-byte b e = grind (arith, and-left, and-right, not-false)
 
 -- the bytes of a field join it
-field-run : (fields : List (List ℕ)) (field x tail : List ℕ) → IsPlainField x
+pub field-run : (fields : List (List ℕ)) (field x tail : List ℕ) → IsPlainField x
     → next_record record_config st.InField fields field (x ++ tail) ≡ next_record record_config st.InField fields
     (field ++ x) tail
 unfolding next_record
@@ -47,7 +47,7 @@ unfolding next_record
 start-same fields field c tail = refl
 
 -- a bar ends the field
-end-field : (fields : List (List ℕ)) (x u : List ℕ)
+pub end-field : (fields : List (List ℕ)) (x u : List ℕ)
     → next_record record_config st.InField fields x (124 ∷ u) ≡ next_record record_config st.StartField
     (fields ++ (x ∷ [])) [] u
 unfolding next_record
@@ -115,7 +115,7 @@ records_reached (fields ∷ records) readable = (
 )
 
 -- no byte order mark stands at the start
-no-mark : (b : ℕ) (rest : List ℕ) → (b == 239) ≡ false → strip_bom (b ∷ rest) ≡ b ∷ rest
+pub no-mark : (b : ℕ) (rest : List ℕ) → (b == 239) ≡ false → strip_bom (b ∷ rest) ≡ b ∷ rest
 unfolding strip_bom
 no-mark b [] other = refl
 no-mark b (c ∷ []) other = refl

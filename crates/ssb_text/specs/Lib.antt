@@ -18,6 +18,7 @@ pub mod Layouts
 pub mod Blocks
 pub mod BlockReading
 pub mod Lines
+pub mod Direct
 pub mod Parsing
 pub mod Joining
 pub mod Ahead

@@ -129,7 +129,8 @@ fn read_blocks<R: Read + Drop, H: TableHash>(
     }
 }
 
-// Joins what was parsed before, and reads the next blocks meanwhile, each in a thread of its own.
+// Joins what was parsed before, and reads the next blocks meanwhile, each in a thread of its own. Once these are the
+// last, no room is kept for more.
 fn go_ahead<R: Read + Drop, H: TableHash>(
     rt: &(impl Threads + Sync),
     alloc: Global,
@@ -163,10 +164,12 @@ fn go_ahead<R: Read + Drop, H: TableHash>(
             ensures fault { IfErr result (IsReadFault table.Lineorder) }
         { read_blocks(alloc, rooms, source) },
     );
-    Ok(ReadAhead {
-        joined: joined?,
-        next: next?,
-    })
+    let mut joined = joined?;
+    let next = next?;
+    if next.blocks.len() < BLOCKS {
+        joined.rooms.clear();
+    }
+    Ok(ReadAhead { joined, next })
 }
 
 // Parses the blocks that were read, and goes ahead meanwhile.

@@ -13,7 +13,8 @@
 //! them were given. That of [`load`]: what is loaded is exactly what the files spell, and what is refused is refused
 //! for the first reason that there is, in the order of the files, their records and their columns; only a failed read
 //! and want of memory may come before it. It says nothing of blocks: that they change nothing rests on the law of
-//! [`records_of_appended`].
+//! [`records_of_appended`]. Nor does it say that a block in which nothing is odd is read directly off its bytes: what
+//! is read so are its records (`specs/Direct`).
 //!
 //! Files in another layout, with another delimiter or a line of heads above the rows, are [`TableFiles`]: their rows
 //! ([`TableFiles::into_rows`]) are read as those of any file, with a bar in the place of each delimiter
@@ -44,6 +45,7 @@ mod cells;
 mod checksum;
 mod customer;
 mod date;
+mod direct;
 mod error;
 mod fields;
 mod heads;

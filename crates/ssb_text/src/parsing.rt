@@ -7,6 +7,7 @@ ghost use Rattle.ssb_text.specs.Lines.{SpellsUntil};
 ghost use Rattle.ssb_text.specs.Parsing.{IsParsed, IsParsedOk};
 
 use crate::blocks::Block;
+use crate::direct::read_directly;
 use crate::error::LineFault;
 use crate::records::{ReadError, next_record, record_reader};
 use crate::row::TableRow;
@@ -25,8 +26,8 @@ pub(crate) struct Parsed {
     pub(crate) fault: Option<LineFault>,
 }
 
-// Puts the lines of a block's bytes, up to its first fault, in place of those that were there, and tells that fault.
-fn parse_lines(
+// Puts the lines of a block's records, up to its first fault, in place of those that were there, and tells that fault.
+fn parse_records(
     alloc: Global,
     block: &[u8],
     lines: &mut Vec<Line>,
@@ -50,6 +51,20 @@ fn parse_lines(
         }
     }
     Err(ReadError::Read)
+}
+
+// The same, read directly off the block's bytes where nothing in them is odd.
+fn parse_lines(
+    alloc: Global,
+    block: &[u8],
+    lines: &mut Vec<Line>,
+) -> Result<Option<LineFault>, ReadError>
+    ensures { IfOk result (SpellsUntil block.now (map line_values lines.new.items)) }
+{
+    if read_directly(alloc, block, lines)? {
+        return Ok(None);
+    }
+    parse_records(alloc, block, lines)
 }
 
 /// The lines of a block, up to its first fault.

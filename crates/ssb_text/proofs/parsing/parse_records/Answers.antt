@@ -5,7 +5,7 @@ use Rattle.ssb_schema.specs.Rows.{line_values}
 use Rattle.ssb_schema.specs.declared.table.Table.TheVariants as table
 use Rattle.ssb_text.proofs.ReadingLaws.{read_nothing, read_more}
 use Rattle.ssb_text.proofs.ParsingLaws.{parsed_until, slice_bytes}
-use Rattle.ssb_text.proofs.parsing.parse_lines.Goals as goal
+use Rattle.ssb_text.proofs.parsing.parse_records.Goals as goal
 
 pub loop-init : goal.loop-init
 loop-init c =
