@@ -169,11 +169,13 @@ impl<O: Read + OpenFile + JournalFile + Drop> UnreadFile<O> {
     fn locked<R: Files<File = O>>(
         files: &R,
         path: &str,
-        file: O,
+        mut file: O,
     ) -> Result<UnreadFile<O>, OpenError>
         ensures fresh { IfOk result IsFresh }
         ensures there { IfErr result IsOfAFile }
     {
+        // The system opens a folder to be read, and tells only of a read what it is.
+        file.read(&mut [])?;
         file.lock_alone()?;
         file.sync_all()?;
         sync_name(files, path)?;

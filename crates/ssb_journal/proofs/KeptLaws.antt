@@ -1,7 +1,7 @@
 -- What texts of a journal spell.
 use Rattle.std.proofs.Common.{◌≡◌, ℕ, ◌+◌, ◌<◌, ◌≤◌, inl, inr, ⊎_elim, List, [], ◌∷◌, ◌++◌, Vec, Global, length, get_or}
 use Rattle.std.proofs.Common.{take, map, Some, refl, sym, ◌∙◌, ap, subst, arith}
-use Rattle.std.specs.Prelude.{◌⊎◌, Result, Ok, Err, IfOk, IfErr}
+use Rattle.std.specs.Prelude.{Result, Ok, Err, IfOk, IfErr}
 use Rattle.std.specs.List.{AllByRecursion, AllZip, flat_map}
 use Rattle.std.proofs.lemmas.List.{append-nil, take_more, get_or-map, length-map, map_push}
 use Rattle.std.proofs.lemmas.Grind.{flat_map-append}
@@ -11,8 +11,7 @@ use Rattle.row_store.specs.History.{CommitRecord}
 use Rattle.ssb_journal.specs.Seals.{sealed}
 use Rattle.ssb_journal.specs.Heads.{head_text}
 use Rattle.ssb_journal.specs.declared.head.TableMark.{TableMark}
-use Rattle.ssb_journal.specs.declared.fault.JournalFault.{JournalFault}
-use Rattle.ssb_journal.specs.declared.fault.JournalFault.TheVariants.{Damaged, OutOfMemory}
+use Rattle.ssb_journal.specs.declared.fault.JournalFault.TheVariants.{Damaged}
 use Rattle.ssb_audit.specs.declared.trace.Told.{Told}
 use Rattle.ssb_audit.specs.declared.trace.Trace.{Trace}
 use Rattle.ssb_script.specs.declared.error.ScriptError.{ScriptError}
@@ -20,7 +19,7 @@ use Rattle.ssb_script.specs.declared.error.ScriptError.TheVariants as error
 use Rattle.ssb_trace.specs.Laws.{HasOneReading}
 use Rattle.ssb_trace.specs.Traces.{IsTraceFault, SpellsTrace}
 use Rattle.ssb_journal.specs.Kept.{trace_of, SpellsBatch, SpellCommits, SpellsNoBatch, IsFirstNoBatch, KeepsCommits}
-use Rattle.ssb_journal.specs.Kept.{KeepsWithOrWithout, IsGroupOf, batch_fault}
+use Rattle.ssb_journal.specs.Kept.{KeepsWithOrWithout, IsGroupOf}
 
 -- each has P, and where it has P it has Q
 pub all_meet : {A : Type 0} (P Q : A → Type 0) (xs : List A) → AllByRecursion P xs → AllByRecursion (λ x. P x → Q x) xs → AllByRecursion Q xs
@@ -59,21 +58,10 @@ pub one_list : ((text : List ℕ) → HasOneReading text) → (texts : List (Lis
 one_list reads texts cs ds one other =
     sym one.whole ∙ ap (flat_map (λ (b : List CommitRecord). b)) (one_batches reads texts one.batches other.batches one.spelled other.spelled) ∙ other.whole
 
-tells : (number most : ℕ) (text : List ℕ) (e : ScriptError) → (e ≡ error.Read → ⊥) → (e ≡ error.OutOfMemory → ⊥) → IsTraceFault most text e → SpellsNoBatch text
-tells number most text e not_read not_memory fault =
-    ⊎_elim (λ is. absurd (not_read is)) (λ more. ⊎_elim (λ is. absurd (not_memory is)) (λ told. ⊎_elim (λ first. inl (most, e, first)) (λ ends. inr (inl (most, ends.1))) told) more) fault
-
 -- a text that spells no trace
-pub no_trace : (number most : ℕ) (text : List ℕ) (e : ScriptError) → IsTraceFault most text e → (batch_fault number e ≡ OutOfMemory) ⊎ ((batch_fault number e ≡ Damaged number) × SpellsNoBatch text)
-no_trace number most text error.Read fault = inl refl
-no_trace number most text error.OutOfMemory fault = inl refl
-no_trace number most text (error.BadLine n) fault = inr (refl, tells number most text (error.BadLine n) (λ is. cc) (λ is. cc) fault)
-no_trace number most text error.NoCommit fault = inr (refl, tells number most text error.NoCommit (λ is. cc) (λ is. cc) fault)
-no_trace number most text error.NoAnswer fault = inr (refl, tells number most text error.NoAnswer (λ is. cc) (λ is. cc) fault)
-no_trace number most text (error.EmptyBlock n) fault = inr (refl, tells number most text (error.EmptyBlock n) (λ is. cc) (λ is. cc) fault)
-no_trace number most text (error.Row n f) fault = inr (refl, tells number most text (error.Row n f) (λ is. cc) (λ is. cc) fault)
-no_trace number most text (error.TooManyQuestions n) fault = inr (refl, tells number most text (error.TooManyQuestions n) (λ is. cc) (λ is. cc) fault)
-no_trace number most text error.TooLong fault = inr (refl, tells number most text error.TooLong (λ is. cc) (λ is. cc) fault)
+pub no_trace : (most : ℕ) (text : List ℕ) (e : ScriptError) → (e ≡ error.Read → ⊥) → (e ≡ error.OutOfMemory → ⊥) → IsTraceFault most text e → SpellsNoBatch text
+no_trace most text e not_read not_memory fault =
+    ⊎_elim (λ is. absurd (not_read is)) (λ more. ⊎_elim (λ is. absurd (not_memory is)) (λ told. ⊎_elim (λ first. inl (most, e, first)) (λ ends. inr (inl (most, ends.1))) told) more) fault
 
 -- the commits that a file keeps, with a group more
 pub keeps_more : (marks : List TableMark) (before more : List CommitRecord) (old new group : List ℕ) → KeepsCommits marks before old → IsGroupOf more group → recovered new ≡ recovered old ++ group ∷ [] → KeepsCommits marks (before ++ more) new
@@ -107,10 +95,10 @@ module _ (texts : List (Vec ℕ Global)) (i : ℕ) (text : Vec ℕ Global) (insi
       (subst (SpellCommits (take i (lists texts) ++ text.items ∷ [])) (sym all_is) (spell_more (take i (lists texts)) commits text.items batch so_far one))
 
   -- a text that spells no commits
-  pub first_no_batch : (commits : List CommitRecord) (fault : JournalFault) → SpellCommits (take i (lists texts)) commits → fault ≡ Damaged (i + 1) → SpellsNoBatch text.items → IsFirstNoBatch (lists texts) fault
-  first_no_batch commits fault so_far told none = record {
+  pub first_no_batch : (commits : List CommitRecord) → SpellCommits (take i (lists texts)) commits → SpellsNoBatch text.items → IsFirstNoBatch (lists texts) (Damaged (i + 1))
+  first_no_batch commits so_far none = record {
     place = i;
-    told = told;
+    told = refl;
     text = text.items;
     is = slice_get-get_or (lists texts) i [] within ∙ ap (λ (t : List ℕ). Some t) at;
     no_batch = none;

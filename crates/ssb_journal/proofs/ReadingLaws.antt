@@ -1,22 +1,22 @@
 -- What is told of a journal's file, of the groups that were read of it.
-use Rattle.std.proofs.Common.{◌≡◌, ℕ, ◌+◌, ◌<◌, Bool, false, inl, inr, ⊎_elim, List, [], ◌∷◌, ◌++◌, length, map, take}
+use Rattle.std.proofs.Common.{◌≡◌, ℕ, ◌+◌, ◌<◌, ◌≤◌, Bool, true, false, inl, inr, ⊎_elim, List, [], ◌∷◌, ◌++◌, length, map, take, drop}
 use Rattle.std.proofs.Common.{Vec, Global, get_or, Some, refl, sym, ◌∙◌, ap, subst, arith, append_assoc, length-append}
-use Rattle.std.specs.Prelude.{slice_get}
-use Rattle.std.specs.List.{flat_map}
+use Rattle.std.specs.Prelude.{slice_get, Option, None, MatchOption}
+use Rattle.std.specs.List.{flat_map, AllZip}
 use Rattle.std.proofs.lemmas.Bool.{both_ways}
 use Rattle.std.proofs.lemmas.Grind.{flat_map-append}
-use Rattle.std.proofs.lemmas.List.{append-nil, get_or_at, length-map, map-append, map_push, take_at}
+use Rattle.std.proofs.lemmas.List.{append-nil, get_or_at, length-map, map-append, map_push, take-append-drop, take_all, take_at}
 use Rattle.std.proofs.lemmas.Option.{get_or_from_slice_get, slice_get-get_or, slice_get_read, slice_get_within}
 use Rattle.std.proofs.Math.Seq.{get_or-append-add, take-append-add}
 use Rattle.journal.specs.Disk.{BeginsAsRead}
 use Rattle.journal.specs.Groups.{recovered, behind, lists}
 use Rattle.journal.specs.Reading.{HasFirst}
 use Rattle.row_store.specs.History.{CommitRecord}
-use Rattle.ssb_journal.specs.Gathered.{fault_behind, AreNext, IsFirstGroupFault, IsNoBatchBehind}
+use Rattle.ssb_journal.specs.Gathered.{AreNext, IsFaultBehind, IsFirstGroupFault}
 use Rattle.ssb_journal.specs.Heads.{head_text}
 use Rattle.ssb_journal.specs.Kept.{BeginsWithCommits, IsFirstNoBatch, SpellCommits, SpellsBatch}
 use Rattle.ssb_journal.specs.Opening.{AreKept, IsKept, IsOpenFault}
-use Rattle.ssb_journal.specs.Reading.{IsReading}
+use Rattle.ssb_journal.specs.Reading.{are_all_read, IsReading, IsToldNext}
 use Rattle.ssb_journal.specs.Seals.{sealed}
 use Rattle.ssb_journal.specs.Texts.{AreSealed, IsBeginning, IsDamaged}
 use Rattle.ssb_journal.specs.declared.fault.JournalFault.{JournalFault}
@@ -54,15 +54,19 @@ at_behind {X} xs ys k n x n_is is =
     slice_get-get_or (xs ++ ys) n x (omega (arith, n_is, inside, length-append xs ys))
     ∙ ap (λ (y : X). Some y) (ap (λ (m : ℕ). get_or (xs ++ ys) m x) n_is ∙ get_or-append-add xs ys k x ∙ get_or_from_slice_get ys k x x is)
 
+abbrev number_of : JournalFault → ℕ
+number_of (Damaged number) = number
+number_of _ = 0
+
 -- behind texts that spell commits, one that spells none
-no_batch_behind : (texts more : List (List ℕ)) (commits : List CommitRecord) (before : ℕ) (told fault : JournalFault)
-    → before ≡ length texts → SpellCommits texts commits → fault ≡ fault_behind before told → IsFirstNoBatch more told
-    → IsFirstNoBatch (texts ++ more) fault
-no_batch_behind texts more commits before told fault count spelled is first =
-    let number : before + (first.place + 1) ≡ length texts + first.place + 1 = omega (arith, count) in
+no_batch_behind : (texts more : List (List ℕ)) (commits : List CommitRecord) (before count : ℕ) → before ≡ length texts
+    → SpellCommits texts commits → IsFirstNoBatch more (Damaged (count + 1))
+    → IsFirstNoBatch (texts ++ more) (Damaged (before + count + 1))
+no_batch_behind texts more commits before count many spelled first =
+    let at : count + 1 ≡ first.place + 1 = ap number_of first.told in
     record {
       place = length texts + first.place;
-      told = is ∙ ap (fault_behind before) first.told ∙ ap (λ (n : ℕ). Damaged n) number;
+      told = ap (λ (n : ℕ). Damaged n) (omega (arith, many, at));
       text = first.text;
       is = at_behind texts more first.place (length texts + first.place) first.text refl first.is;
       no_batch = first.no_batch;
@@ -77,13 +81,13 @@ are_kept marks groups kept is old =
     ⊎_elim (λ new. absurd (both_ways kept.is_new old new.0)) (λ was. was.1) is
 
 -- what is told of texts that were read together is a fault of each file that begins with all of these groups
-pub no_batch_told : (marks : List TableMark) (groups new more texts : List (List ℕ)) (kept : KeptCommits) (before : ℕ)
+pub fault_told : (marks : List TableMark) (groups new more texts : List (List ℕ)) (kept : KeptCommits) (before count : ℕ)
     (damaged : Bool) (file : List ℕ) (fault : JournalFault) → IsKept marks groups kept → kept.is_new ≡ false
     → length groups ≡ before + 1 → AreNext texts damaged groups new → recovered file ≡ new ++ more
-    → IsNoBatchBehind before texts damaged fault → IsOpenFault marks (recovered file) (behind file) fault
-no_batch_told marks groups new more texts kept before damaged file fault is old count next has (inl told) =
+    → IsFaultBehind before count texts damaged fault → IsOpenFault marks (recovered file) (behind file) fault
+fault_told marks groups new more texts kept before count damaged file fault is old many next has (told, inl first) =
     let k = are_kept marks groups kept is old in
-    let many : before ≡ length k.texts = omega (arith, count, ap length k.sealed, length-map k.texts sealed) in
+    let all : before ≡ length k.texts = omega (arith, many, ap length k.sealed, length-map k.texts sealed) in
     inr (record {
       first_groups = groups ++ map sealed texts;
       more = next.rest ++ more;
@@ -91,54 +95,68 @@ no_batch_told marks groups new more texts kept before damaged file fault is old 
       form = kept.form;
       texts = k.texts ++ texts;
       sealed = sealed_more kept.form marks k.texts texts groups k.sealed;
-      first = no_batch_behind k.texts texts kept.commits.items before told.0 fault many k.spelled told.1 told.2;
+      first = subst (IsFirstNoBatch (k.texts ++ texts)) (sym told)
+          (no_batch_behind k.texts texts kept.commits.items before count all k.spelled first);
     })
-no_batch_told marks groups new more texts kept before damaged file fault is old count next has (inr told) =
+fault_told marks groups new more texts kept before count damaged file fault is old many next has (told, inr last) =
     let k = are_kept marks groups kept is old in
-    let b = next.broken told.0 in
+    let b = next.broken last.0 in
     let sound = groups ++ map sealed texts in
-    let number = before + length texts + 1 in
-    let many : number ≡ length sound = omega (arith, count, length-append groups (map sealed texts), length-map texts sealed) in
+    let number = before + count + 1 in
+    let all : number ≡ length sound = omega (arith, many, last.1, length-append groups (map sealed texts), length-map texts sealed) in
     let whole : recovered file ≡ sound ++ b.0 ∷ more =
     has ∙ ap (λ (gs : List (List ℕ)). gs ++ more) (next.grown ∙ ap (λ (gs : List (List ℕ)). sound ++ gs) b.1) ∙ append_assoc sound (b.0 ∷ []) more in
-    inl (inl (subst (IsDamaged (recovered file)) (sym told.1) (record {
+    inl (inl (subst (IsDamaged (recovered file)) (sym told) (record {
       group = b.0;
-      is = ap (λ (gs : List (List ℕ)). slice_get gs number) whole ∙ at_seam sound b.0 more number many;
+      is = ap (λ (gs : List (List ℕ)). slice_get gs number) whole ∙ at_seam sound b.0 more number all;
       damaged = b.2;
       before = head_text kept.form marks ∷ (k.texts ++ texts);
-      sealed_before = ap (take number) whole ∙ take_at sound (b.0 ∷ more) number (sym many)
+      sealed_before = ap (take number) whole ∙ take_at sound (b.0 ∷ more) number (sym all)
           ∙ sealed_more kept.form marks k.texts texts groups k.sealed;
     })))
 
 -- some texts more are kept
-pub kept_more : (marks : List TableMark) (groups new texts : List (List ℕ)) (kept now : KeptCommits) (batch : List CommitRecord)
-    (damaged : Bool) → IsKept marks groups kept → kept.is_new ≡ false → AreNext texts damaged groups new → damaged ≡ false
-    → SpellCommits texts batch → now.form ≡ kept.form → now.is_new ≡ kept.is_new
-    → now.commits.items ≡ kept.commits.items ++ batch → IsKept marks new now
-kept_more marks groups new texts kept now batch damaged is old next whole spelled form same grown =
+kept_more : (marks : List TableMark) (groups texts : List (List ℕ)) (kept now : KeptCommits) (batch : List CommitRecord)
+    → IsKept marks groups kept → kept.is_new ≡ false → SpellCommits texts batch → now.form ≡ kept.form → now.is_new ≡ kept.is_new
+    → now.commits.items ≡ kept.commits.items ++ batch → IsKept marks (groups ++ map sealed texts) now
+kept_more marks groups texts kept now batch is old spelled form same grown =
     let k = are_kept marks groups kept is old in
-    let all : new ≡ groups ++ map sealed texts =
-    next.grown ∙ ap (λ (gs : List (List ℕ)). groups ++ map sealed texts ++ gs) (next.whole whole) ∙ append-nil (groups ++ map sealed texts) in
     inr (
       same ∙ old,
       record {
         texts = k.texts ++ texts;
-        sealed = all ∙ sealed_more kept.form marks k.texts texts groups k.sealed
+        sealed = sealed_more kept.form marks k.texts texts groups k.sealed
             ∙ ap (λ (f : HeadForm). map sealed (head_text f marks ∷ (k.texts ++ texts))) (sym form);
         spelled = subst (SpellCommits (k.texts ++ texts)) (sym grown) (spell_both k.texts texts kept.commits.items batch k.spelled spelled);
       },
     )
 
--- and so many groups they are
-pub counted_more : (groups new texts : List (List ℕ)) (before : ℕ) (damaged : Bool) → AreNext texts damaged groups new
-    → damaged ≡ false → length groups ≡ before + 1 → length new ≡ before + length texts + 1
-counted_more groups new texts before damaged next whole count =
-    omega (
-      arith,
-      count,
-      ap length (next.grown ∙ ap (λ (gs : List (List ℕ)). groups ++ map sealed texts ++ gs) (next.whole whole) ∙ append-nil (groups ++ map sealed texts)),
-      length-append groups (map sealed texts),
-      length-map texts sealed,
+-- so many groups they are
+counted_more : (groups texts : List (List ℕ)) (before : ℕ) → length groups ≡ before + 1
+    → length (groups ++ map sealed texts) ≡ before + length texts + 1
+counted_more groups texts before count =
+    omega (arith, count, length-append groups (map sealed texts), length-map texts sealed)
+
+-- where no damaged group follows, they are all
+whole_lot : (groups new texts : List (List ℕ)) (damaged : Bool) → AreNext texts damaged groups new → damaged ≡ false
+    → groups ++ map sealed texts ≡ new
+whole_lot groups new texts damaged next whole =
+    sym (next.grown ∙ ap (λ (gs : List (List ℕ)). groups ++ map sealed texts ++ gs) (next.whole whole) ∙ append-nil (groups ++ map sealed texts))
+
+-- a file that begins with all of them begins with the first of them
+first_of_lot : (groups new texts : List (List ℕ)) (count : ℕ) (damaged : Bool) (file : List ℕ) → AreNext texts damaged groups new
+    → HasFirst new file → HasFirst (groups ++ map sealed (take count texts)) file
+first_of_lot groups new texts count damaged file next has =
+    let front = map sealed (take count texts) in
+    let back = map sealed (drop count texts) in
+    let more = next.rest ++ has.0 in
+    let parts : groups ++ map sealed texts ≡ groups ++ front ++ back =
+    ap (λ (ts : List (List ℕ)). groups ++ map sealed ts) (sym (take-append-drop count texts))
+    ∙ ap (λ (gs : List (List ℕ)). groups ++ gs) (map-append sealed (take count texts) (drop count texts))
+    ∙ sym (append_assoc groups front back) in (
+      back ++ more,
+      has.1 ∙ ap (λ (gs : List (List ℕ)). gs ++ has.0) next.grown ∙ append_assoc (groups ++ map sealed texts) next.rest has.0
+          ∙ ap (λ (gs : List (List ℕ)). gs ++ more) parts ∙ append_assoc (groups ++ front) back more,
     )
 
 -- a file that begins with what was read begins with its groups
@@ -152,7 +170,7 @@ whole_file taken Ended file ended is =
     is.begins ∙ ap (λ (l : List ℕ). taken ++ l) (is.whole ended) ∙ append-nil taken
 
 -- such a file keeps the commits of its first groups
-pub begins_with : (marks : List TableMark) (groups : List (List ℕ)) (kept : KeptCommits) (file : List ℕ)
+begins_with : (marks : List TableMark) (groups : List (List ℕ)) (kept : KeptCommits) (file : List ℕ)
     → IsKept marks groups kept → kept.is_new ≡ false → HasFirst groups file
     → BeginsWithCommits marks kept.commits.items file
 begins_with marks groups kept file is old has =
@@ -195,17 +213,76 @@ other_file_told marks rest taken Ended file none is ended other read =
     let same = whole_file taken Ended file ended read in
     inl (inr (inl (refl, ap recovered same ∙ none, λ begins. other (subst (IsBeginning marks) (ap behind same ∙ is) begins))))
 
--- what is kept and counted with some texts more
-pub reading_more : (marks : List TableMark) (groups new texts : List (List ℕ)) (was rest : List ℕ) (was_done done : Bool) (before count : ℕ)
-    (kept now : KeptCommits) (batch : List CommitRecord) (damaged : Bool) → IsReading marks groups was was_done before kept
-    → kept.is_new ≡ false → AreNext texts damaged groups new → damaged ≡ false → SpellCommits texts batch → now.form ≡ kept.form
-    → now.is_new ≡ kept.is_new → now.commits.items ≡ kept.commits.items ++ batch → count ≡ length texts
-    → IsReading marks new rest done (before + count) now
-reading_more marks groups new texts was rest was_done done before count kept now batch damaged is old next whole spelled form same grown counts = record {
-  kept_is = kept_more marks groups new texts kept now batch damaged is.kept_is old next whole spelled form same grown;
-  counted = λ _. counted_more groups new texts before damaged next whole (is.counted old) ∙ omega (arith, counts);
-  new = λ is_new. absurd (both_ways now.is_new (same ∙ old) is_new);
-}
+-- what is kept of the first texts more, and told of the group behind them
+module _ (marks : List TableMark) (groups new texts : List (List ℕ)) (was rest : List ℕ) (was_done done : Bool) (before count : ℕ)
+    (kept now : KeptCommits) (batch : List CommitRecord) (damaged : Bool) (taken : List ℕ) (Ended : Type 0)
+    (is : IsReading marks groups was was_done before kept) (old : kept.is_new ≡ false) (next : AreNext texts damaged groups new)
+    (spelled : SpellCommits (take count texts) batch) (form : now.form ≡ kept.form) (same : now.is_new ≡ kept.is_new)
+    (grown : now.commits.items ≡ kept.commits.items ++ batch) (first : (more : List ℕ) → HasFirst new (taken ++ more)) where
+  now_kept : IsKept marks (groups ++ map sealed (take count texts)) now
+  now_kept = kept_more marks groups (take count texts) kept now batch is.kept_is old spelled form same grown
+
+  pub reading_more : (fault : Option JournalFault)
+      → MatchOption fault ((count ≡ length texts) × (damaged ≡ false)) (IsFaultBehind before count texts damaged)
+      → MatchOption fault (IsReading marks new rest done (before + count) now) (IsToldNext marks taken Ended (before + count))
+  reading_more None (whole, sound) =
+      let all : groups ++ map sealed (take count texts) ≡ new =
+      ap (λ (ts : List (List ℕ)). groups ++ map sealed ts) (take_all count texts (omega (arith, whole))) ∙ whole_lot groups new texts damaged next sound in
+      record {
+        kept_is = subst (λ (gs : List (List ℕ)). IsKept marks gs now) all now_kept;
+        counted = λ _. ap length (sym (whole_lot groups new texts damaged next sound)) ∙ counted_more groups texts before (is.counted old) ∙ omega (arith, whole);
+        new = λ is_new. absurd (both_ways now.is_new (same ∙ old) is_new);
+      }
+  reading_more (Some fault) told = (
+    told.0,
+    λ file read. let has = file_groups new taken Ended file first read in
+        inr (fault_told marks groups new has.0 texts kept before count damaged file fault is.kept_is old (is.counted old) next has.1 told),
+  )
+
+  pub more_begins_with : (file : List ℕ) → BeginsAsRead taken Ended file → BeginsWithCommits marks now.commits.items file
+  more_begins_with file read =
+      begins_with marks (groups ++ map sealed (take count texts)) now file now_kept (same ∙ old)
+      (first_of_lot groups new texts count damaged file next (file_groups new taken Ended file first read))
+
+no_batches : (batches : List (List CommitRecord)) → AllZip SpellsBatch [] batches → batches ≡ []
+no_batches [] all = refl
+no_batches (b ∷ batches) all = absurd all
+
+none_spelled : (batch : List CommitRecord) → SpellCommits [] batch → batch ≡ []
+none_spelled batch is = sym is.whole ∙ ap (flat_map (λ (b : List CommitRecord). b)) (no_batches is.batches is.spelled)
+
+no_texts : (texts : List (Vec ℕ Global)) → length (lists texts) ≡ 0 → texts ≡ []
+no_texts [] none = refl
+no_texts (t ∷ texts) none = absurd (omega (arith, none))
+
+-- where no text is kept and no fault is told, all was read
+pub nothing_more : (texts : List (Vec ℕ Global)) (before count : ℕ) (damaged done : Bool) (was now batch : List CommitRecord)
+    (fault : Option JournalFault) → count ≡ 0 → fault ≡ None
+    → MatchOption fault ((count ≡ length (lists texts)) × (damaged ≡ false)) (IsFaultBehind before count (lists texts) damaged)
+    → SpellCommits (take count (lists texts)) batch → now ≡ was ++ batch → (texts ≡ [] → damaged ≡ false → done ≡ true)
+    → (now ≡ was) × (are_all_read done fault ≡ true)
+nothing_more texts before count damaged done was now batch None zero none (whole, sound) spelled grown ends = (
+  grown ∙ ap (λ (cs : List CommitRecord). was ++ cs) (none_spelled batch (subst (λ (n : ℕ). SpellCommits (take n (lists texts)) batch) zero spelled))
+      ∙ append-nil was,
+  ends (no_texts texts (sym whole ∙ zero)) sound,
+)
+nothing_more texts before count damaged done was now batch (Some fault) zero none told spelled grown ends = cc
+
+-- the texts that are handed on are fewer than the groups
+pub few_texts : (groups new : List (List ℕ)) (texts : List (Vec ℕ Global)) (before count : ℕ) (damaged : Bool)
+    → AreNext (lists texts) damaged groups new → length groups ≡ before + 1 → count ≤ length texts → before + count < length new
+few_texts groups new texts before count damaged next many within =
+    let read = map sealed (lists texts) in
+    omega (
+      arith,
+      many,
+      within,
+      ap length next.grown,
+      length-append (groups ++ read) next.rest,
+      length-append groups read,
+      length-map (lists texts) sealed,
+      length-map texts (λ (v : Vec ℕ Global). v.items),
+    )
 
 -- one text more, and no damaged group
 pub next_one : (old was new : List (List ℕ)) (texts pushed : List (Vec ℕ Global)) (text : Vec ℕ Global) (group : List ℕ)

@@ -1,5 +1,5 @@
 -- Groups that were read together, and what is wrong with them.
-use Rattle.std.specs.Prelude.{◌≡◌, ◌⊎◌, ◌+◌, ◌<◌, ℕ, Bool, true, false, List, [], ◌∷◌, ◌++◌, length, map}
+use Rattle.std.specs.Prelude.{◌≡◌, ◌⊎◌, ◌+◌, ℕ, Bool, true, false, List, [], ◌∷◌, ◌++◌, length, map}
 use Rattle.ssb_journal.specs.Heads.{IsHeadFault}
 use Rattle.ssb_journal.specs.Kept.{IsFirstNoBatch}
 use Rattle.ssb_journal.specs.Seals.{sealed, IsNotSealed}
@@ -17,26 +17,17 @@ pub record AreNext (texts : List (List ℕ)) (damaged : Bool) (old new : List (L
   pub whole : damaged ≡ false → rest ≡ []
   pub broken : damaged ≡ true → (group : List ℕ) × (rest ≡ group ∷ []) × IsNotSealed group
 
--- the number of a group that is damaged
-abbrev pub fault_number : JournalFault → ℕ
-fault_number (Damaged number) = number
-fault_number _ = 0
+-- a group that is told to be damaged is the one behind so many texts
+abbrev pub IsOfNext : ℕ → JournalOpenFault → Type 0
+IsOfNext before (Journal (Damaged number)) = number ≡ before + 1
+IsOfNext before _ = Unit {0}
 
--- a group that is told to be damaged comes behind so many texts
-abbrev pub IsBehind : ℕ → JournalOpenFault → Type 0
-IsBehind before (Journal (Damaged number)) = before < number
-IsBehind before _ = Unit {0}
-
--- what is told of a text, behind so many others
-abbrev pub fault_behind : ℕ → JournalFault → JournalFault
-fault_behind before (Damaged number) = Damaged (before + number)
-fault_behind before fault = fault
-
--- behind so many texts, one of these spells no commits, or all do and a damaged group follows
-abbrev pub IsNoBatchBehind : ℕ → List (List ℕ) → Bool → JournalFault → Type 0
-IsNoBatchBehind before texts damaged fault =
-    ((told : JournalFault) × (fault ≡ fault_behind before told) × IsFirstNoBatch texts told)
-    ⊎ ((damaged ≡ true) × (fault ≡ Damaged (before + length texts + 1)))
+-- the fault of the group behind the first of these texts, so many of them: a text that spells no commits, or where they
+-- are all, a damaged group; the texts come behind so many others
+abbrev pub IsFaultBehind : ℕ → ℕ → List (List ℕ) → Bool → JournalFault → Type 0
+IsFaultBehind before count texts damaged fault =
+    (fault ≡ Damaged (before + count + 1))
+    × (IsFirstNoBatch texts (Damaged (count + 1)) ⊎ ((damaged ≡ true) × (count ≡ length texts)))
 
 -- what is wrong with the first group: its checksum, or its text is another head
 abbrev pub IsFirstGroupFault : List TableMark → List ℕ → JournalFault → Type 0

@@ -9,9 +9,8 @@ use Rattle.ssb_journal.specs.declared.head.HeadForm.{HeadForm}
 use Rattle.ssb_journal.specs.declared.head.TableMark.{TableMark}
 use Rattle.ssb_audit.specs.declared.trace.Trace.{Trace}
 use Rattle.ssb_script.specs.declared.error.ScriptError.{ScriptError}
-use Rattle.ssb_script.specs.declared.error.ScriptError.TheVariants as error
 use Rattle.ssb_journal.specs.declared.fault.JournalFault.{JournalFault}
-use Rattle.ssb_journal.specs.declared.fault.JournalFault.TheVariants.{Damaged, OutOfMemory}
+use Rattle.ssb_journal.specs.declared.fault.JournalFault.TheVariants.{Damaged}
 use Rattle.ssb_trace.specs.Traces.{EndsInBlock, IsFirstFault, SpellsTrace}
 use Rattle.ssb_trace.specs.TraceText.{trace_text}
 
@@ -64,12 +63,6 @@ SpellsNoBatch text =
     ((most : ℕ) × (e : ScriptError) × IsFirstFault most text e)
     ⊎ (((most : ℕ) × EndsInBlock most text)
     ⊎ ((most : ℕ) × (trace : Trace) × SpellsTrace most text trace × (0 < length trace.answers)))
-
--- what is told of the text of a group that spells no trace
-abbrev pub batch_fault : ℕ → ScriptError → JournalFault
-batch_fault number error.Read = OutOfMemory
-batch_fault number error.OutOfMemory = OutOfMemory
-batch_fault number _ = Damaged number
 
 -- the text of this group is the first that spells no commits; the first text is that of group 1
 pub record IsFirstNoBatch (texts : List (List ℕ)) (fault : JournalFault) : Type 0 where

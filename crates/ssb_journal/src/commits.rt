@@ -1,13 +1,13 @@
 //! Commits as the text of a group, and back.
-ghost use Rattle.std.specs.Prelude.{◌≡◌, ◌≤◌, ◌⊎◌, ◌++◌, true, length, take, IfOk, IfErr, IfSome, OnOk};
+ghost use Rattle.std.specs.Prelude.{◌≡◌, ◌≢◌, ◌+◌, ◌<◌, ◌≤◌, ◌++◌, true, length, take, IfOk, IfSome, MatchOption, OnOk};
 ghost use Rattle.std.specs.List.{AllByRecursion, concat};
 ghost use Rattle.journal.specs.Groups.{lists};
 ghost use Rattle.ssb_trace.specs.Allowed.{IsClient};
 ghost use Rattle.ssb_trace.specs.TraceText.{trace_text};
 ghost use Rattle.ssb_trace.specs.Together.{IsClosed};
-ghost use Rattle.ssb_journal.specs.Kept.{trace_of, SpellsBatch, SpellCommits, SpellsNoBatch, IsFirstNoBatch, batch_fault};
+ghost use Rattle.ssb_journal.specs.Kept.{trace_of, SpellsBatch, SpellCommits, SpellsNoBatch, IsFirstNoBatch};
+ghost use Rattle.ssb_journal.specs.declared.fault.JournalFault.TheVariants.{Damaged};
 
-use crate::fault::JournalFault;
 use memchr::memchr2;
 use row_store::Commit;
 use ssb_audit::Trace;
@@ -35,30 +35,27 @@ pub(crate) fn text_of(alloc: Global, commits: Vec<Commit>) -> Result<Vec<u8>, Al
     }
 }
 
-// What is told of the text of a group that spells no trace. A slice is read without a fault of its own.
-fn fault_of(number: u64, error: ScriptError) -> JournalFault
-    ensures { result ≡ batch_fault number error }
+// Whether a text is at fault, and not the memory. A slice is read without a fault of its own.
+fn is_of_text(error: ScriptError) -> bool
+    ensures { result ≡ true → (error ≢ ScriptError.Read) × (error ≢ ScriptError.OutOfMemory) }
 {
-    match error {
-        ScriptError::Read | ScriptError::OutOfMemory => JournalFault::OutOfMemory,
-        _ => JournalFault::Damaged(number),
-    }
+    !matches!(error, ScriptError::Read | ScriptError::OutOfMemory)
 }
 
-// The commits that the text of a group spells. The group has this number.
-fn batch_of(alloc: Global, number: u64, text: &[u8]) -> Result<Vec<Commit>, JournalFault>
-    ensures batch { IfOk result (λ batch. SpellsBatch text.now batch.items) }
-    ensures fault { IfErr result (λ fault. (fault ≡ JournalFault.OutOfMemory)
-        ⊎ ((fault ≡ JournalFault.Damaged number) × SpellsNoBatch text.now)) }
+// The commits that a text spells; none where it spells no commits.
+fn batch_of(alloc: Global, text: &[u8]) -> Result<Option<Vec<Commit>>, AllocError>
+    ensures { IfOk result (λ found. MatchOption found (SpellsNoBatch text.now)
+        (λ batch. SpellsBatch text.now batch.items)) }
 {
     let trace = match read_trace(alloc, text, u64::MAX) {
         Ok(trace) => trace,
-        Err(error) => return Err(fault_of(number, error)),
+        Err(error) if is_of_text(error) => return Ok(None),
+        Err(_) => return Err(AllocError),
     };
     if trace.answers.len() > 0 {
-        return Err(JournalFault::Damaged(number));
+        return Ok(None);
     }
-    Ok(trace.commits.into_vec())
+    Ok(Some(trace.commits.into_vec()))
 }
 
 fn push_all(commits: &mut Vec<Commit>, batch: Vec<Commit>) -> Result<(), AllocError>
@@ -149,11 +146,20 @@ fn commits_together(alloc: Global, texts: &[Vec<u8>]) -> Result<Together, AllocE
     })
 }
 
-/// The commits that texts spell. The first text is that of group 1.
-pub(crate) fn commits_of(alloc: Global, texts: &[Vec<u8>]) -> Result<Vec<Commit>, JournalFault>
-    ensures commits { IfOk result (λ commits. SpellCommits (lists texts.now) commits.items) }
-    ensures fault { IfErr result (λ fault. (fault ≡ JournalFault.OutOfMemory)
-        ⊎ IsFirstNoBatch (lists texts.now) fault) }
+/// The commits of the first texts, so many of them.
+#[derive(Drop)]
+pub(crate) struct SpelledTexts {
+    pub(crate) count: usize,
+    pub(crate) commits: Vec<Commit>,
+}
+
+/// The commits that texts spell, up to the first text that spells none. The first text is that of group 1.
+pub(crate) fn commits_of(alloc: Global, texts: &[Vec<u8>]) -> Result<SpelledTexts, AllocError>
+    ensures within { IfOk result (λ spelled. spelled.count ≤ length texts.now) }
+    ensures commits { IfOk result (λ spelled. SpellCommits (take spelled.count (lists texts.now))
+        spelled.commits.items) }
+    ensures next { IfOk result (λ spelled. spelled.count < length texts.now
+        → IsFirstNoBatch (lists texts.now) (Damaged (spelled.count + 1))) }
 {
     let mut commits = Vec::new(alloc);
     let mut place = 0;
@@ -174,12 +180,20 @@ pub(crate) fn commits_of(alloc: Global, texts: &[Vec<u8>]) -> Result<Vec<Commit>
             }
             alone = place + count;
         }
-        let batch = match batch_of(alloc, place as u64 + 1, &texts[place]) {
-            Ok(batch) => batch,
-            Err(fault) => return Err(fault),
+        let batch = match batch_of(alloc, &texts[place])? {
+            Some(batch) => batch,
+            None => {
+                return Ok(SpelledTexts {
+                    count: place,
+                    commits,
+                });
+            },
         };
         push_all(&mut commits, batch)?;
         place += 1;
     }
-    Ok(commits)
+    Ok(SpelledTexts {
+        count: place,
+        commits,
+    })
 }

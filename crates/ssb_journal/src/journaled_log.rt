@@ -1,5 +1,5 @@
 //! A journal beside the log whose commits it keeps.
-ghost use Rattle.std.specs.Prelude.{◌≡◌, ◌⊎◌, ◌<◌, ◌^◌, length, drop, true, IfOk, IfErr};
+ghost use Rattle.std.specs.Prelude.{◌≡◌, ◌⊎◌, ◌<◌, ◌^◌, length, drop, true, false, IfOk, IfErr};
 ghost use Rattle.std.specs.List.{AllByRecursion};
 ghost use Rattle.journal.specs.Disk.{LeavesOnly};
 ghost use Rattle.row_store.specs.History.{IsPrefix};
@@ -59,6 +59,27 @@ impl<D: Disk, L: LogSource> Model for LeftLog<D, L> {
 }
 
 impl<D: Disk, L: LogSource> LeftLog<D, L> {
+    /// What is left where a disk is not written any more, beside a log that begins with the commits that it keeps.
+    pub fn read_only(disk: D, source: L, count: u64) -> LeftLog<D, L>
+        requires left { IsLeft (D.may_leave disk) (D.seen disk) count (L.log source) false }
+        requires since { KeepsSince L.begun (D.moment disk) (D.left_since disk) count (L.log source) }
+        ensures { result ≡ record { disk = disk; source = source; count = count; whole = false } }
+    {
+        LeftLog {
+            disk,
+            source,
+            count,
+            is_whole: false,
+        }
+    }
+
+    /// How many commits are on the disk, whatever crashes.
+    pub(crate) fn count(&self) -> u64
+        ensures { result ≡ self.now.count }
+    {
+        self.count
+    }
+
     /// The disk, the log, how many of its commits are on the disk, and whether the journal was written to the end.
     pub fn into_parts(self) -> (D, L, u64, bool)
         ensures same { self ≡ record { disk = result.0; source = result.1; count = result.2; whole = result.3 } }

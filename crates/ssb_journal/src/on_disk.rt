@@ -2,10 +2,12 @@
 ghost use Rattle.std.specs.Prelude.{◌≡◌};
 ghost use Rattle.ssb_journal.specs.Counts.{KeepsAtLeast};
 
+use crate::journaled_log::LeftLog;
+use crate::source::LogSource;
 use journal::{Disk, Journal};
 
 /// The evidence that the first commits, so many of them, are on the disk: it is made of an open journal that keeps
-/// them, and of nothing else.
+/// them, or of what is left of one ([`LeftLog`]), and of nothing else.
 #[derive(Clone, Copy, Debug, PartialEq, Eq)]
 pub struct OnDisk {
     commits: u64,
@@ -19,6 +21,15 @@ impl OnDisk {
     {
         let _evidence = journal;
         OnDisk { commits }
+    }
+
+    /// The evidence of what is left of a journal: its commits are on the disk, whatever crashes.
+    pub(crate) fn of_left<D: Disk, L: LogSource>(left: &LeftLog<D, L>) -> OnDisk
+        ensures { result.commits ≡ left.now.count }
+    {
+        OnDisk {
+            commits: left.count(),
+        }
     }
 
     /// How many commits.

@@ -1,16 +1,16 @@
 //! The commits of a journal's file, one after another, as it is read.
-ghost use Rattle.std.specs.Prelude.{◌≡◌, ◌⊎◌, ◌+◌, ◌<◌, ◌≤◌, ◌^◌, ◌++◌, [], List, ℕ, true, false, length, IfOk, IfErr, IfSome, IsSome, IsErrOf, MatchOption};
+ghost use Rattle.std.specs.Prelude.{◌≡◌, ◌⊎◌, ◌+◌, ◌<◌, ◌≤◌, ◌^◌, ◌++◌, [], List, ℕ, true, false, length, take, IfOk, IfErr, IfSome, IsSome, IsErrOf, MatchOption};
 ghost use Rattle.journal.specs.Disk.{BeginsAsRead};
 ghost use Rattle.journal.specs.Groups.{recovered, behind, lists, AreTorn};
 ghost use Rattle.ssb_journal.specs.Heads.{head_text};
-ghost use Rattle.ssb_journal.specs.Kept.{BeginsWithCommits, SpellCommits};
-ghost use Rattle.ssb_journal.specs.Gathered.{fault_behind, fault_number, AreNext, IsBehind, IsFirstGroupFault, IsNoBatchBehind};
+ghost use Rattle.ssb_journal.specs.Kept.{BeginsWithCommits, IsFirstNoBatch, SpellCommits};
+ghost use Rattle.ssb_journal.specs.Gathered.{AreNext, IsFaultBehind, IsFirstGroupFault, IsOfNext};
 ghost use Rattle.ssb_journal.specs.Opening.{IsKept, TellsOpenFault};
 ghost use Rattle.ssb_journal.specs.Seals.{sealed};
 ghost use Rattle.ssb_journal.specs.Texts.{IsBeginning};
 
 use crate::checksum::unseal;
-use crate::commits::{MOST_TOGETHER, commits_of};
+use crate::commits::{MOST_TOGETHER, SpelledTexts, commits_of};
 use crate::fault::JournalFault;
 use crate::head::{HeadForm, TableMark, check_head};
 use crate::kept::KeptCommits;
@@ -24,17 +24,20 @@ use std::marker::Model;
 
 /// A journal's file whose commits are read one after another. They are handed on and forgotten: memory holds a part of
 /// the file, and the commits that are read together. To a contract it is the file, the marks of its tables, how many
-/// texts were read, the commits so far, the form of its head, and whether it is new and whether all was read.
+/// texts were handed on, the commits so far, the form of its head, and whether it is new and whether all was read.
 #[derive(Drop)]
 pub struct JournalReader<'a, U: UnreadDisk> {
     marks: &'a [TableMark],
     groups: UnreadJournal<U>,
     texts: u64,
     kept: KeptCommits,
+    /// The fault of the group behind those texts, where it was read with them: it is told next.
+    fault: Option<JournalFault>,
 }
 
 impl<'a, U: UnreadDisk> Model for JournalReader<'a, U> {
-    ghost use Rattle.ssb_journal.specs.Reading.{IsReading, ReadCommits};
+    ghost use Rattle.std.specs.Prelude.{MatchOption};
+    ghost use Rattle.ssb_journal.specs.Reading.{are_all_read, IsReading, IsToldNext, ReadCommits};
 
     ghost Value = { ReadCommits U };
 
@@ -45,10 +48,12 @@ impl<'a, U: UnreadDisk> Model for JournalReader<'a, U> {
       commits = r.kept.commits.items;
       form = r.kept.form;
       is_new = r.kept.is_new;
-      is_done = r.groups.is_done;
+      is_done = are_all_read r.groups.is_done r.fault;
     } };
 
-    ghost invariant = { λ r. IsReading r.marks.now r.groups.groups r.groups.rest r.groups.is_done r.texts r.kept };
+    ghost invariant = { λ r. MatchOption r.fault
+        (IsReading r.marks.now r.groups.groups r.groups.rest r.groups.is_done r.texts r.kept)
+        (IsToldNext r.marks.now (U.taken r.groups.unread) (U.is_ended r.groups.unread) r.texts) };
 }
 
 // The texts of groups that were read together, and whether another one follows whose bytes are not those that were
@@ -101,33 +106,20 @@ fn next_texts<U: UnreadDisk>(
     }
 }
 
-// What is told of a batch of texts, behind so many others.
-fn behind_texts(before: u64, fault: JournalFault) -> JournalFault
-    requires { fault_number fault + before < 2 ^ 64 }
-    ensures { result ≡ fault_behind before fault }
+// The fault of the group behind the first of these texts, so many of them, where it was read. The texts come behind so
+// many others.
+fn fault_behind(before: u64, count: usize, next: &NextTexts) -> Option<JournalFault>
+    requires few { before + length next.now.texts.items < 2 ^ 62 }
+    requires within { count ≤ length next.now.texts.items }
+    requires next { count < length next.now.texts.items
+        → IsFirstNoBatch (lists next.now.texts.items) (JournalFault.Damaged (count + 1)) }
+    ensures { MatchOption result ((count ≡ length (lists next.now.texts.items)) × (next.now.is_damaged ≡ false))
+        (IsFaultBehind before count (lists next.now.texts.items) next.now.is_damaged) }
 {
-    match fault {
-        JournalFault::Damaged(number) => JournalFault::Damaged(before + number),
-        other => other,
+    if count < next.texts.len() || next.is_damaged {
+        return Some(JournalFault::Damaged(before + count as u64 + 1));
     }
-}
-
-// The commits of texts that were read together, behind so many others.
-fn commits_behind(alloc: Global, before: u64, next: &NextTexts) -> Result<Vec<Commit>, JournalFault>
-    requires { before + length next.now.texts.items < 2 ^ 62 }
-    ensures commits { IfOk result (λ commits. SpellCommits (lists next.now.texts.items) commits.items) }
-    ensures whole { IfOk result (λ _. next.now.is_damaged ≡ false) }
-    ensures fault { IfErr result (λ fault. (fault ≡ JournalFault.OutOfMemory)
-        ⊎ IsNoBatchBehind before (lists next.now.texts.items) next.now.is_damaged fault) }
-{
-    let commits = match commits_of(alloc, &next.texts) {
-        Ok(commits) => commits,
-        Err(fault) => return Err(behind_texts(before, fault)),
-    };
-    if next.is_damaged {
-        return Err(JournalFault::Damaged(before + next.texts.len() as u64 + 1));
-    }
-    Ok(commits)
+    None
 }
 
 // The same, with some commits more.
@@ -157,24 +149,50 @@ fn kept_more(kept: KeptCommits, commits: &[Commit]) -> Result<KeptCommits, Journ
     })
 }
 
-// The commits of texts that were read together, and what is kept with them.
+// The commits of the first of the texts that were read together, what is kept with them, and the fault of the group
+// behind them, where it was read.
+#[derive(Drop)]
+struct MoreCommits {
+    count: u64,
+    commits: Vec<Commit>,
+    kept: KeptCommits,
+    fault: Option<JournalFault>,
+}
+
+// The commits of texts that were read together, behind so many others, up to the first fault.
 fn commits_more(
     alloc: Global,
     before: u64,
     next: &NextTexts,
     kept: KeptCommits,
-) -> Result<(KeptCommits, Vec<Commit>), JournalFault>
+) -> Result<MoreCommits, JournalFault>
     requires { before + length next.now.texts.items < 2 ^ 62 }
-    ensures spelled { IfOk result (λ found. SpellCommits (lists next.now.texts.items) found.1.items) }
-    ensures whole { IfOk result (λ _. next.now.is_damaged ≡ false) }
-    ensures commits { IfOk result (λ found. found.0.commits.items ≡ kept.commits.items ++ found.1.items) }
-    ensures same { IfOk result (λ found. (found.0.form ≡ kept.form) × (found.0.is_new ≡ kept.is_new)) }
+    ensures within { IfOk result (λ more. more.count ≤ length next.now.texts.items) }
+    ensures spelled { IfOk result (λ more. SpellCommits (take more.count (lists next.now.texts.items))
+        more.commits.items) }
+    ensures commits { IfOk result (λ more. more.kept.commits.items ≡ kept.commits.items ++ more.commits.items) }
+    ensures same { IfOk result (λ more. (more.kept.form ≡ kept.form) × (more.kept.is_new ≡ kept.is_new)) }
+    ensures some { IfOk result (λ more. more.count ≡ 0 → more.fault ≡ None) }
+    ensures next { IfOk result (λ more. MatchOption more.fault
+        ((more.count ≡ length (lists next.now.texts.items)) × (next.now.is_damaged ≡ false))
+        (IsFaultBehind before more.count (lists next.now.texts.items) next.now.is_damaged)) }
     ensures fault { IfErr result (λ fault. (fault ≡ JournalFault.OutOfMemory)
-        ⊎ IsNoBatchBehind before (lists next.now.texts.items) next.now.is_damaged fault) }
+        ⊎ IsFaultBehind before 0 (lists next.now.texts.items) next.now.is_damaged fault) }
 {
-    let commits = commits_behind(alloc, before, next)?;
+    let SpelledTexts { count, commits } = commits_of(alloc, &next.texts)?;
+    let fault = fault_behind(before, count, next);
+    if count == 0 {
+        if let Some(fault) = fault {
+            return Err(fault);
+        }
+    }
     let kept = kept_more(kept, &commits)?;
-    Ok((kept, commits))
+    Ok(MoreCommits {
+        count: count as u64,
+        commits,
+        kept,
+        fault,
+    })
 }
 
 // The form of a head, which is the first group of a journal over tables of these marks.
@@ -261,6 +279,7 @@ pub fn open<'a, U: UnreadDisk>(
             groups,
             texts: 0,
             kept,
+            fault: None,
         }),
         Err(fault) => Err((fault, groups.into_unread())),
     }
@@ -274,8 +293,8 @@ impl<'a, U: UnreadDisk> JournalReader<'a, U> {
         self.kept.form
     }
 
-    /// The next commits; none at the end. The first fault of the file is told, and an `Err` hands the file back, as far
-    /// as it was read.
+    /// The next commits; none at the end. The first fault of the file is told, once all commits before it were handed
+    /// on. An `Err` hands the file back, as far as it was read.
     pub fn next(
         self,
         alloc: Global,
@@ -295,8 +314,8 @@ impl<'a, U: UnreadDisk> JournalReader<'a, U> {
         // The fault is one of each such file.
         ensures fault { IfErr result (λ e. (file : List ℕ)
             → BeginsAsRead (U.taken e.1) (U.is_ended e.1) file → TellsOpenFault self.entry.marks file e.0) }
-        // A damaged group comes behind all that were read.
-        ensures behind { IfErr result (λ e. IsBehind self.entry.texts e.0) }
+        // A fault is one of the group behind those whose commits were handed on.
+        ensures first { IfErr result (λ e. IsOfNext self.entry.texts e.0) }
         ensures known_err { IfErr result (λ e. U.holds e.1 ≡ U.holds self.entry.unread) }
         // It does not give up by itself.
         ensures failed { IfErr result (λ e. e.0 ≡ JournalOpenFault.Disk DiskError.Failed
@@ -304,6 +323,9 @@ impl<'a, U: UnreadDisk> JournalReader<'a, U> {
         ensures full { IfErr result (λ e. e.0 ≡ JournalOpenFault.Disk DiskError.Full
             → 2 ^ 60 ≤ length (U.taken e.1)) }
     {
+        if let Some(fault) = self.fault {
+            return Err((JournalOpenFault::Journal(fault), self.into_unread()));
+        }
         if self.kept.is_new {
             return Ok((self, None));
         }
@@ -312,33 +334,28 @@ impl<'a, U: UnreadDisk> JournalReader<'a, U> {
             mut groups,
             texts,
             kept,
+            fault: _,
         } = self;
         let next = match next_texts(alloc, &mut groups) {
             Ok(next) => next,
             Err(error) => return Err((JournalOpenFault::Disk(error), groups.into_unread())),
         };
         groups.soundness();
-        if next.texts.is_empty() && !next.is_damaged {
-            let reader = JournalReader {
-                marks,
-                groups,
-                texts,
-                kept,
-            };
+        let more = match commits_more(alloc, texts, &next, kept) {
+            Ok(more) => more,
+            Err(fault) => return Err((JournalOpenFault::Journal(fault), groups.into_unread())),
+        };
+        let reader = JournalReader {
+            marks,
+            groups,
+            texts: texts + more.count,
+            kept: more.kept,
+            fault: more.fault,
+        };
+        if more.count == 0 {
             return Ok((reader, None));
         }
-        match commits_more(alloc, texts, &next, kept) {
-            Ok((kept, commits)) => {
-                let reader = JournalReader {
-                    marks,
-                    groups,
-                    texts: texts + next.texts.len() as u64,
-                    kept,
-                };
-                Ok((reader, Some(commits)))
-            },
-            Err(fault) => Err((JournalOpenFault::Journal(fault), groups.into_unread())),
-        }
+        Ok((reader, Some(more.commits)))
     }
 
     /// The file, as far as it was read.
@@ -350,6 +367,7 @@ impl<'a, U: UnreadDisk> JournalReader<'a, U> {
             groups,
             texts: _,
             kept: _,
+            fault: _,
         } = self;
         groups.into_unread()
     }
@@ -372,6 +390,7 @@ impl<'a, U: UnreadDisk> JournalReader<'a, U> {
             groups,
             texts: _,
             kept,
+            fault: _,
         } = self;
         let (found, torn) = groups.into_found();
         OpenedJournal { found, kept, torn }

@@ -1,6 +1,6 @@
 //! A journal that threads share: whoever needs a commit on the disk appends for all, or waits for the one who does.
 ghost use Rattle.std.specs.Prelude.{◌≤◌, IfOk};
-ghost use Rattle.ssb_journal.specs.Turns.{HasEnough};
+ghost use Rattle.ssb_journal.specs.Turns.{HasEnough, IsReadOnlyTurn};
 
 use crate::journaled_log::{JournaledLog, LeftLog};
 use crate::on_disk::OnDisk;
@@ -28,6 +28,8 @@ enum Whereabouts<J, F> {
     Away(OnDisk),
     // It has failed, and this is left of it.
     Failed(JournalFailed, Option<F>),
+    // It is not written any more: this is what the disk keeps.
+    ReadOnly(F),
 }
 
 // What is left to do for one who needs commits on the disk.
@@ -41,6 +43,19 @@ enum JournalTurn<J> {
     Wait,
     // To give up.
     Failed(JournalFailed),
+}
+
+// The turn of one who needs so many commits of a journal that is not written any more.
+fn read_only_turn<D: Disk, L: LogSource, J>(left: &LeftLog<D, L>, commits: u64) -> JournalTurn<J>
+    ensures enough { HasEnough commits result }
+    ensures left { IsReadOnlyTurn left.now.count commits result }
+{
+    let on_disk = OnDisk::of_left(left);
+    if on_disk.commits() >= commits {
+        JournalTurn::Reached(on_disk)
+    } else {
+        JournalTurn::Failed(JournalFailed { cause: None })
+    }
 }
 
 impl<D: Disk + Drop, L: LogSource + Drop> Whereabouts<JournaledLog<D, L>, LeftLog<D, L>> {
@@ -73,6 +88,11 @@ impl<D: Disk + Drop, L: LogSource + Drop> Whereabouts<JournaledLog<D, L>, LeftLo
                 *self = Whereabouts::Failed(failed, left);
                 JournalTurn::Failed(failed)
             },
+            Whereabouts::ReadOnly(left) => {
+                let turn = read_only_turn(&left, commits);
+                *self = Whereabouts::ReadOnly(left);
+                turn
+            },
         }
     }
 }
@@ -90,6 +110,14 @@ impl<D: Disk + Drop, L: LogSource + Drop> SharedJournal<D, L> {
     pub fn new(log: JournaledLog<D, L>) -> SharedJournal<D, L> {
         SharedJournal {
             place: Mutex::new(Whereabouts::Here(log)),
+            changed: Condvar::new(),
+        }
+    }
+
+    /// Shares what is left of a journal, to be read alone: nothing is ever appended to it.
+    pub fn read_only(left: LeftLog<D, L>) -> SharedJournal<D, L> {
+        SharedJournal {
+            place: Mutex::new(Whereabouts::ReadOnly(left)),
             changed: Condvar::new(),
         }
     }
@@ -127,7 +155,7 @@ impl<D: Disk + Drop, L: LogSource + Drop> SharedJournal<D, L> {
     }
 
     /// Waits until so many commits are on the disk, and gives the evidence; where nobody appends, it appends itself.
-    /// `Err` where the journal fails or has failed, or the log has not so many commits.
+    /// `Err` where the journal fails or has failed, keeps fewer and is read alone, or the log has not so many commits.
     pub fn reach<R: Wait>(
         &self,
         rt: &R,
@@ -158,6 +186,7 @@ impl<D: Disk + Drop, L: LogSource + Drop> SharedJournal<D, L> {
             Whereabouts::Here(log) => Some(log.into_left()),
             Whereabouts::Away(_) => None,
             Whereabouts::Failed(_, left) => left,
+            Whereabouts::ReadOnly(left) => Some(left),
         }
     }
 }

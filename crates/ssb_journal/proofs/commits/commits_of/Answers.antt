@@ -1,4 +1,4 @@
-use Rattle.std.proofs.Common.{ℕ, List, ap, inl, inr, length, length-drop, ⊎_elim, subst, arith}
+use Rattle.std.proofs.Common.{ℕ, List, ap, length, length-drop, subst, arith}
 use Rattle.ssb_journal.proofs.TogetherLaws.{spell_on}
 use Rattle.ssb_journal.specs.Kept.{SpellsBatch, SpellsNoBatch}
 use Rattle.ssb_journal.proofs.KeptLaws.{commits_more, first_no_batch}
@@ -7,10 +7,11 @@ use Rattle.ssb_journal.proofs.commits.commits_of.Goals as goal
 pub loop-place-preserved : goal.loop-place-preserved
 loop-place-preserved c =
     let l = c.loop-place in
-    let one : SpellsBatch c.index-texts-place.result.items c.in-Ok.batch.items = subst (λ (t : List ℕ). SpellsBatch t c.in-Ok.batch.items) c.deref.ensures.value c.in-Ok.ensures.batch in
+    let batch = c.in-Some-2.batch in
+    let one : SpellsBatch c.index-texts-place.result.items batch.items = subst (λ (t : List ℕ). SpellsBatch t batch.items) c.deref.ensures.value (rw c.in-Some-2.is at c.in_ok-batch.ensures) in
     record {
       within = omega (arith, c.loop-place-test.true);
-      spelled = commits_more c.args.texts.now l.place c.index-texts-place.result c.loop-place-test.true c.index-texts-place.is l.commits.items c.in-Ok.batch.items c.push_all-in-loop-place.new.commits.items l.invariant.spelled one c.in_ok-push_all-2.ensures;
+      spelled = commits_more c.args.texts.now l.place c.index-texts-place.result c.loop-place-test.true c.index-texts-place.is l.commits.items batch.items c.push_all-in-loop-place.new.commits.items l.invariant.spelled one c.in_ok-push_all-2.ensures;
     }
 
 pub loop-place-preserved-then-count-gt0 : goal.loop-place-preserved-then-count-gt0
@@ -21,9 +22,8 @@ loop-place-preserved-then-count-gt0 c =
           c.push_all.new.commits.items c.split_at.ensures.back l.invariant.spelled (rw c.in-Some.is at c.in_ok-count.ensures.commits) c.in_ok-push_all.ensures;
     }
 
-pub returns-in-Err-clause-fault : goal.returns-in-Err-clause-fault
-returns-in-Err-clause-fault c =
+pub returns-in-None-clause-next : goal.returns-in-None-clause-next
+returns-in-None-clause-next c few =
     let l = c.loop-place in
-    ⊎_elim (λ is. inl is)
-    (λ told. inr (first_no_batch c.args.texts.now l.place c.index-texts-place.result c.loop-place-test.true c.index-texts-place.is l.commits.items _ l.invariant.spelled told.0 (subst SpellsNoBatch c.deref.ensures.value told.1)))
-    c.in-Err.ensures.fault
+    first_no_batch c.args.texts.now l.place c.index-texts-place.result c.loop-place-test.true c.index-texts-place.is l.commits.items l.invariant.spelled
+    (subst SpellsNoBatch c.deref.ensures.value (rw c.in-None.is at c.in_ok-batch.ensures))
