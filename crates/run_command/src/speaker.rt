@@ -1,6 +1,6 @@
 //! A script, spoken to a client: its requests are served from the first to the last.
 
-ghost use Rattle.std.specs.Prelude.{◌≡◌, false, IfOk, IfSome};
+ghost use Rattle.std.specs.Prelude.{◌≡◌, false, true, IfOk, IfSome};
 ghost use Rattle.std.specs.Option.{is_some};
 ghost use Rattle.stream_sessions.specs.OneRequest.{AreAlike};
 ghost use Rattle.run_command.specs.Sessions.{IsSessionOf};
@@ -74,8 +74,14 @@ impl Speaker for ScriptSpeaker {
     // Nobody is told while the threads are at work: the report is handed out when all of them have ended.
     ghost told = { λ _. 0 };
 
+    ghost took = { λ _. true };
+
     fn commits_told(_left: &Option<ScriptSession>) -> u64 {
         0
+    }
+
+    fn took_refreshes(_left: &Option<ScriptSession>) -> bool {
+        true
     }
 }
 

@@ -1,6 +1,6 @@
 -- Requests that were read before their turn, at the front of what a reader has at hand.
-use Rattle.std.proofs.Common.{◌≡◌, ◌≤◌, ℕ, List, [], ◌∷◌, ◌++◌, take, drop}
-use Rattle.std.proofs.Common.{Result, Ok, Err, sym, ap, subst, ◌∙◌, if◌then◌else◌}
+use Rattle.std.proofs.Common.{◌≡◌, ℕ, List, [], ◌∷◌, ◌++◌, take, drop}
+use Rattle.std.proofs.Common.{Result, Ok, Err, sym, ap, subst, ◌∙◌}
 use Rattle.std.specs.Prelude.{OnOk}
 use Rattle.std.proofs.lemmas.List.{take-append-drop}
 use Rattle.ssb_script.specs.Ahead.{AskFirst, IsWhole}

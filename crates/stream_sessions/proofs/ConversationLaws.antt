@@ -3,7 +3,6 @@ use Rattle.std.proofs.Common.{◌≡◌, ℕ, ◌≤◌, ◌<◌, Bool, true, fa
 use Rattle.std.proofs.Common.{refl, sym, ap, ◌∙◌, subst, inl, inr}
 use Rattle.std.specs.Prelude.{MatchResult}
 use Rattle.history.specs.Tokens.{TokenRecord}
-use Rattle.ssb_formats.specs.declared.reply_format.ReplyFormat.{ReplyFormat}
 use Rattle.ssb_script.specs.Cutting.{IsRequest}
 use Rattle.ssb_text.specs.Written.{AppendsPart}
 use Rattle.ssb_text.proofs.WrittenLaws.{appends_none}
@@ -13,6 +12,7 @@ use Rattle.stream_sessions.specs.Events.{Event, Looks, Takes, Passes}
 use Rattle.stream_sessions.specs.FaultLine.{too_long_line}
 use Rattle.stream_sessions.specs.Speaking.{SpeakingRecord, speaking}
 use Rattle.stream_sessions.specs.Steps.{AddsAnswer, is_last}
+use Rattle.stream_sessions.specs.declared.manner.Manner.{Manner}
 use Rattle.stream_sessions.specs.declared.outcome.SessionError.{SessionError}
 use Rattle.stream_sessions.specs.declared.outcome.SessionFault.{SessionFault}
 use Rattle.stream_sessions.specs.declared.outcome.SessionFault.TheVariants as fault
@@ -193,19 +193,19 @@ until_end why number first now start before after held kept other none goes c =
 
 -- a session that was served to its end holds nothing
 pub ended_ok : {T : Type 0} (result : Result T SessionError) (number : ℕ) (first : SpeakingRecord) (now : TokenRecord)
-    (format : ReplyFormat) (start before after : List Event) (held : List ℕ)
+    (manner : Manner) (start before after : List Event) (held : List ℕ)
     → MatchResult result
-    (λ _. (number : ℕ) (first : SpeakingRecord) (format : ReplyFormat) (start : List Event)
-    → Converses true number first (speaking now format) start before held
-    → Converses true number first (speaking now format) start after [])
-    (λ error. (number : ℕ) (first : SpeakingRecord) (format : ReplyFormat) (start : List Event)
-    → Converses true number first (speaking now format) start before held
-    → ConversesUntil error.fault number first (speaking now format) start after [])
-    → Converses true number first (speaking now format) start before held
-    → MatchResult result (λ _. Converses true number first (speaking now format) start after [])
-    (λ error. ConversesUntil error.fault number first (speaking now format) start after [])
-ended_ok (Ok value) number first now format start before after held ends c = ends number first format start c
-ended_ok (Err error) number first now format start before after held ends c = ends number first format start c
+    (λ _. (number : ℕ) (first : SpeakingRecord) (manner : Manner) (start : List Event)
+    → Converses true number first (speaking now manner) start before held
+    → Converses true number first (speaking now manner) start after [])
+    (λ error. (number : ℕ) (first : SpeakingRecord) (manner : Manner) (start : List Event)
+    → Converses true number first (speaking now manner) start before held
+    → ConversesUntil error.fault number first (speaking now manner) start after [])
+    → Converses true number first (speaking now manner) start before held
+    → MatchResult result (λ _. Converses true number first (speaking now manner) start after [])
+    (λ error. ConversesUntil error.fault number first (speaking now manner) start after [])
+ended_ok (Ok value) number first now manner start before after held ends c = ends number first manner start c
+ended_ok (Err error) number first now manner start before after held ends c = ends number first manner start c
 
 pub result_in_part : {T : Type 0} (result : Result T SessionError) (number : ℕ) (first now : SpeakingRecord)
     (start after : List Event)

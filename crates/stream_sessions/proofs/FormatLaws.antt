@@ -1,5 +1,5 @@
 -- Which requests name a format.
-use Rattle.std.proofs.Common.{◌≡◌, ◌∙◌, ℕ, Bool, true, false, ◌&&◌, List, [], ◌∷◌, ◌++◌, map, Option, Some, None}
+use Rattle.std.proofs.Common.{◌≡◌, ◌∙◌, ℕ, Bool, true, false, ◌&&◌, List, [], ◌∷◌, map, Option, Some, None}
 use Rattle.std.proofs.Common.{Result, Ok, Err, codes, nat_eq, refl, sym, ap, if◌then◌else◌}
 use Rattle.std.specs.Cmp.Lexicographic.{pointwise, same_text}
 use Rattle.std.proofs.lemmas.Option.{none-some}
@@ -10,7 +10,7 @@ use Rattle.ssb_script.specs.Lines.{Bad, RecordFault, ScriptLine, line_after, lin
 use Rattle.ssb_script.specs.Requests.{RequestRecord}
 use Rattle.ssb_script.specs.Scripts.{SpellsScript}
 use Rattle.ssb_text.proofs.OneListLaws.{one_records, text_begins}
-use Rattle.ssb_text.specs.Records.{GivesNext, HasGiven, HasRecords, has_columns}
+use Rattle.ssb_text.specs.Records.{GivesNext, HasGiven, has_columns}
 use Rattle.ssb_text.specs.Spelling.{field}
 use Rattle.stream_sessions.specs.FormatRequest.{NamesFormat, NamesNone, format_of}
 

@@ -8,6 +8,7 @@ mod SessionLaws
 mod SpeakingLaws
 mod ConversationLaws
 mod EndLaws
+mod ReadingLaws
 mod ExchangeLaws
 mod WholeScriptLaws
 mod AheadLaws

@@ -13,7 +13,6 @@ use Rattle.history.specs.declared.request.PostedRequest.{PostedRequest}
 use Rattle.history.specs.Tokens.{TableRecord, TokenRecord}
 use Rattle.history.specs.Words.{IsRight, request}
 use Rattle.ssb_clients.specs.Clients.{Asks}
-use Rattle.stream_sessions.specs.Served.{IsAnswered}
 use Rattle.stream_sessions.specs.Moment.{AreOfOneMoment, AreUnserved, OneMoment}
 use Rattle.stream_sessions.proofs.RequestLaws.{asked_is}
 

@@ -1,5 +1,5 @@
 -- A legal script that is answered request by request has the replies of the whole script.
-use Rattle.std.proofs.Common.{◌≡◌, ℕ, List, [], ◌∷◌, ◌++◌, inl, inr, subst, refl, sym, ap, ◌∙◌, append-nil}
+use Rattle.std.proofs.Common.{◌≡◌, ℕ, true, false, List, [], ◌∷◌, ◌++◌, inl, inr, subst, refl, sym, ap, ◌∙◌, append-nil}
 use Rattle.std.specs.List.{AllZip, concat, flat_map}
 use Rattle.std.proofs.lemmas.Grind.{flat_map-append}
 use Rattle.history.specs.Tokens.{TokenRecord}
@@ -15,16 +15,18 @@ use Rattle.ssb_script.proofs.OneReadingLaws.{asks_nothing, one_reading}
 use Rattle.stream_sessions.specs.Served.{AreServed}
 use Rattle.stream_sessions.specs.Answers.{AreAnswered, HasFault, IsAnswered}
 use Rattle.stream_sessions.specs.Session.{all_of}
-use Rattle.stream_sessions.specs.Speaking.{SpeakingRecord}
+use Rattle.stream_sessions.specs.Speaking.{IsTaken, SpeakingRecord, has_refresh}
 use Rattle.stream_sessions.specs.WholeScripts.{HasRepliesOfScript}
 use Rattle.stream_sessions.proofs.FormatLaws.{spelled_names_none}
+use Rattle.stream_sessions.proofs.ReadingLaws.{has_none, parts_have_none}
 
--- a client was served all this, these are the replies in its format, and the format stays
+-- a client was served all this, these are the replies in its format, and its manner stays
 record IsToldAll (number : ℕ) (old new : SpeakingRecord) (wanted : List RequestRecord) (text : List ℕ) : Type 0 where
   replies : List Reply
   served : AreServed number old.token wanted replies new.token
   told : text ≡ replies_shown old.format replies
   stays : new.format ≡ old.format
+  keeps : new.takes_refreshes ≡ old.takes_refreshes
 
 -- what is served in turn is served as one
 served_both : (number : ℕ) (old mid new : TokenRecord) (first more : List RequestRecord) (one two : List Reply)
@@ -47,6 +49,7 @@ told_both number old mid new first more text texts a b = record {
       ∙ (ap (λ (format : ReplyFormat). replies_shown old.format a.replies ++ replies_shown format b.replies) a.stays
       ∙ sym (flat_map-append (reply_shown old.format) a.replies b.replies)));
   stays = b.stays ∙ a.stays;
+  keeps = b.keeps ∙ a.keeps;
 }
 
 -- a request that spells a script is not refused, names no format, and is told what that asks
@@ -57,40 +60,64 @@ not_refused request asked fault spells (inl first) =
 not_refused request asked fault spells (inr open_end) =
     (spelled_has_no_fault request most_records asked spells).1 fault open_end
 
+-- a session that takes all takes the first, and then what follows, where it still is as it was
+taken_first : (old : SpeakingRecord) (first more : List RequestRecord) → IsTaken old (first ++ more)
+    → IsTaken old first
+taken_first old first more (inl all) = inl all
+taken_first old first more (inr none) = inr (parts_have_none first more none).0
+
+taken_more : (old mid : SpeakingRecord) (first more : List RequestRecord) → mid.takes_refreshes ≡ old.takes_refreshes
+    → IsTaken old (first ++ more) → IsTaken mid more
+taken_more old mid first more same (inl all) = inl (same ∙ all)
+taken_more old mid first more same (inr none) = inr (parts_have_none first more none).1
+
+-- a request that is taken is not refused for a refresh
+not_both : true ≡ false → ⊥
+not_both e = cc
+
 request_told : (number : ℕ) (request : List ℕ) (old new : SpeakingRecord) (text : List ℕ)
     (asked : List RequestRecord)
-    → SpellsScript most_records request asked → IsAnswered number request old new text
+    → SpellsScript most_records request asked → IsTaken old asked → IsAnswered number request old new text
     → IsToldAll number old new asked text
-request_told number request old new text asked spells (inl reported) = record {
+request_told number request old new text asked spells taken (inl reported) = record {
   replies = reported.replies;
   served = subst (λ all. AreServed number old.token all reported.replies new.token)
       (one_reading request most_records most_records reported.asked asked reported.spelled spells) reported.served;
   told = reported.report;
   stays = reported.stays;
+  keeps = reported.keeps;
 }
-request_told number request old new text asked spells (inr (inl refused)) =
+request_told number request old new text asked spells taken (inr (inl refused)) =
     absurd (not_refused request asked refused.fault spells refused.has)
-request_told number request old new text asked spells (inr (inr given)) =
+request_told number request old new text asked spells taken (inr (inr (inl given))) =
     absurd (spelled_names_none most_records request asked spells new.format given.names)
+request_told number request old new text asked spells taken (inr (inr (inr other))) =
+    let same : other.asked ≡ asked
+    = one_reading request most_records most_records other.asked asked other.spelled spells in
+    absurd (not_both (sym other.has ∙ ap has_refresh same ∙ has_none old asked other.takes_none taken))
 
 requests_told : (number : ℕ) (old new : SpeakingRecord) (requests texts : List (List ℕ))
     (each : List (List RequestRecord))
-    → AllZip (SpellsScript most_records) requests each → AreAnswered number old requests texts new
+    → AllZip (SpellsScript most_records) requests each → IsTaken old (flat_map (λ r. r) each)
+    → AreAnswered number old requests texts new
     → IsToldAll number old new (flat_map (λ r. r) each) (concat texts)
-requests_told number old new [] [] [] spells are = record {
+requests_told number old new [] [] [] spells taken are = record {
   replies = [];
   served = ap (λ (client : SpeakingRecord). client.token) are;
   told = refl;
   stays = ap (λ (client : SpeakingRecord). client.format) are;
+  keeps = ap (λ (client : SpeakingRecord). client.takes_refreshes) are;
 }
-requests_told number old new [] (text ∷ texts) each spells are = absurd are
-requests_told number old new [] [] (asked ∷ each) spells are = absurd spells
-requests_told number old new (request ∷ requests) texts [] spells are = absurd spells
-requests_told number old new (request ∷ requests) [] (asked ∷ each) spells are = absurd are
-requests_told number old new (request ∷ requests) (text ∷ texts) (asked ∷ each) spells are =
-    told_both number old are.0 new asked (flat_map (λ r. r) each) text (concat texts)
-    (request_told number request old are.0 text asked spells.0 are.1)
-    (requests_told number are.0 new requests texts each spells.1 are.2)
+requests_told number old new [] (text ∷ texts) each spells taken are = absurd are
+requests_told number old new [] [] (asked ∷ each) spells taken are = absurd spells
+requests_told number old new (request ∷ requests) texts [] spells taken are = absurd spells
+requests_told number old new (request ∷ requests) [] (asked ∷ each) spells taken are = absurd are
+requests_told number old new (request ∷ requests) (text ∷ texts) (asked ∷ each) spells taken are =
+    let more = flat_map (λ r. r) each in
+    let first = request_told number request old are.0 text asked spells.0 (taken_first old asked more taken) are.1 in
+    told_both number old are.0 new asked more text (concat texts) first
+    (requests_told number are.0 new requests texts each spells.1 (taken_more old are.0 asked more first.keeps taken)
+    are.2)
 
 -- all that is answered spells what the requests ask, and then what is left does
 spells_push : (requests : List (List ℕ)) (each : List (List RequestRecord)) (rest : List ℕ) (last : List RequestRecord)
@@ -125,11 +152,12 @@ all_spell requests each (b ∷ rest) last all spells = record {
 }
 
 pub replies_of_script : (text : List ℕ) → HasRepliesOfScript text
-replies_of_script text number old new requests texts rest wanted cut none marks spells are =
+replies_of_script text number old new requests texts rest wanted cut none marks spells taken are =
     let parts = script_of_requests_of most_records text requests rest wanted cut none marks spells in
     let all = all_spell requests parts.each rest parts.last parts.spelled parts.spelled_last in
-    let told = requests_told number old new (all_of requests rest) texts all.parts all.each are in
-    let same : flat_map (λ r. r) all.parts ≡ wanted = all.joined ∙ sym parts.joined in (
+    let same : flat_map (λ r. r) all.parts ≡ wanted = all.joined ∙ sym parts.joined in
+    let told = requests_told number old new (all_of requests rest) texts all.parts all.each
+    (subst (IsTaken old) (sym same) taken) are in (
       told.replies,
       subst (λ all. AreServed number old.token all told.replies new.token) same told.served,
       told.told,

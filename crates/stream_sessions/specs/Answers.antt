@@ -6,10 +6,10 @@ use Rattle.ssb_script.specs.Requests.{RequestRecord}
 use Rattle.ssb_script.specs.Scripts.{SpellsScript, IsFirstFault, EndsOpen, most_records}
 use Rattle.ssb_script.specs.declared.error.ScriptError.{ScriptError}
 use Rattle.ssb_script.specs.declared.error.ScriptError.TheVariants as script
-use Rattle.stream_sessions.specs.FaultLine.{fault_line}
+use Rattle.stream_sessions.specs.FaultLine.{fault_line, read_only_line}
 use Rattle.stream_sessions.specs.FormatRequest.{NamesFormat, NamesNone}
 use Rattle.stream_sessions.specs.Served.{AreServed}
-use Rattle.stream_sessions.specs.Speaking.{SpeakingRecord}
+use Rattle.stream_sessions.specs.Speaking.{IsTaken, SpeakingRecord, has_refresh}
 
 -- whether a fault is one of a text, and not of what kept it from being read
 abbrev pub is_of_text : ScriptError → Bool
@@ -21,15 +21,17 @@ is_of_text _ = true
 abbrev pub HasFault : List ℕ → ScriptError → Type 0
 HasFault text fault = IsFirstFault most_records text fault ⊎ EndsOpen most_records text fault
 
--- the client was served all that a request asks, as the loop of scripts serves it, and these are the replies in its
--- format
+-- the session takes a request, the client was served all that it asks, as the loop of scripts serves it, and these are
+-- the replies in its format
 pub record IsReported (number : ℕ) (request : List ℕ) (old new : SpeakingRecord) (text : List ℕ) : Type 0 where
   pub asked : List RequestRecord
   pub spelled : SpellsScript most_records request asked
+  pub taken : IsTaken old asked
   pub replies : List Reply
   pub served : AreServed number old.token asked replies new.token
   pub report : text ≡ replies_shown old.format replies
   pub stays : new.format ≡ old.format
+  pub keeps : new.takes_refreshes ≡ old.takes_refreshes
 
 -- a request has a fault, names no format, and is told that in the client's format; nothing was done
 pub record IsRefused (request : List ℕ) (old new : SpeakingRecord) (text : List ℕ) : Type 0 where
@@ -44,11 +46,23 @@ pub record IsGivenFormat (request : List ℕ) (old new : SpeakingRecord) (text :
   pub names : NamesFormat request new.format
   pub told : text ≡ format_shown new.format
   pub unchanged : new.token ≡ old.token
+  pub keeps : new.takes_refreshes ≡ old.takes_refreshes
+
+-- a request has no fault, but a refresh, and the session takes none: the client is told that, whatever else the
+-- request asks; nothing was done
+pub record IsNotTaken (request : List ℕ) (old new : SpeakingRecord) (text : List ℕ) : Type 0 where
+  pub asked : List RequestRecord
+  pub spelled : SpellsScript most_records request asked
+  pub has : has_refresh asked ≡ true
+  pub takes_none : old.takes_refreshes ≡ false
+  pub line : text ≡ read_only_line old.format
+  pub unchanged : new ≡ old
 
 -- a client's request was answered by this text
 abbrev pub IsAnswered : ℕ → List ℕ → SpeakingRecord → SpeakingRecord → List ℕ → Type 0
 IsAnswered number request old new text =
-    IsReported number request old new text ⊎ (IsRefused request old new text ⊎ IsGivenFormat request old new text)
+    IsReported number request old new text
+    ⊎ (IsRefused request old new text ⊎ (IsGivenFormat request old new text ⊎ IsNotTaken request old new text))
 
 -- requests were answered by these texts, each of which finds the client as the one before it left it
 abbrev pub AreAnswered : ℕ → SpeakingRecord → List (List ℕ) → List (List ℕ) → SpeakingRecord → Type 0
@@ -59,14 +73,17 @@ AreAnswered number old (request ∷ requests) (text ∷ texts) new =
 AreAnswered number old [] (text ∷ texts) new = ⊥
 AreAnswered number old (request ∷ requests) [] new = ⊥
 
--- a request was not answered for want of memory: the client was served none of it, or the first of what it asks
+-- a request was not answered for want of memory: the client was served none of it, or the first of what it asks, where
+-- the session takes it
 pub record IsServedInPart (number : ℕ) (request : List ℕ) (old new : SpeakingRecord) : Type 0 where
   pub asked : List RequestRecord
   pub left : List RequestRecord
   pub spelled : SpellsScript most_records request (asked ++ left)
+  pub taken : IsTaken old (asked ++ left)
   pub replies : List Reply
   pub served : AreServed number old.token asked replies new.token
   pub stays : new.format ≡ old.format
+  pub keeps : new.takes_refreshes ≡ old.takes_refreshes
 
 abbrev pub BreaksOff : ℕ → List ℕ → SpeakingRecord → SpeakingRecord → Type 0
 BreaksOff number request old new = (new ≡ old) ⊎ IsServedInPart number request old new

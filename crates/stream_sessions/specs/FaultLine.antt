@@ -42,6 +42,10 @@ fault_text script.OutOfMemory = codes "out of memory"
 abbrev pub fault_line : ReplyFormat → ScriptError → List ℕ
 fault_line format fault = fault_shown format (fault_text fault)
 
+-- what is told of a request that has a refresh, in a session that takes none
+abbrev pub read_only_line : ReplyFormat → List ℕ
+read_only_line format = fault_shown format (codes "68 ReadOnly")
+
 -- what is told of a request that is too long
 abbrev pub too_long_line : ReplyFormat → List ℕ
 too_long_line format = fault_shown format (codes "76 RequestTooLong")

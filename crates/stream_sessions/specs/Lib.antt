@@ -14,3 +14,4 @@ pub mod Steps
 pub mod Conversation
 pub mod Exchange
 pub mod WholeScripts
+pub mod ReadingOnly

@@ -1,5 +1,5 @@
 -- One request of a script, served.
-use Rattle.std.specs.Prelude.{◌≡◌, ℕ, List, ◌++◌, Option, None}
+use Rattle.std.specs.Prelude.{◌≡◌, ℕ, List, Option, None}
 use Rattle.std.specs.Io.KnownBytes.{Appends, Keeps}
 use Rattle.history.specs.Tokens.{TokenRecord}
 use Rattle.ssb_script.specs.Requests.{RequestRecord}

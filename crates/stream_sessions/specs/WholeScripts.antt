@@ -11,16 +11,17 @@ use Rattle.ssb_script.specs.Scripts.{SpellsScript, most_records}
 use Rattle.stream_sessions.specs.Served.{AreServed}
 use Rattle.stream_sessions.specs.Answers.{AreAnswered}
 use Rattle.stream_sessions.specs.Session.{all_of}
-use Rattle.stream_sessions.specs.Speaking.{SpeakingRecord}
+use Rattle.stream_sessions.specs.Speaking.{IsTaken, SpeakingRecord}
 
--- a legal script, where no CR stands alone and no request begins with a byte order mark, has the replies of the whole
--- script though it is answered request by request: the client was served all that the script asks, and the answers are
--- the replies to that, in the format that the client had, which stays
+-- a legal script, where no CR stands alone and no request begins with a byte order mark, and which the session takes,
+-- has the replies of the whole script though it is answered request by request: the client was served all that the
+-- script asks, and the answers are the replies to that, in the format that the client had, which stays
 abbrev pub HasRepliesOfScript : List ℕ → Type 0
 HasRepliesOfScript text =
     (number : ℕ) (old new : SpeakingRecord) (requests texts : List (List ℕ)) (rest : List ℕ)
     (wanted : List RequestRecord)
     → IsCutInto text requests rest → HasNoLoneReturn text → AllByRecursion HasNoMark (request_texts requests rest)
-    → SpellsScript most_records text wanted → AreAnswered number old (all_of requests rest) texts new
+    → SpellsScript most_records text wanted → IsTaken old wanted
+    → AreAnswered number old (all_of requests rest) texts new
     → (replies : List Reply) × AreServed number old.token wanted replies new.token
     × (concat texts ≡ replies_shown old.format replies) × (new.format ≡ old.format)

@@ -31,6 +31,9 @@ pub trait Acknowledges<E: Evidence> {
 
     /// Whether evidence was wanted and not got.
     fn has_failed(&self) -> bool;
+
+    /// Whether refreshes are taken: else there would never be evidence of their commits.
+    fn takes_refreshes(&self) -> bool;
 }
 
 /// Commits are told at once: nothing has to be before.
@@ -57,5 +60,9 @@ impl Acknowledges<Nothing> for AtOnce {
 
     fn has_failed(&self) -> bool {
         false
+    }
+
+    fn takes_refreshes(&self) -> bool {
+        true
     }
 }

@@ -1,6 +1,7 @@
 //! The answer to one request.
 
-ghost use Rattle.std.specs.Prelude.{◌≡◌, false, List, ℕ, [], ◌∷◌, MatchResult};
+ghost use Rattle.std.specs.Prelude.{◌≡◌, true, false, List, ℕ, [], ◌∷◌, MatchResult};
+ghost use Rattle.std.specs.List.{list_any};
 ghost use Rattle.std.specs.Option.{is_some};
 ghost use Rattle.history.specs.Tokens.{IsSound, TokenRecord};
 ghost use Rattle.history.specs.Members.{number_of};
@@ -9,17 +10,18 @@ ghost use Rattle.stream_sessions.specs.Steps.{AddsAnswer, AddsNothing};
 ghost use Rattle.stream_sessions.specs.Answers.{HasFault, is_of_text};
 ghost use Rattle.stream_sessions.specs.FormatRequest.{NamesFormat, NamesNone};
 ghost use Rattle.stream_sessions.specs.Replying.{LacksReply, RepliesTo};
-ghost use Rattle.stream_sessions.specs.Speaking.{speaking};
-ghost use Rattle.ssb_script.specs.Requests.{request_of, requests_of};
+ghost use Rattle.stream_sessions.specs.Speaking.{IsTaken, has_refresh, is_refresh, speaking};
+ghost use Rattle.ssb_script.specs.Requests.{RequestRecord, request_of, requests_of};
 ghost use Rattle.ssb_script.specs.Scripts.{IsScriptFault, SpellsScript, most_records};
 
 use crate::fault_line::write_fault_line;
 use crate::format_request::named_format;
+use crate::manner::Manner;
 use crate::reply::reply_to;
 use crate::service::Service;
 use row_store::Follower;
 use ssb_clients::Client;
-use ssb_formats::{ReplyFormat, write_format};
+use ssb_formats::{ReplyFormat, write_fault_as, write_format};
 use ssb_script::{MOST_RECORDS, Request, Script, ScriptError, read_script};
 use std::alloc::{AllocError, Global};
 use std::sync::Wait;
@@ -52,20 +54,21 @@ fn add_reply<W: Follower + Drop, R: Wait, K>(
     }
 }
 
-// Serves what a request asks, and adds the replies; none where memory runs out.
+// Serves what a request asks, which the session takes, and adds the replies; none where memory runs out.
 fn report<W: Follower + Drop, R: Wait, K>(
     service: &Service<'_, W, R, K>,
     client: &mut Client<W>,
-    format: ReplyFormat,
+    manner: Manner,
     script: Script,
     replies: &mut Vec<u8>,
 ) -> Result<(), AllocError>
     requires table { client.old.table ≡ service.now.server.now }
     requires quiet { is_some client.old.asked ≡ false }
+    requires taken { IsTaken (speaking client.old manner) (requests_of script) }
     ensures answered { (request : List ℕ) → SpellsScript most_records request (requests_of script) → MatchResult result
-        (λ _. AddsAnswer (number_of client.old.who) request (speaking client.old format) (speaking client.new format)
+        (λ _. AddsAnswer (number_of client.old.who) request (speaking client.old manner) (speaking client.new manner)
         replies.old.items replies.new.items)
-        (λ _. AddsNothing (number_of client.old.who) request (speaking client.old format) (speaking client.new format)
+        (λ _. AddsNothing (number_of client.old.who) request (speaking client.old manner) (speaking client.new manner)
         replies.old.items replies.new.items) }
     ensures same { AreAlike client.old client.new }
     ensures sound { IsSound client.old → IsSound client.new }
@@ -73,7 +76,7 @@ fn report<W: Follower + Drop, R: Wait, K>(
     let before = replies.len();
     let mut requests = script.requests.into_iter();
     while let Some(request) = requests.next() {
-        match add_reply(service, client, format, request, replies) {
+        match add_reply(service, client, manner.format, request, replies) {
             Ok(()) => {}
             Err(_) => {
                 replies.truncate(before);
@@ -82,6 +85,68 @@ fn report<W: Follower + Drop, R: Wait, K>(
         }
     }
     Ok(())
+}
+
+// Whether one of these requests is a refresh.
+fn any_is_refresh(requests: &[Request]) -> bool
+    ensures { result ≡ list_any (λ request. is_refresh (request_of request)) requests.now }
+{
+    requests
+        .iter()
+        .any(|request| matches!(request, Request::Refresh(_)))
+}
+
+// Whether there is a refresh among all that a script asks.
+fn has_refresh(script: &Script) -> bool
+    ensures { result ≡ has_refresh (requests_of script.now) }
+{
+    any_is_refresh(script.requests.as_slice())
+}
+
+// Adds what is told of a request that has a refresh where the session takes none; nothing where memory runs out.
+fn refuse_refresh(alloc: Global, manner: Manner, replies: &mut Vec<u8>) -> Result<(), AllocError>
+    ensures { (number : ℕ) (request : List ℕ) (asked : List RequestRecord) (client : TokenRecord)
+        → SpellsScript most_records request asked → has_refresh asked ≡ true → manner.takes_refreshes ≡ false
+        → MatchResult result
+        (λ _. AddsAnswer number request (speaking client manner) (speaking client manner) replies.old.items
+        replies.new.items)
+        (λ _. AddsNothing number request (speaking client manner) (speaking client manner) replies.old.items
+        replies.new.items) }
+{
+    let before = replies.len();
+    match write_fault_as(alloc, replies, manner.format, "68 ReadOnly") {
+        Ok(()) => Ok(()),
+        Err(_) => {
+            replies.truncate(before);
+            Err(AllocError)
+        }
+    }
+}
+
+// Serves what a request asks, and adds the replies; where it has a refresh that the session does not take, does
+// nothing, and adds that. Where memory runs out it adds nothing.
+fn report_taken<W: Follower + Drop, R: Wait, K>(
+    service: &Service<'_, W, R, K>,
+    client: &mut Client<W>,
+    manner: Manner,
+    script: Script,
+    replies: &mut Vec<u8>,
+) -> Result<(), AllocError>
+    requires table { client.old.table ≡ service.now.server.now }
+    requires quiet { is_some client.old.asked ≡ false }
+    ensures answered { (request : List ℕ) → SpellsScript most_records request (requests_of script) → MatchResult result
+        (λ _. AddsAnswer (number_of client.old.who) request (speaking client.old manner) (speaking client.new manner)
+        replies.old.items replies.new.items)
+        (λ _. AddsNothing (number_of client.old.who) request (speaking client.old manner) (speaking client.new manner)
+        replies.old.items replies.new.items) }
+    ensures same { AreAlike client.old client.new }
+    ensures sound { IsSound client.old → IsSound client.new }
+{
+    if manner.takes_refreshes || !has_refresh(&script) {
+        report(service, client, manner, script, replies)
+    } else {
+        refuse_refresh(service.alloc, manner, replies)
+    }
 }
 
 // Whether a fault is one of the request itself. A request is read from memory, so that want of it alone can keep it from
@@ -98,19 +163,19 @@ fn is_of_text(fault: ScriptError) -> bool
 // Adds what is told of a request's fault; nothing where memory runs out.
 fn refuse(
     alloc: Global,
-    format: ReplyFormat,
+    manner: Manner,
     fault: ScriptError,
     replies: &mut Vec<u8>,
 ) -> Result<(), AllocError>
     ensures { (number : ℕ) (request : List ℕ) (client : TokenRecord) → HasFault request fault → NamesNone request
         → MatchResult result
-        (λ _. AddsAnswer number request (speaking client format) (speaking client format) replies.old.items
+        (λ _. AddsAnswer number request (speaking client manner) (speaking client manner) replies.old.items
         replies.new.items)
-        (λ _. AddsNothing number request (speaking client format) (speaking client format) replies.old.items
+        (λ _. AddsNothing number request (speaking client manner) (speaking client manner) replies.old.items
         replies.new.items) }
 {
     let before = replies.len();
-    match write_fault_line(alloc, replies, format, fault) {
+    match write_fault_line(alloc, replies, manner.format, fault) {
         Ok(()) => Ok(()),
         Err(_) => {
             replies.truncate(before);
@@ -122,20 +187,20 @@ fn refuse(
 // Makes a format that a request names the client's, and adds that it is; neither where memory runs out.
 fn give_format(
     alloc: Global,
-    format: &mut ReplyFormat,
+    manner: &mut Manner,
     named: ReplyFormat,
     replies: &mut Vec<u8>,
 ) -> Result<(), AllocError>
     ensures { (number : ℕ) (request : List ℕ) (client : TokenRecord) → NamesFormat request named → MatchResult result
-        (λ _. AddsAnswer number request (speaking client format.old) (speaking client format.new) replies.old.items
+        (λ _. AddsAnswer number request (speaking client manner.old) (speaking client manner.new) replies.old.items
         replies.new.items)
-        (λ _. AddsNothing number request (speaking client format.old) (speaking client format.new) replies.old.items
+        (λ _. AddsNothing number request (speaking client manner.old) (speaking client manner.new) replies.old.items
         replies.new.items) }
 {
     let before = replies.len();
     match write_format(alloc, replies, named) {
         Ok(()) => {
-            *format = named;
+            manner.format = named;
             Ok(())
         }
         Err(_) => {
@@ -149,15 +214,15 @@ fn give_format(
 // it adds nothing.
 fn answer_other(
     alloc: Global,
-    format: &mut ReplyFormat,
+    manner: &mut Manner,
     request: &[u8],
     fault: ScriptError,
     replies: &mut Vec<u8>,
 ) -> Result<(), AllocError>
     ensures { (number : ℕ) (client : TokenRecord) → IsScriptFault most_records request.now fault → MatchResult result
-        (λ _. AddsAnswer number request.now (speaking client format.old) (speaking client format.new)
+        (λ _. AddsAnswer number request.now (speaking client manner.old) (speaking client manner.new)
         replies.old.items replies.new.items)
-        (λ _. AddsNothing number request.now (speaking client format.old) (speaking client format.new)
+        (λ _. AddsNothing number request.now (speaking client manner.old) (speaking client manner.new)
         replies.old.items replies.new.items) }
 {
     if !is_of_text(fault) {
@@ -167,52 +232,52 @@ fn answer_other(
         return Err(AllocError);
     };
     match named {
-        Some(named) => give_format(alloc, format, named, replies),
-        None => refuse(alloc, *format, fault, replies),
+        Some(named) => give_format(alloc, manner, named, replies),
+        None => refuse(alloc, *manner, fault, replies),
     }
 }
 
 /// Reads a request as a script of its own, serves what it asks, and adds the replies, in the client's format. One that
 /// is no script may name a format, which is the client's then; else what is told of its fault is added, and nothing is
-/// done. For want of memory it adds nothing.
+/// done. Likewise of one that has a refresh, where the session takes none. For want of memory it adds nothing.
 pub(crate) fn answer<W: Follower + Drop, R: Wait, K>(
     service: &Service<'_, W, R, K>,
     client: &mut Client<W>,
-    format: &mut ReplyFormat,
+    manner: &mut Manner,
     request: &[u8],
     replies: &mut Vec<u8>,
 ) -> Result<(), AllocError>
     requires table { client.old.table ≡ service.now.server.now }
     requires quiet { is_some client.old.asked ≡ false }
     ensures answered { MatchResult result
-        (λ _. AddsAnswer (number_of client.old.who) request.now (speaking client.old format.old)
-        (speaking client.new format.new) replies.old.items replies.new.items)
-        (λ _. AddsNothing (number_of client.old.who) request.now (speaking client.old format.old)
-        (speaking client.new format.new) replies.old.items replies.new.items) }
+        (λ _. AddsAnswer (number_of client.old.who) request.now (speaking client.old manner.old)
+        (speaking client.new manner.new) replies.old.items replies.new.items)
+        (λ _. AddsNothing (number_of client.old.who) request.now (speaking client.old manner.old)
+        (speaking client.new manner.new) replies.old.items replies.new.items) }
     ensures same { AreAlike client.old client.new }
     ensures sound { IsSound client.old → IsSound client.new }
 {
     match read_script(service.alloc, request, MOST_RECORDS) {
-        Ok(script) => report(service, client, *format, script, replies),
-        Err(fault) => answer_other(service.alloc, format, request, fault, replies),
+        Ok(script) => report_taken(service, client, *manner, script, replies),
+        Err(fault) => answer_other(service.alloc, manner, request, fault, replies),
     }
 }
 
-/// Serves what a request asks that was read before its turn, and adds the replies. Where memory runs out it adds
-/// nothing.
+/// Serves what a request asks that was read before its turn, and adds the replies, or that the session takes no
+/// refreshes. Where memory runs out it adds nothing.
 pub(crate) fn answer_read<W: Follower + Drop, R: Wait, K>(
     service: &Service<'_, W, R, K>,
     client: &mut Client<W>,
-    format: ReplyFormat,
+    manner: Manner,
     request: Request,
     replies: &mut Vec<u8>,
 ) -> Result<(), AllocError>
     requires table { client.old.table ≡ service.now.server.now }
     requires quiet { is_some client.old.asked ≡ false }
     ensures answered { (text : List ℕ) → SpellsScript most_records text (request_of request ∷ []) → MatchResult result
-        (λ _. AddsAnswer (number_of client.old.who) text (speaking client.old format) (speaking client.new format)
+        (λ _. AddsAnswer (number_of client.old.who) text (speaking client.old manner) (speaking client.new manner)
         replies.old.items replies.new.items)
-        (λ _. AddsNothing (number_of client.old.who) text (speaking client.old format) (speaking client.new format)
+        (λ _. AddsNothing (number_of client.old.who) text (speaking client.old manner) (speaking client.new manner)
         replies.old.items replies.new.items) }
     ensures same { AreAlike client.old client.new }
     ensures sound { IsSound client.old → IsSound client.new }
@@ -221,5 +286,5 @@ pub(crate) fn answer_read<W: Follower + Drop, R: Wait, K>(
     if requests.push(request).is_err() {
         return Err(AllocError);
     }
-    report(service, client, format, Script { requests }, replies)
+    report_taken(service, client, manner, Script { requests }, replies)
 }

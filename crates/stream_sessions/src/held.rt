@@ -3,9 +3,9 @@
 ghost use Rattle.std.specs.Prelude.{◌≡◌, Bool, [], ℕ, length, MatchResult};
 ghost use Rattle.std.specs.Io.KnownBytes.{Appends};
 ghost use Rattle.ssb_text.specs.Written.{AppendsPart};
-ghost use Rattle.ssb_formats.specs.declared.reply_format.ReplyFormat.{ReplyFormat};
 ghost use Rattle.stream_sessions.specs.Conversation.{GoesOn, GoesUntil};
 ghost use Rattle.stream_sessions.specs.Speaking.{speaking};
+ghost use Rattle.stream_sessions.specs.declared.manner.Manner.{Manner};
 ghost use Rattle.stream_sessions.specs.declared.outcome.SessionFault.TheVariants.{Write as FailedWrite};
 
 use crate::acknowledges::{Acknowledges, Evidence};
@@ -31,11 +31,11 @@ fn pass_held<W: Follower + Drop, E: Evidence, I: Read + Drop, O: Write + Drop>(
     ensures at_hand { wire.new.at_hand ≡ wire.old.at_hand }
     ensures unread { wire.new.unread ≡ wire.old.unread }
     ensures goes { MatchResult result
-        (λ _. (ended : Bool) (number : ℕ) (format : ReplyFormat) → GoesOn ended ended number
-        (speaking client.now format) (speaking client.now format) wire.old.events wire.new.events replies.old.items
+        (λ _. (ended : Bool) (number : ℕ) (manner : Manner) → GoesOn ended ended number
+        (speaking client.now manner) (speaking client.now manner) wire.old.events wire.new.events replies.old.items
         replies.new.items)
-        (λ fault. (ended : Bool) (number : ℕ) (format : ReplyFormat) → GoesUntil fault ended number
-        (speaking client.now format) (speaking client.now format) wire.old.events wire.new.events replies.old.items
+        (λ fault. (ended : Bool) (number : ℕ) (manner : Manner) → GoesUntil fault ended number
+        (speaking client.now manner) (speaking client.now manner) wire.old.events wire.new.events replies.old.items
         replies.new.items) }
 {
     if replies.is_empty() {
@@ -71,11 +71,11 @@ pub(crate) fn hand_on<
     ensures at_hand { wire.new.at_hand ≡ wire.old.at_hand }
     ensures unread { wire.new.unread ≡ wire.old.unread }
     ensures goes { MatchResult result
-        (λ _. (ended : Bool) (number : ℕ) (format : ReplyFormat) → GoesOn ended ended number
-        (speaking client.now format) (speaking client.now format) wire.old.events wire.new.events replies.old.items
+        (λ _. (ended : Bool) (number : ℕ) (manner : Manner) → GoesOn ended ended number
+        (speaking client.now manner) (speaking client.now manner) wire.old.events wire.new.events replies.old.items
         replies.new.items)
-        (λ fault. (ended : Bool) (number : ℕ) (format : ReplyFormat) → GoesUntil fault ended number
-        (speaking client.now format) (speaking client.now format) wire.old.events wire.new.events replies.old.items
+        (λ fault. (ended : Bool) (number : ℕ) (manner : Manner) → GoesUntil fault ended number
+        (speaking client.now manner) (speaking client.now manner) wire.old.events wire.new.events replies.old.items
         replies.new.items) }
 {
     let acknowledger = service.acknowledger;

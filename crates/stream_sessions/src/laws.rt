@@ -3,6 +3,7 @@ ghost use Rattle.std.specs.Prelude.{ℕ, List};
 ghost use Rattle.stream_sessions.specs.Events.{Event};
 ghost use Rattle.stream_sessions.specs.Moment.{OneMoment};
 ghost use Rattle.stream_sessions.specs.Exchange.{TellsReplies};
+ghost use Rattle.stream_sessions.specs.ReadingOnly.{CommitsNothing};
 ghost use Rattle.stream_sessions.specs.WholeScripts.{HasRepliesOfScript};
 
 /// The questions of one request are answered in order, all after the same number of commits, no fewer than the client
@@ -11,9 +12,15 @@ pub fn one_moment()
     ensures { OneMoment }
 {}
 
-/// A legal script that is answered request by request, as it comes, has the replies of the whole script.
+/// A legal script that is answered request by request, as it comes, has the replies of the whole script, where the
+/// session takes refreshes or the script has none.
 pub fn replies_of_script()
     ensures { (text : List ℕ) → HasRepliesOfScript text }
+{}
+
+/// A session that takes no refreshes has committed nothing of its client when it ends, however it ends.
+pub fn commits_nothing()
+    ensures { (before after : List Event) → CommitsNothing before after }
 {}
 
 /// What was told in a conversation is the replies to the requests that were taken, one after another, whatever is known of

@@ -17,22 +17,24 @@
 //! was answered by the report of what it asks, as the loop of scripts serves it, or by the line of its fault, which
 //! changed nothing (`specs/Answers.antt`); the client went through exactly those, in order; and this text was written.
 //! A request may name a format, in which the client is told from there on (`specs/FormatRequest.antt`): so a session's
-//! state is the client and its format (`specs/Speaking.antt`). A session that breaks says how many requests were
-//! answered.
+//! state is the client and its format, and whether it takes refreshes, which stays (`specs/Speaking.antt`): one that
+//! takes none tells `fault: 68 ReadOnly` of each request that has one. A session that breaks says how many requests
+//! were answered.
 //!
 //! Requests come and replies leave by a [`Wire`] alone, whose history contracts see (`specs/Conversation.antt`): a text
 //! is passed on with [`Evidence`] in hand, made by who [`Acknowledges`], of all commits that the client has seen then, so
 //! of all that a receipt or an answer tells of; and the session looks for more, so that it may wait for its client, only
 //! where no reply is held. A server without a journal tells at once ([`AtOnce`]), and pays nothing.
 //!
-//! Two laws: what is told in such a conversation is the replies to the requests that were taken, in order, and nothing
-//! else (`specs/Exchange.antt`); a legal script without lone CRs and byte order marks has the replies of the whole script
-//! though it is answered request by request (`specs/WholeScripts.antt`).
+//! Three laws: what is told in such a conversation is the replies to the requests that were taken, in order, and
+//! nothing else (`specs/Exchange.antt`); a legal script without lone CRs and byte order marks, whose refreshes are
+//! taken, has the replies of the whole script though it is answered request by request (`specs/WholeScripts.antt`); a
+//! session that takes no refreshes commits nothing (`specs/ReadingOnly.antt`).
 //!
 //! ```text
 //! serve_requests(&service, &mut client, script, &mut report, &mut told, &mut NoMeter)?;
 //! let mut wire = Wire::new(input, output);
-//! let served = serve_session(rt, alloc, &AtOnce, &server, &mut client, &mut wire)?;
+//! let served = serve_session(&service, &mut client, &mut wire, true)?;
 //! ```
 #![tactic(auto)]
 
@@ -45,6 +47,7 @@ mod format_request;
 mod held;
 mod kept;
 pub mod laws;
+mod manner;
 mod meter;
 mod outcome;
 mod reply;
@@ -58,7 +61,7 @@ mod wire;
 
 pub use acknowledges::{Acknowledges, AtOnce, Evidence, NotAcknowledged, Nothing};
 pub use meter::{Meter, NoMeter, RequestKind};
-pub use outcome::{Ending, Served, SessionError, SessionFault};
+pub use outcome::{Ending, ReadOnly, Served, SessionError, SessionFault};
 pub use reply::Reply;
 pub use requests::{serve_request, serve_requests};
 pub use serve_error::{ServeError, ServeStop};

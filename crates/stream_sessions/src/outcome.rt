@@ -11,6 +11,11 @@ pub enum Ending {
     RequestTooLong,
 }
 
+/// A request has a refresh, and its session takes none. The text of the fault that is told is its number and its name.
+#[derive(Clone, Copy, Debug, PartialEq, Eq, Error)]
+#[error("68 ReadOnly")]
+pub struct ReadOnly;
+
 /// A session that was served to its end: all replies were handed on.
 #[derive(Clone, Copy, Debug, PartialEq, Eq)]
 pub struct Served {

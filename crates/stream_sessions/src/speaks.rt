@@ -1,6 +1,6 @@
 //! What serves a client over streams that it opens itself.
 
-ghost use Rattle.std.specs.Prelude.{◌≡◌, ℕ, false};
+ghost use Rattle.std.specs.Prelude.{◌≡◌, ℕ, Bool, false};
 ghost use Rattle.std.specs.Option.{is_some};
 ghost use Rattle.history.specs.Tokens.{TokenRecord};
 ghost use Rattle.stream_sessions.specs.OneRequest.{AreAlike};
@@ -21,9 +21,16 @@ pub trait Speaker {
     /// Of how many commits it told its client.
     ghost told: { Self.Left → ℕ };
 
+    /// Whether each of its sessions took refreshes.
+    ghost took: { Self.Left → Bool };
+
     /// Of how many commits it told its client.
     fn commits_told(left: &Self::Left) -> u64
         ensures { result ≡ told left.now };
+
+    /// Whether each of its sessions took refreshes.
+    fn took_refreshes(left: &Self::Left) -> bool
+        ensures { result ≡ took left.now };
 }
 
 /// Serves a client in the thread that is started for it: it opens the client's streams, serves one session over them or

@@ -7,12 +7,12 @@ ghost use Rattle.history.specs.Members.{number_of};
 ghost use Rattle.ssb_script.specs.Ahead.{AskFirst, AsksFirst, IsWhole};
 ghost use Rattle.ssb_text.specs.Written.{AppendsPart};
 ghost use Rattle.ssb_script.specs.Requests.{request_of};
-ghost use Rattle.ssb_formats.specs.declared.reply_format.ReplyFormat.{ReplyFormat as Named};
 ghost use Rattle.stream_sessions.specs.OneRequest.{AreAlike};
 ghost use Rattle.stream_sessions.specs.Conversation.{GoesOn, GoesOnOrUntil, GoesUntil, most_held};
 ghost use Rattle.stream_sessions.specs.FaultLine.{too_long_line};
 ghost use Rattle.stream_sessions.specs.Speaking.{speaking};
 ghost use Rattle.stream_sessions.specs.Steps.{HandsOn, TakesRequest, TakesStep, asked_ahead};
+ghost use Rattle.stream_sessions.specs.declared.manner.Manner.{Manner as AnyManner};
 ghost use Rattle.stream_sessions.specs.declared.outcome.SessionFault.TheVariants.{OutOfMemory, Write as FailedWrite};
 ghost use Rattle.stream_sessions.specs.declared.step.Step.TheVariants.{TooLong};
 
@@ -20,6 +20,7 @@ use crate::acknowledges::{Acknowledges, Evidence};
 use crate::ahead::Requests;
 use crate::answer::{answer, answer_read};
 use crate::held::hand_on;
+use crate::manner::Manner;
 use crate::outcome::SessionFault;
 use crate::service::Service;
 use crate::wire::Wire;
@@ -70,10 +71,10 @@ fn hand_on_in_time<
     ensures in_time { OnOk result (is_at_hand ≡ false → replies.new.items ≡ []) }
     ensures few { OnOk result (length replies.new.items < most_held) }
     ensures goes { MatchResult result
-        (λ _. (ended : Bool) (number : ℕ) (format : Named) → GoesOn ended ended number (speaking client.now format)
-        (speaking client.now format) wire.old.events wire.new.events replies.old.items replies.new.items)
-        (λ fault. (ended : Bool) (number : ℕ) (format : Named) → GoesUntil fault ended number
-        (speaking client.now format) (speaking client.now format) wire.old.events wire.new.events replies.old.items
+        (λ _. (ended : Bool) (number : ℕ) (manner : AnyManner) → GoesOn ended ended number (speaking client.now manner)
+        (speaking client.now manner) wire.old.events wire.new.events replies.old.items replies.new.items)
+        (λ fault. (ended : Bool) (number : ℕ) (manner : AnyManner) → GoesUntil fault ended number
+        (speaking client.now manner) (speaking client.now manner) wire.old.events wire.new.events replies.old.items
         replies.new.items) }
 {
     if replies.len() >= MOST_HELD || !is_at_hand {
@@ -113,7 +114,7 @@ fn step_ahead<
 >(
     service: &Service<'_, W, R, K>,
     client: &mut Client<W>,
-    format: ReplyFormat,
+    manner: Manner,
     wire: &mut Wire<I, O, E>,
     request: Request,
     replies: &mut Vec<u8>,
@@ -121,10 +122,10 @@ fn step_ahead<
     requires table { client.old.table ≡ service.now.server.now }
     requires quiet { is_some client.old.asked ≡ false }
     requires first { AsksFirst wire.old.at_hand (request_of request) }
-    ensures step { TakesStep result (number_of client.old.who) (speaking client.old format)
-        (speaking client.new format) wire.old wire.new replies.old.items replies.new.items }
-    ensures goes { GoesOnOrUntil result (number_of client.old.who) (speaking client.old format)
-        (speaking client.new format) wire.old wire.new replies.old.items replies.new.items }
+    ensures step { TakesStep result (number_of client.old.who) (speaking client.old manner)
+        (speaking client.new manner) wire.old wire.new replies.old.items replies.new.items }
+    ensures goes { GoesOnOrUntil result (number_of client.old.who) (speaking client.old manner)
+        (speaking client.new manner) wire.old wire.new replies.old.items replies.new.items }
     ensures taken { OnOk result (TakesRequest wire.old.at_hand wire.new.at_hand) }
     ensures same { AreAlike client.old client.new }
     ensures sound { IsSound client.old → IsSound client.new }
@@ -133,7 +134,7 @@ fn step_ahead<
     let Some(size) = request_length(wire.at_hand()) else {
         unreachable!()
     };
-    let answered = answer_read(service, client, format, request, replies);
+    let answered = answer_read(service, client, manner, request, replies);
     wire.take(size);
     match answered {
         Ok(()) => Ok(Step::Request),
@@ -152,7 +153,7 @@ fn step_at_hand<
 >(
     service: &Service<'_, W, R, K>,
     client: &mut Client<W>,
-    format: &mut ReplyFormat,
+    manner: &mut Manner,
     wire: &mut Wire<I, O, E>,
     count: usize,
     replies: &mut Vec<u8>,
@@ -160,16 +161,16 @@ fn step_at_hand<
     requires table { client.old.table ≡ service.now.server.now }
     requires quiet { is_some client.old.asked ≡ false }
     requires whole { IsWhole count wire.old.at_hand }
-    ensures step { TakesStep result (number_of client.old.who) (speaking client.old format.old)
-        (speaking client.new format.new) wire.old wire.new replies.old.items replies.new.items }
-    ensures goes { GoesOnOrUntil result (number_of client.old.who) (speaking client.old format.old)
-        (speaking client.new format.new) wire.old wire.new replies.old.items replies.new.items }
+    ensures step { TakesStep result (number_of client.old.who) (speaking client.old manner.old)
+        (speaking client.new manner.new) wire.old wire.new replies.old.items replies.new.items }
+    ensures goes { GoesOnOrUntil result (number_of client.old.who) (speaking client.old manner.old)
+        (speaking client.new manner.new) wire.old wire.new replies.old.items replies.new.items }
     ensures same { AreAlike client.old client.new }
     ensures sound { IsSound client.old → IsSound client.new }
 {
     hand_on_in_time(service, client, wire, true, replies)?;
     let (request, _) = wire.at_hand().split_at(count);
-    let answered = answer(service, client, format, request, replies);
+    let answered = answer(service, client, manner, request, replies);
     wire.take(count);
     match answered {
         Ok(()) => Ok(Step::Request),
@@ -188,17 +189,17 @@ fn step_awaited<
 >(
     service: &Service<'_, W, R, K>,
     client: &mut Client<W>,
-    format: &mut ReplyFormat,
+    manner: &mut Manner,
     wire: &mut Wire<I, O, E>,
     request: &mut Vec<u8>,
     replies: &mut Vec<u8>,
 ) -> Result<Step, SessionFault>
     requires table { client.old.table ≡ service.now.server.now }
     requires quiet { is_some client.old.asked ≡ false }
-    ensures step { TakesStep result (number_of client.old.who) (speaking client.old format.old)
-        (speaking client.new format.new) wire.old wire.new replies.old.items replies.new.items }
-    ensures goes { GoesOnOrUntil result (number_of client.old.who) (speaking client.old format.old)
-        (speaking client.new format.new) wire.old wire.new replies.old.items replies.new.items }
+    ensures step { TakesStep result (number_of client.old.who) (speaking client.old manner.old)
+        (speaking client.new manner.new) wire.old wire.new replies.old.items replies.new.items }
+    ensures goes { GoesOnOrUntil result (number_of client.old.who) (speaking client.old manner.old)
+        (speaking client.new manner.new) wire.old wire.new replies.old.items replies.new.items }
     ensures same { AreAlike client.old client.new }
     ensures sound { IsSound client.old → IsSound client.new }
 {
@@ -207,11 +208,11 @@ fn step_awaited<
         Ok(NextRequest::Request) => Step::Request,
         Ok(NextRequest::Rest) => Step::Rest,
         Ok(NextRequest::Nothing) => return Ok(Step::Nothing),
-        Err(RequestError::TooLong) => return tell_too_long(service.alloc, *format, replies),
+        Err(RequestError::TooLong) => return tell_too_long(service.alloc, manner.format, replies),
         Err(RequestError::Read) => return Err(SessionFault::Read),
         Err(RequestError::OutOfMemory) => return Err(SessionFault::OutOfMemory),
     };
-    let answered = answer(service, client, format, request.as_slice(), replies);
+    let answered = answer(service, client, manner, request.as_slice(), replies);
     match answered {
         Ok(()) => Ok(step),
         Err(_) => Err(SessionFault::OutOfMemory),
@@ -229,23 +230,23 @@ fn step_alone<
 >(
     service: &Service<'_, W, R, K>,
     client: &mut Client<W>,
-    format: &mut ReplyFormat,
+    manner: &mut Manner,
     wire: &mut Wire<I, O, E>,
     request: &mut Vec<u8>,
     replies: &mut Vec<u8>,
 ) -> Result<Step, SessionFault>
     requires table { client.old.table ≡ service.now.server.now }
     requires quiet { is_some client.old.asked ≡ false }
-    ensures step { TakesStep result (number_of client.old.who) (speaking client.old format.old)
-        (speaking client.new format.new) wire.old wire.new replies.old.items replies.new.items }
-    ensures goes { GoesOnOrUntil result (number_of client.old.who) (speaking client.old format.old)
-        (speaking client.new format.new) wire.old wire.new replies.old.items replies.new.items }
+    ensures step { TakesStep result (number_of client.old.who) (speaking client.old manner.old)
+        (speaking client.new manner.new) wire.old wire.new replies.old.items replies.new.items }
+    ensures goes { GoesOnOrUntil result (number_of client.old.who) (speaking client.old manner.old)
+        (speaking client.new manner.new) wire.old wire.new replies.old.items replies.new.items }
     ensures same { AreAlike client.old client.new }
     ensures sound { IsSound client.old → IsSound client.new }
 {
     match request_length(wire.at_hand()) {
-        Some(count) => step_at_hand(service, client, format, wire, count, replies),
-        None => step_awaited(service, client, format, wire, request, replies),
+        Some(count) => step_at_hand(service, client, manner, wire, count, replies),
+        None => step_awaited(service, client, manner, wire, request, replies),
     }
 }
 
@@ -261,7 +262,7 @@ pub(crate) fn take_step<
 >(
     service: &Service<'_, W, R, K>,
     client: &mut Client<W>,
-    format: &mut ReplyFormat,
+    manner: &mut Manner,
     wire: &mut Wire<I, O, E>,
     requests: &mut Requests,
     replies: &mut Vec<u8>,
@@ -269,17 +270,17 @@ pub(crate) fn take_step<
     requires table { client.old.table ≡ service.now.server.now }
     requires quiet { is_some client.old.asked ≡ false }
     requires ahead { AskFirst wire.old.at_hand (asked_ahead requests.old.ahead) }
-    ensures step { TakesStep result (number_of client.old.who) (speaking client.old format.old)
-        (speaking client.new format.new) wire.old wire.new replies.old.items replies.new.items }
-    ensures goes { GoesOnOrUntil result (number_of client.old.who) (speaking client.old format.old)
-        (speaking client.new format.new) wire.old wire.new replies.old.items replies.new.items }
+    ensures step { TakesStep result (number_of client.old.who) (speaking client.old manner.old)
+        (speaking client.new manner.new) wire.old wire.new replies.old.items replies.new.items }
+    ensures goes { GoesOnOrUntil result (number_of client.old.who) (speaking client.old manner.old)
+        (speaking client.new manner.new) wire.old wire.new replies.old.items replies.new.items }
     ensures ahead { OnOk result (AskFirst wire.new.at_hand (asked_ahead requests.new.ahead)) }
     ensures same { AreAlike client.old client.new }
     ensures sound { IsSound client.old → IsSound client.new }
 {
     requests.ahead.look(service.alloc, wire.at_hand());
     match requests.ahead.next() {
-        Some(request) => step_ahead(service, client, *format, wire, request, replies),
-        None => step_alone(service, client, format, wire, &mut requests.alone, replies),
+        Some(request) => step_ahead(service, client, *manner, wire, request, replies),
+        None => step_alone(service, client, manner, wire, &mut requests.alone, replies),
     }
 }

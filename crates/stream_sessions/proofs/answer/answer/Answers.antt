@@ -4,7 +4,7 @@ use Rattle.stream_sessions.proofs.answer.answer.Goals as goal
 
 pub returns-in-Ok-clause-answered : goal.returns-in-Ok-clause-answered
 returns-in-Ok-clause-answered g c =
-    c.report.ensures.answered c.args.request.now (c.in-Ok.ensures.script c.args.request.now refl)
+    c.report_taken.ensures.answered c.args.request.now (c.in-Ok.ensures.script c.args.request.now refl)
 
 pub returns-in-Err-clause-answered : goal.returns-in-Err-clause-answered
 returns-in-Err-clause-answered g c =

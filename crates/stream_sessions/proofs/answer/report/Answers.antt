@@ -31,7 +31,7 @@ loop-request-preserved g c =
           ∙ sym (append_assoc inv.0 (one ∷ []) (map request_of left)),
       served_next c.args.client.now c.loop-request.client c.add_reply.new.client inv.0 inv.1 one next.reply inv.3
           inv.5.who next.served,
-      shown_next c.args.format inv.1 next.reply c.args.replies.now.items c.loop-request.replies.items
+      shown_next c.args.manner.format inv.1 next.reply c.args.replies.now.items c.loop-request.replies.items
           c.add_reply.new.replies.items inv.4 next.added,
       alike_both _ _ _ inv.5 c.add_reply.ensures.same,
       λ sound. c.add_reply.ensures.sound (inv.6 sound),
@@ -46,9 +46,10 @@ returns-in-Err-clause-answered g c = λ request spelled.
     = inv.2 ∙ ap (λ t. inv.0 ++ map request_of t) c.in-Some.ensures.items in
     let before = c.args.replies.now in
     let count : c.len-before.result ≡ length before.items = omega (arith, before.ok.0, c.len-before.ensures) in
-    adds_nothing request c.args.client.now c.loop-request.client c.add_reply.new.client c.args.format
+    adds_nothing request c.args.client.now c.loop-request.client c.add_reply.new.client c.args.manner
     (requests_of c.args.script) inv.0 left one inv.1 before.items c.loop-request.replies.items
-    c.add_reply.new.replies.items c.truncate.new.self.items spelled whole inv.3 inv.5.who inv.4 c.in-Err.ensures.added
+    c.add_reply.new.replies.items c.truncate.new.self.items spelled c.requires.taken whole inv.3 inv.5.who inv.4
+    c.in-Err.ensures.added
     (c.truncate.ensures.items ∙ ap (λ n. take n c.add_reply.new.replies.items) count)
 
 pub returns-clause-answered : goal.returns-clause-answered
@@ -59,6 +60,6 @@ returns-clause-answered g c = λ request spelled.
     = nil_from_length left.items (omega (arith, left.ok.0, c.in_default.ensures.cases.1)) in
     let whole : requests_of c.args.script ≡ inv.0
     = inv.2 ∙ ap (λ t. inv.0 ++ map request_of t) (c.in_default.ensures.items ∙ none) ∙ append-nil inv.0 in
-    adds_replies (number_of c.args.client.now.who) request c.args.client.now c.loop-request.client c.args.format
-    (requests_of c.args.script) inv.0 inv.1 c.args.replies.now.items c.loop-request.replies.items spelled whole inv.3
-    inv.4
+    adds_replies (number_of c.args.client.now.who) request c.args.client.now c.loop-request.client c.args.manner
+    (requests_of c.args.script) inv.0 inv.1 c.args.replies.now.items c.loop-request.replies.items spelled
+    c.requires.taken whole inv.3 inv.4

@@ -16,7 +16,7 @@ invariant-loop-request g l =
     × (given : List Reply)
     × (requests_of l.fn.script ≡ front ++ map request_of (into_iter_items l.requests))
     × AreServed (number_of l.fn.client.who) l.fn.client front given l.client
-    × (l.replies.items ≡ l.fn.replies.items ++ replies_shown l.format given)
+    × (l.replies.items ≡ l.fn.replies.items ++ replies_shown l.manner.format given)
     × AreAlike l.fn.client l.client
     × (IsSound l.fn.client → IsSound l.client)
 

@@ -8,6 +8,6 @@ pub returns-in-Err-clause-handed : goal.returns-in-Err-clause-handed
 returns-in-Err-clause-handed g c = (none_written _ _, refl)
 
 pub returns-in-Err-clause-goes : goal.returns-in-Err-clause-goes
-returns-in-Err-clause-goes g c = λ ended number format.
-    stops fault.Write ended number (speaking c.args.client.now format) c.args.wire.now.events c.args.wire.now.events
+returns-in-Err-clause-goes g c = λ ended number manner.
+    stops fault.Write ended number (speaking c.args.client.now manner) c.args.wire.now.events c.args.wire.now.events
     c.args.replies.now.items c.args.replies.now.items c.args.replies.now.items refl (λ first start went. went)

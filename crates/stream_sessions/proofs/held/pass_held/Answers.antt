@@ -5,14 +5,14 @@ use Rattle.stream_sessions.proofs.ConversationLaws.{passes, stops}
 use Rattle.stream_sessions.proofs.held.pass_held.Goals as goal
 
 pub returns-in-Ok-clause-goes : goal.returns-in-Ok-clause-goes
-returns-in-Ok-clause-goes g c = λ ended number format.
-    passes ended number (speaking c.args.client.now format) c.args.wire.now.events _ c.args.replies.now.items _
+returns-in-Ok-clause-goes g c = λ ended number manner.
+    passes ended number (speaking c.args.client.now manner) c.args.wire.now.events _ c.args.replies.now.items _
     c.seen.result
     (search rules) (omega (arith, c.seen.ensures)) (search rules)
 
 pub returns-in-Err-clause-goes : goal.returns-in-Err-clause-goes
-returns-in-Err-clause-goes g c = λ ended number format.
-    stops fault.Write ended number (speaking c.args.client.now format) _ _ c.args.replies.now.items
+returns-in-Err-clause-goes g c = λ ended number manner.
+    stops fault.Write ended number (speaking c.args.client.now manner) _ _ c.args.replies.now.items
     c.args.replies.now.items [] refl
-    (passes ended number (speaking c.args.client.now format) c.args.wire.now.events _ c.args.replies.now.items []
+    (passes ended number (speaking c.args.client.now manner) c.args.wire.now.events _ c.args.replies.now.items []
     c.seen.result (search rules) (omega (arith, c.seen.ensures)) refl)

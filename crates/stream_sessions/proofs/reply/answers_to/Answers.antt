@@ -1,4 +1,4 @@
-use Rattle.std.proofs.Common.{◌≡◌, List, ◌++◌, ◌∙◌, length, ap, subst, arith}
+use Rattle.std.proofs.Common.{◌≡◌, ◌++◌, ◌∙◌, length, ap, subst, arith}
 use Rattle.history_core.specs.Events.{Questions}
 use Rattle.history_core.specs.Responses.{answers_in}
 use Rattle.stream_sessions.specs.Served.{IsAnswered}

@@ -12,7 +12,7 @@ returns-else-not-is_at_hand-clause-handed g c = record {
 }
 
 pub returns-else-not-is_at_hand-clause-goes : goal.returns-else-not-is_at_hand-clause-goes
-returns-else-not-is_at_hand-clause-goes g c = λ ended number format first start went. went
+returns-else-not-is_at_hand-clause-goes g c = λ ended number manner first start went. went
 
 pub returns-else-not-is_at_hand-clause-in_time : goal.returns-else-not-is_at_hand-clause-in_time
 returns-else-not-is_at_hand-clause-in_time g c = λ none.

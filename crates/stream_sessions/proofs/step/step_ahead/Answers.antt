@@ -39,13 +39,13 @@ returns-in_err-hand_on_in_time-clause-goes g c =
     let failed = c.in_err-hand_on_in_time in
     let why = failed.field-0.0 in
     let is : c.from_residual.result ≡ Err why = search rules in
-    err_is c.from_residual.result why _ _ is (failed.ensures.goes false number c.args.format)
+    err_is c.from_residual.result why _ _ is (failed.ensures.goes false number c.args.manner)
 
 pub returns-in-Ok-clause-step : goal.returns-in-Ok-clause-step
 returns-in-Ok-clause-step g c =
     let number = number_of c.args.client.now.who in
-    let old = speaking c.args.client.now c.args.format in
-    let new = speaking c.answer_read-answered.new.client c.args.format in
+    let old = speaking c.args.client.now c.args.manner in
+    let new = speaking c.answer_read-answered.new.client c.args.manner in
     let wire = c.hand_on_in_time.new.wire in
     let size = c.in-Some.size in
     let first = subst (λ (bytes : List ℕ). AsksFirst bytes (request_of c.args.request)) (sym
@@ -68,8 +68,8 @@ returns-in-Ok-clause-step g c =
 pub returns-in-Err-clause-step : goal.returns-in-Err-clause-step
 returns-in-Err-clause-step g c =
     let number = number_of c.args.client.now.who in
-    let old = speaking c.args.client.now c.args.format in
-    let new = speaking c.answer_read-answered.new.client c.args.format in
+    let old = speaking c.args.client.now c.args.manner in
+    let new = speaking c.answer_read-answered.new.client c.args.manner in
     let wire = c.hand_on_in_time.new.wire in
     let size = c.in-Some.size in
     let first = subst (λ (bytes : List ℕ). AsksFirst bytes (request_of c.args.request)) (sym
@@ -88,8 +88,8 @@ returns-in-Err-clause-step g c =
 pub returns-in-Ok-clause-goes : goal.returns-in-Ok-clause-goes
 returns-in-Ok-clause-goes g c =
     let number = number_of c.args.client.now.who in
-    let old = speaking c.args.client.now c.args.format in
-    let new = speaking c.answer_read-answered.new.client c.args.format in
+    let old = speaking c.args.client.now c.args.manner in
+    let new = speaking c.answer_read-answered.new.client c.args.manner in
     let wire = c.hand_on_in_time.new.wire in
     let size = c.in-Some.size in
     let first = subst (λ (bytes : List ℕ). AsksFirst bytes (request_of c.args.request)) (sym
@@ -100,7 +100,7 @@ returns-in-Ok-clause-goes g c =
     goes_both false false false number old old new c.args.wire.now.events
     wire.events c.take.new.self.events c.args.replies.now.items c.hand_on_in_time.new.replies.items
     c.answer_read-answered.new.replies.items
-    (c.in_ok-hand_on_in_time.ensures.goes false number c.args.format)
+    (c.in_ok-hand_on_in_time.ensures.goes false number c.args.manner)
     (takes false number old new wire.events c.take.new.self.events text c.hand_on_in_time.new.replies.items
     c.answer_read-answered.new.replies.items c.take.ensures.events c.in_ok-hand_on_in_time.ensures.few
     (whole.1, c.in-Ok.ensures.answered text (asks_whole wire.at_hand _ size first whole)))
@@ -108,8 +108,8 @@ returns-in-Ok-clause-goes g c =
 pub returns-in-Err-clause-goes : goal.returns-in-Err-clause-goes
 returns-in-Err-clause-goes g c =
     let number = number_of c.args.client.now.who in
-    let old = speaking c.args.client.now c.args.format in
-    let new = speaking c.answer_read-answered.new.client c.args.format in
+    let old = speaking c.args.client.now c.args.manner in
+    let new = speaking c.answer_read-answered.new.client c.args.manner in
     let wire = c.hand_on_in_time.new.wire in
     let size = c.in-Some.size in
     let first = subst (λ (bytes : List ℕ). AsksFirst bytes (request_of c.args.request)) (sym
@@ -122,7 +122,7 @@ returns-in-Err-clause-goes g c =
     (goes_both false false true number old old new c.args.wire.now.events
     wire.events c.take.new.self.events c.args.replies.now.items c.hand_on_in_time.new.replies.items
     c.answer_read-answered.new.replies.items
-    (c.in_ok-hand_on_in_time.ensures.goes false number c.args.format)
+    (c.in_ok-hand_on_in_time.ensures.goes false number c.args.manner)
     (takes true number old new wire.events c.take.new.self.events text c.hand_on_in_time.new.replies.items
     c.answer_read-answered.new.replies.items c.take.ensures.events c.in_ok-hand_on_in_time.ensures.few
     (inr (inl (c.in-Err.ensures.answered text (asks_whole wire.at_hand _ size first whole))))))

@@ -30,13 +30,13 @@ returns-in_err-hand_on_in_time-clause-goes g c =
     let failed = c.in_err-hand_on_in_time in
     let why = failed.field-0.0 in
     let is : c.from_residual.result ≡ Err why = search rules in
-    err_is c.from_residual.result why _ _ is (failed.ensures.goes false number c.args.format.now)
+    err_is c.from_residual.result why _ _ is (failed.ensures.goes false number c.args.manner.now)
 
 pub returns-in-Ok-clause-step : goal.returns-in-Ok-clause-step
 returns-in-Ok-clause-step g c =
     let number = number_of c.args.client.now.who in
-    let old = speaking c.args.client.now c.args.format.now in
-    let new = speaking c.answer-answered.new.client c.answer-answered.new.format in
+    let old = speaking c.args.client.now c.args.manner.now in
+    let new = speaking c.answer-answered.new.client c.answer-answered.new.manner in
     let wire = c.hand_on_in_time.new.wire in
     let size = c.args.count in
     let whole = subst (IsWhole size) (sym c.hand_on_in_time.ensures.at_hand) c.requires.whole in
@@ -59,8 +59,8 @@ returns-in-Ok-clause-step g c =
 pub returns-in-Err-clause-step : goal.returns-in-Err-clause-step
 returns-in-Err-clause-step g c =
     let number = number_of c.args.client.now.who in
-    let old = speaking c.args.client.now c.args.format.now in
-    let new = speaking c.answer-answered.new.client c.answer-answered.new.format in
+    let old = speaking c.args.client.now c.args.manner.now in
+    let new = speaking c.answer-answered.new.client c.answer-answered.new.manner in
     let wire = c.hand_on_in_time.new.wire in
     let size = c.args.count in
     let whole = subst (IsWhole size) (sym c.hand_on_in_time.ensures.at_hand) c.requires.whole in
@@ -79,8 +79,8 @@ returns-in-Err-clause-step g c =
 pub returns-in-Ok-clause-goes : goal.returns-in-Ok-clause-goes
 returns-in-Ok-clause-goes g c =
     let number = number_of c.args.client.now.who in
-    let old = speaking c.args.client.now c.args.format.now in
-    let new = speaking c.answer-answered.new.client c.answer-answered.new.format in
+    let old = speaking c.args.client.now c.args.manner.now in
+    let new = speaking c.answer-answered.new.client c.answer-answered.new.manner in
     let wire = c.hand_on_in_time.new.wire in
     let size = c.args.count in
     let whole = subst (IsWhole size) (sym c.hand_on_in_time.ensures.at_hand) c.requires.whole in
@@ -91,15 +91,15 @@ returns-in-Ok-clause-goes g c =
     goes_both false false false number old old new c.args.wire.now.events
     wire.events c.take.new.self.events c.args.replies.now.items c.hand_on_in_time.new.replies.items
     c.answer-answered.new.replies.items
-    (c.in_ok-hand_on_in_time.ensures.goes false number c.args.format.now)
+    (c.in_ok-hand_on_in_time.ensures.goes false number c.args.manner.now)
     (takes false number old new wire.events c.take.new.self.events text c.hand_on_in_time.new.replies.items
     c.answer-answered.new.replies.items c.take.ensures.events c.in_ok-hand_on_in_time.ensures.few (whole.1, adds))
 
 pub returns-in-Err-clause-goes : goal.returns-in-Err-clause-goes
 returns-in-Err-clause-goes g c =
     let number = number_of c.args.client.now.who in
-    let old = speaking c.args.client.now c.args.format.now in
-    let new = speaking c.answer-answered.new.client c.answer-answered.new.format in
+    let old = speaking c.args.client.now c.args.manner.now in
+    let new = speaking c.answer-answered.new.client c.answer-answered.new.manner in
     let wire = c.hand_on_in_time.new.wire in
     let size = c.args.count in
     let whole = subst (IsWhole size) (sym c.hand_on_in_time.ensures.at_hand) c.requires.whole in
@@ -112,6 +112,6 @@ returns-in-Err-clause-goes g c =
     (goes_both false false true number old old new c.args.wire.now.events
     wire.events c.take.new.self.events c.args.replies.now.items c.hand_on_in_time.new.replies.items
     c.answer-answered.new.replies.items
-    (c.in_ok-hand_on_in_time.ensures.goes false number c.args.format.now)
+    (c.in_ok-hand_on_in_time.ensures.goes false number c.args.manner.now)
     (takes true number old new wire.events c.take.new.self.events text c.hand_on_in_time.new.replies.items
     c.answer-answered.new.replies.items c.take.ensures.events c.in_ok-hand_on_in_time.ensures.few (inr (inl adds))))

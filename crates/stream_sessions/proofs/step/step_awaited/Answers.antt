@@ -33,12 +33,12 @@ returns-in_err-hand_on_in_time-clause-goes g c =
     let failed = c.in_err-hand_on_in_time in
     let why = failed.field-0.0 in
     let is : c.from_residual.result ≡ Err why = search rules in
-    err_is c.from_residual.result why _ _ is (failed.ensures.goes false number c.args.format.now)
+    err_is c.from_residual.result why _ _ is (failed.ensures.goes false number c.args.manner.now)
 
 pub returns-in-Ok-Nothing-clause-step : goal.returns-in-Ok-Nothing-clause-step
 returns-in-Ok-Nothing-clause-step g c =
     let number = number_of c.args.client.now.who in
-    let old = speaking c.args.client.now c.args.format.now in
+    let old = speaking c.args.client.now c.args.manner.now in
     where_known (λ (u w : Option (List ℕ)). Steps step.Nothing number old old u c.next_request.new.self.unread
     c.args.wire.now.written w c.args.replies.now.items c.hand_on_in_time.new.replies.items) c.args.wire.now.unread
     c.hand_on_in_time.new.wire.unread c.hand_on_in_time.new.wire.written c.next_request.new.self.written
@@ -48,7 +48,7 @@ returns-in-Ok-Nothing-clause-step g c =
 pub returns-in-Err-Read-clause-step : goal.returns-in-Err-Read-clause-step
 returns-in-Err-Read-clause-step g c =
     let number = number_of c.args.client.now.who in
-    let old = speaking c.args.client.now c.args.format.now in
+    let old = speaking c.args.client.now c.args.manner.now in
     where_known (λ (u w : Option (List ℕ)). Fails fault.Read number old old u c.next_request.new.self.unread
     c.args.wire.now.written w c.args.replies.now.items c.hand_on_in_time.new.replies.items) c.args.wire.now.unread
     c.hand_on_in_time.new.wire.unread c.hand_on_in_time.new.wire.written c.next_request.new.self.written
@@ -58,7 +58,7 @@ returns-in-Err-Read-clause-step g c =
 pub returns-in-Err-OutOfMemory-clause-step : goal.returns-in-Err-OutOfMemory-clause-step
 returns-in-Err-OutOfMemory-clause-step g c =
     let number = number_of c.args.client.now.who in
-    let old = speaking c.args.client.now c.args.format.now in
+    let old = speaking c.args.client.now c.args.manner.now in
     where_known (λ (u w : Option (List ℕ)). Fails fault.OutOfMemory number old old u c.next_request.new.self.unread
     c.args.wire.now.written w c.args.replies.now.items c.hand_on_in_time.new.replies.items) c.args.wire.now.unread
     c.hand_on_in_time.new.wire.unread c.hand_on_in_time.new.wire.written c.next_request.new.self.written
@@ -68,8 +68,8 @@ returns-in-Err-OutOfMemory-clause-step g c =
 pub returns-in-Ok-clause-step : goal.returns-in-Ok-clause-step
 returns-in-Ok-clause-step g c =
     let number = number_of c.args.client.now.who in
-    let old = speaking c.args.client.now c.args.format.now in
-    let new = speaking c.answer-answered.new.client c.answer-answered.new.format in
+    let old = speaking c.args.client.now c.args.manner.now in
+    let new = speaking c.answer-answered.new.client c.answer-answered.new.manner in
     where_known (λ (u w : Option (List ℕ)). Steps c.match-next_request-2.step number old new u
     c.next_request.new.self.unread
     c.args.wire.now.written w c.args.replies.now.items c.answer-answered.new.replies.items) c.args.wire.now.unread
@@ -80,8 +80,8 @@ returns-in-Ok-clause-step g c =
 pub returns-in-Err-clause-step : goal.returns-in-Err-clause-step
 returns-in-Err-clause-step g c =
     let number = number_of c.args.client.now.who in
-    let old = speaking c.args.client.now c.args.format.now in
-    let new = speaking c.answer-answered.new.client c.answer-answered.new.format in
+    let old = speaking c.args.client.now c.args.manner.now in
+    let new = speaking c.answer-answered.new.client c.answer-answered.new.manner in
     let unread = c.hand_on_in_time.new.wire.unread in
     let bytes = c.next_request.new.request.items in
     let text : IsText unread bytes = elim c.match-next_request-2.branch [
@@ -99,7 +99,7 @@ returns-in-Err-clause-step g c =
 pub returns-in-Err-TooLong-clause-step : goal.returns-in-Err-TooLong-clause-step
 returns-in-Err-TooLong-clause-step g c =
     let number = number_of c.args.client.now.who in
-    let old = speaking c.args.client.now c.args.format.now in
+    let old = speaking c.args.client.now c.args.manner.now in
     where_known (λ (u w : Option (List ℕ)). MatchResult c.tell_too_long.result
     (λ (is : Step). Steps is number old old u c.next_request.new.self.unread
     c.args.wire.now.written w c.args.replies.now.items c.tell_too_long.new.replies.items)
@@ -115,11 +115,11 @@ returns-in-Err-TooLong-clause-step g c =
 pub returns-in-Ok-Nothing-clause-goes : goal.returns-in-Ok-Nothing-clause-goes
 returns-in-Ok-Nothing-clause-goes g c =
     let number = number_of c.args.client.now.who in
-    let old = speaking c.args.client.now c.args.format.now in
+    let old = speaking c.args.client.now c.args.manner.now in
     goes_both false false true number old old old c.args.wire.now.events
     c.hand_on_in_time.new.wire.events c.next_request.new.self.events c.args.replies.now.items
     c.hand_on_in_time.new.replies.items c.hand_on_in_time.new.replies.items
-    (c.in_ok-hand_on_in_time.ensures.goes false number c.args.format.now)
+    (c.in_ok-hand_on_in_time.ensures.goes false number c.args.manner.now)
     (looks_and_takes true number old old c.hand_on_in_time.new.wire.events
     c.next_request.new.self.events c.hand_on_in_time.new.wire.at_hand c.next_request.new.request.items
     c.hand_on_in_time.new.replies.items
@@ -129,13 +129,13 @@ returns-in-Ok-Nothing-clause-goes g c =
 pub returns-in-Err-Read-clause-goes : goal.returns-in-Err-Read-clause-goes
 returns-in-Err-Read-clause-goes g c =
     let number = number_of c.args.client.now.who in
-    let old = speaking c.args.client.now c.args.format.now in
+    let old = speaking c.args.client.now c.args.manner.now in
     read_fails number old old c.args.wire.now.events
     c.next_request.new.self.events c.args.replies.now.items c.hand_on_in_time.new.replies.items
     (goes_both false false true number old old old c.args.wire.now.events
     c.hand_on_in_time.new.wire.events c.next_request.new.self.events c.args.replies.now.items
     c.hand_on_in_time.new.replies.items c.hand_on_in_time.new.replies.items
-    (c.in_ok-hand_on_in_time.ensures.goes false number c.args.format.now)
+    (c.in_ok-hand_on_in_time.ensures.goes false number c.args.manner.now)
     (looks_and_takes true number old old c.hand_on_in_time.new.wire.events
     c.next_request.new.self.events c.hand_on_in_time.new.wire.at_hand c.next_request.new.request.items
     c.hand_on_in_time.new.replies.items
@@ -145,13 +145,13 @@ returns-in-Err-Read-clause-goes g c =
 pub returns-in-Err-OutOfMemory-clause-goes : goal.returns-in-Err-OutOfMemory-clause-goes
 returns-in-Err-OutOfMemory-clause-goes g c =
     let number = number_of c.args.client.now.who in
-    let old = speaking c.args.client.now c.args.format.now in
+    let old = speaking c.args.client.now c.args.manner.now in
     memory_fails number old old c.args.wire.now.events
     c.next_request.new.self.events c.args.replies.now.items c.hand_on_in_time.new.replies.items
     (goes_both false false true number old old old c.args.wire.now.events
     c.hand_on_in_time.new.wire.events c.next_request.new.self.events c.args.replies.now.items
     c.hand_on_in_time.new.replies.items c.hand_on_in_time.new.replies.items
-    (c.in_ok-hand_on_in_time.ensures.goes false number c.args.format.now)
+    (c.in_ok-hand_on_in_time.ensures.goes false number c.args.manner.now)
     (looks_and_takes true number old old c.hand_on_in_time.new.wire.events
     c.next_request.new.self.events c.hand_on_in_time.new.wire.at_hand c.next_request.new.request.items
     c.hand_on_in_time.new.replies.items
@@ -161,19 +161,19 @@ returns-in-Err-OutOfMemory-clause-goes g c =
 pub returns-in-Err-TooLong-clause-goes : goal.returns-in-Err-TooLong-clause-goes
 returns-in-Err-TooLong-clause-goes g c =
     let number = number_of c.args.client.now.who in
-    let old = speaking c.args.client.now c.args.format.now in
+    let old = speaking c.args.client.now c.args.manner.now in
     too_long_goes c.tell_too_long.result number old c.args.wire.now.events
     c.hand_on_in_time.new.wire.events c.next_request.new.self.events c.hand_on_in_time.new.wire.at_hand
     c.next_request.new.request.items c.args.replies.now.items c.hand_on_in_time.new.replies.items
     c.tell_too_long.new.replies.items
-    (c.in_ok-hand_on_in_time.ensures.goes false number c.args.format.now) c.next_request.ensures.events
+    (c.in_ok-hand_on_in_time.ensures.goes false number c.args.manner.now) c.next_request.ensures.events
     (c.in_ok-hand_on_in_time.ensures.in_time refl) c.in_ok-hand_on_in_time.ensures.few c.tell_too_long.ensures
 
 pub returns-in-Ok-clause-goes : goal.returns-in-Ok-clause-goes
 returns-in-Ok-clause-goes g c =
     let number = number_of c.args.client.now.who in
-    let old = speaking c.args.client.now c.args.format.now in
-    let new = speaking c.answer-answered.new.client c.answer-answered.new.format in
+    let old = speaking c.args.client.now c.args.manner.now in
+    let new = speaking c.answer-answered.new.client c.answer-answered.new.manner in
     let did = c.match-next_request-2.step in
     let bytes = c.next_request.new.request.items in
     let adds : AddsAnswer number bytes old new
@@ -193,7 +193,7 @@ returns-in-Ok-clause-goes g c =
     goes_both false false (is_last did) number old old new c.args.wire.now.events
     c.hand_on_in_time.new.wire.events c.next_request.new.self.events c.args.replies.now.items
     c.hand_on_in_time.new.replies.items c.answer-answered.new.replies.items
-    (c.in_ok-hand_on_in_time.ensures.goes false number c.args.format.now)
+    (c.in_ok-hand_on_in_time.ensures.goes false number c.args.manner.now)
     (looks_and_takes (is_last did) number old new c.hand_on_in_time.new.wire.events
     c.next_request.new.self.events c.hand_on_in_time.new.wire.at_hand c.next_request.new.request.items
     c.hand_on_in_time.new.replies.items
@@ -203,14 +203,14 @@ returns-in-Ok-clause-goes g c =
 pub returns-in-Err-clause-goes : goal.returns-in-Err-clause-goes
 returns-in-Err-clause-goes g c =
     let number = number_of c.args.client.now.who in
-    let old = speaking c.args.client.now c.args.format.now in
-    let new = speaking c.answer-answered.new.client c.answer-answered.new.format in
+    let old = speaking c.args.client.now c.args.manner.now in
+    let new = speaking c.answer-answered.new.client c.answer-answered.new.manner in
     memory_fails number old new c.args.wire.now.events
     c.next_request.new.self.events c.args.replies.now.items c.answer-answered.new.replies.items
     (goes_both false false true number old old new c.args.wire.now.events
     c.hand_on_in_time.new.wire.events c.next_request.new.self.events c.args.replies.now.items
     c.hand_on_in_time.new.replies.items c.answer-answered.new.replies.items
-    (c.in_ok-hand_on_in_time.ensures.goes false number c.args.format.now)
+    (c.in_ok-hand_on_in_time.ensures.goes false number c.args.manner.now)
     (looks_and_takes true number old new c.hand_on_in_time.new.wire.events
     c.next_request.new.self.events c.hand_on_in_time.new.wire.at_hand c.next_request.new.request.items
     c.hand_on_in_time.new.replies.items

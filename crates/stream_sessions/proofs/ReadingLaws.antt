@@ -1,0 +1,133 @@
+-- Whether a session takes refreshes stays, and one that takes none commits nothing.
+use Rattle.std.proofs.Common.{◌≡◌, ◌∙◌, ◌||◌, ℕ, Bool, true, false, List, [], ◌∷◌, ◌++◌, inl, inr, refl, sym, ap}
+use Rattle.std.proofs.lemmas.List.Folds.{list_any-append}
+use Rattle.history.specs.Tokens.{TokenRecord}
+use Rattle.ssb_report.specs.Replies.{Reply, Refreshed, Answered, Aborted}
+use Rattle.ssb_script.specs.Requests.{RequestRecord, Refresh, Ask, Abort}
+use Rattle.stream_sessions.specs.Answers.{BreaksOff, IsAnswered}
+use Rattle.stream_sessions.specs.Conversation.{AddsReply, Converses, ConversesUntil, IsConversation}
+use Rattle.stream_sessions.specs.Events.{Event, Looks, Takes, Passes}
+use Rattle.stream_sessions.specs.ReadingOnly.{CommitsNothing}
+use Rattle.stream_sessions.specs.Served.{AreServed, IsServed}
+use Rattle.stream_sessions.specs.Speaking.{IsTaken, SpeakingRecord, has_refresh, is_refresh}
+use Rattle.stream_sessions.specs.declared.outcome.SessionFault.{SessionFault}
+use Rattle.stream_sessions.proofs.ConversationLaws.{in_part}
+
+not_both : true ≡ false → ⊥
+not_both e = cc
+
+-- there is no refresh in either of two parts
+neither : (a b : Bool) → (a || b) ≡ false → (a ≡ false) × (b ≡ false)
+neither true b none = absurd (not_both none)
+neither false b none = (refl, none)
+
+pub parts_have_none : (first more : List RequestRecord) → has_refresh (first ++ more) ≡ false
+    → (has_refresh first ≡ false) × (has_refresh more ≡ false)
+parts_have_none first more none =
+    neither (has_refresh first) (has_refresh more) (sym (list_any-append is_refresh first more) ∙ none)
+
+-- where no refreshes are taken, what is taken has none
+pub has_none : (old : SpeakingRecord) (asked : List RequestRecord) → old.takes_refreshes ≡ false → IsTaken old asked
+    → has_refresh asked ≡ false
+has_none old asked none (inl some) = absurd (not_both (sym some ∙ none))
+has_none old asked none (inr is) = is
+
+-- what was served that is no refresh committed nothing
+served_mine : (number : ℕ) (old new : TokenRecord) (request : RequestRecord) (reply : Reply)
+    → is_refresh request ≡ false → IsServed number old request reply new → new.mine ≡ old.mine
+served_mine number old new (Refresh actions) reply none is = absurd (not_both none)
+served_mine number old new (Ask asking) (Answered answers) none is =
+    ap (λ (t : TokenRecord). t.mine) is.polled.now ∙ ap (λ (t : TokenRecord). t.mine) is.asked.now
+served_mine number old new (Ask asking) (Refreshed reply) none is = absurd is
+served_mine number old new (Ask asking) Aborted none is = absurd is
+served_mine number old new Abort Aborted none is = ap (λ (t : TokenRecord). t.mine) is
+served_mine number old new Abort (Refreshed reply) none is = absurd is
+served_mine number old new Abort (Answered answers) none is = absurd is
+
+all_mine : (number : ℕ) (old new : TokenRecord) (asked : List RequestRecord) (replies : List Reply)
+    → has_refresh asked ≡ false → AreServed number old asked replies new → new.mine ≡ old.mine
+all_mine number old new [] [] none are = ap (λ (t : TokenRecord). t.mine) are
+all_mine number old new [] (reply ∷ replies) none are = absurd are
+all_mine number old new (request ∷ asked) [] none are = absurd are
+all_mine number old new (request ∷ asked) (reply ∷ replies) none are =
+    let both = neither (is_refresh request) (has_refresh asked) none in
+    all_mine number are.0 new asked replies both.1 are.2 ∙ served_mine number old are.0 request reply both.0 are.1
+
+-- a session goes on to take refreshes or not, and where it does not, nothing was committed
+record Stays (old new : SpeakingRecord) : Type 0 where
+  takes : new.takes_refreshes ≡ old.takes_refreshes
+  mine : old.takes_refreshes ≡ false → new.token.mine ≡ old.token.mine
+
+same_stays : (old new : SpeakingRecord) → new ≡ old → Stays old new
+same_stays old new same = record {
+  takes = ap (λ (s : SpeakingRecord). s.takes_refreshes) same;
+  mine = λ none. ap (λ (s : SpeakingRecord). s.token.mine) same;
+}
+
+both_stay : (old mid new : SpeakingRecord) → Stays old mid → Stays mid new → Stays old new
+both_stay old mid new one two = record {
+  takes = two.takes ∙ one.takes;
+  mine = λ none. two.mine (one.takes ∙ none) ∙ one.mine none;
+}
+
+answered_stays : (number : ℕ) (request : List ℕ) (old new : SpeakingRecord) (text : List ℕ)
+    → IsAnswered number request old new text → Stays old new
+answered_stays number request old new text (inl reported) = record {
+  takes = reported.keeps;
+  mine = λ none. all_mine number old.token new.token reported.asked reported.replies
+      (has_none old reported.asked none reported.taken) reported.served;
+}
+answered_stays number request old new text (inr (inl refused)) = same_stays old new refused.unchanged
+answered_stays number request old new text (inr (inr (inl given))) = record {
+  takes = given.keeps;
+  mine = λ none. ap (λ (t : TokenRecord). t.mine) given.unchanged;
+}
+answered_stays number request old new text (inr (inr (inr not_taken))) = same_stays old new not_taken.unchanged
+
+broken_stays : (number : ℕ) (request : List ℕ) (old new : SpeakingRecord) → BreaksOff number request old new
+    → Stays old new
+broken_stays number request old new (inl same) = same_stays old new same
+broken_stays number request old new (inr part) = record {
+  takes = part.keeps;
+  mine = λ none. all_mine number old.token new.token part.asked part.replies
+      (parts_have_none part.asked part.left (has_none old (part.asked ++ part.left) none part.taken)).0 part.served;
+}
+
+adds_stays : (ended : Bool) (number : ℕ) (bytes : List ℕ) (old new : SpeakingRecord) (held kept : List ℕ)
+    → AddsReply ended number bytes old new held kept → Stays old new
+adds_stays false number bytes old new held kept adds =
+    answered_stays number bytes old new adds.1.text adds.1.answered
+adds_stays true number bytes old new held kept (inl answer) =
+    answered_stays number bytes old new answer.text answer.answered
+adds_stays true number bytes old new held kept (inr (inl nothing)) =
+    broken_stays number bytes old new nothing.broken
+adds_stays true number bytes old new held kept (inr (inr long)) = same_stays old new long.0
+
+conversation_stays : (events : List Event) (ended : Bool) (number : ℕ) (old now : SpeakingRecord) (held : List ℕ)
+    → IsConversation ended number old events now held → Stays old now
+conversation_stays [] ended number old now held c = same_stays old now c.1
+conversation_stays (Looks at_hand ∷ earlier) ended number old now held c =
+    conversation_stays earlier false number old now held c.1
+conversation_stays (Takes bytes ∷ earlier) ended number old now held c =
+    both_stay old c.0 now (conversation_stays earlier false number old c.0 c.1 c.2)
+    (adds_stays ended number bytes c.0 now c.1 held c.4)
+conversation_stays (Passes text covered ∷ earlier) ended number old now held c =
+    conversation_stays earlier ended number old now text c.0
+
+-- it takes refreshes to its end as it did when it began
+pub takes_stays : (ended : Bool) (number : ℕ) (old now : SpeakingRecord) (before after : List Event) (held : List ℕ)
+    → Converses ended number old now before after held → now.takes_refreshes ≡ old.takes_refreshes
+takes_stays ended number old now before after held c =
+    (conversation_stays c.more ended number old now held c.is).takes
+
+pub until_takes_stays : (why : SessionFault) (number : ℕ) (old now : SpeakingRecord) (before after : List Event)
+    (held : List ℕ)
+    → ConversesUntil why number old now before after held → now.takes_refreshes ≡ old.takes_refreshes
+until_takes_stays why number old now before after held c =
+    let part = in_part why number old now before after held c in
+    takes_stays part.1.0 number old now before after part.0 part.1.1
+
+pub commits_nothing : (before after : List Event) → CommitsNothing before after
+commits_nothing before after number old new session =
+    let part = session.1 in
+    (conversation_stays part.1.1.more part.1.0 number _ _ part.0 part.1.1.is).mine refl
