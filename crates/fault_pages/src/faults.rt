@@ -16,6 +16,7 @@ use ssb_server::OpenFault;
 use ssb_text::LoadError;
 use std::alloc::{AllocError, Global};
 use std::fmt::Display;
+use stream_sessions::ReadOnly;
 
 /// A type of faults, or of help, that lists its variants that have a number or a row, one after the other.
 pub(crate) trait ListsFaults: Display + Drop {
@@ -259,6 +260,16 @@ impl ListsFaults for NotEmpty {
     }
 }
 
+impl ListsFaults for ReadOnly {
+    fn first() -> ReadOnly {
+        ReadOnly
+    }
+
+    fn next(&self) -> Option<ReadOnly> {
+        None
+    }
+}
+
 impl ListsFaults for PathFault<&'static str> {
     fn first() -> PathFault<&'static str> {
         PathFault::SameFile("answers")
@@ -343,6 +354,7 @@ pub fn all_lines(alloc: Global) -> Result<Vec<String>, AllocError> {
     push_lines::<OpenError>(alloc, &mut lines)?;
     push_lines::<NoJournal<&'static str>>(alloc, &mut lines)?;
     push_lines::<NotEmpty>(alloc, &mut lines)?;
+    push_lines::<ReadOnly>(alloc, &mut lines)?;
     push_lines::<PathFault<&'static str>>(alloc, &mut lines)?;
     push_lines::<QuestionsError>(alloc, &mut lines)?;
     push_lines::<TooManyGroups>(alloc, &mut lines)?;

@@ -1,8 +1,8 @@
 -- A server with a journal begins where the journal ends, and is opened with quiet clients and a reader of its log.
-use Rattle.std.proofs.Common.{◌≡◌, ◌⊎◌, inl, inr, ⊎_elim, ℕ, List, [], ◌∷◌, ◌++◌, length, Result, Ok, Err}
-use Rattle.std.proofs.Common.{Some, refl, sym, ◌∙◌, arith}
+use Rattle.std.proofs.Common.{◌≡◌, ◌⊎◌, inl, inr, ⊎_elim, ℕ, List, [], ◌∷◌, ◌++◌, length, Result}
+use Rattle.std.proofs.Common.{◌≤◌, Some, ap, false, refl, sym, ◌∙◌, arith}
 use Rattle.std.proofs.Common.{subst}
-use Rattle.std.specs.Prelude.{All, IfErr, IfOk}
+use Rattle.std.specs.Prelude.{All, IfOk}
 use Rattle.std.specs.List.{range_with_len}
 use Rattle.std.proofs.lemmas.List.Elements.{All-map, All-pop}
 use Rattle.history.specs.Tokens.{TableRecord, TokenRecord, new_token, new_dispatchers}
@@ -11,10 +11,11 @@ use Rattle.row_store.proofs.PrefixLaws.{begins_with_itself}
 use Rattle.row_store.specs.History.{CommitRecord, IsPrefix}
 use Rattle.ssb_base.specs.Base.{Tables}
 use Rattle.journal.proofs.MomentLaws.{leaves}
-use Rattle.journal.specs.Disk.{LeavesOnly}
+use Rattle.journal.specs.Disk.{LeavesOnly, Only}
+use Rattle.journal.specs.Groups.{recovered as recovered_groups}
 use Rattle.ssb_journal.proofs.CountLaws.{beginning_of_longer}
 use Rattle.ssb_journal.proofs.KeptLaws.{spell_none}
-use Rattle.ssb_journal.specs.Counts.{Begun, KeepsBeginning, KeepsFirst, KeepsSince}
+use Rattle.ssb_journal.specs.Counts.{Begun, IsLeft, KeepsBeginning, KeepsFirst, KeepsSince}
 use Rattle.ssb_journal.specs.Kept.{IsAsItWasOrNew, KeepsCommits, SpellCommits}
 use Rattle.ssb_journal.specs.Opening.{IsKept}
 use Rattle.ssb_journal.specs.Texts.{AreSealed}
@@ -136,6 +137,35 @@ kept_in_beginning moment left_since found disk marks kept groups first is run =
       as_it_was marks kept groups all file first is (begins_with_itself all) left,
     )))
 
+-- where a journal that was there could not be begun, whatever crashes leaves all that was recovered
+pub kept_unwritten : {D : Type 0} (moment : D → ℕ) (left_since : D → ℕ → List ℕ → Type 0)
+    (may_leave : D → List ℕ → Type 0) (seen : D → List ℕ) (found disk : D) (marks : List TableMark) (kept : KeptCommits)
+    (groups : List (List ℕ)) (log : List CommitRecord) (count : ℕ)
+    → ((t : ℕ) (file : List ℕ) → t ≤ moment disk → may_leave disk file → left_since disk t file)
+    → ((marks : List TableMark) (commits log : List CommitRecord) (file : List ℕ)
+    → KeepsCommits marks commits file → IsPrefix commits log → KeepsFirst (length commits) log file)
+    → IsKept marks groups kept → kept.is_new ≡ false
+    → LeavesOnly moment left_since found disk (IsAsItWasOrNew marks groups) → log ≡ kept.commits.items
+    → count ≡ length kept.commits.items → IsLeft (may_leave disk) (seen disk) count log false
+kept_unwritten moment left_since may_leave seen found disk marks kept groups log count counts first (inl new_one) old run
+    same many = absurd cc
+kept_unwritten moment left_since may_leave seen found disk marks kept groups log count counts first (inr old_one) old run
+    same many = record {
+      crash = λ file leaves.
+          let all = kept.commits.items in
+          subst (λ n. KeepsBeginning n log file) (sym many)
+          (subst (λ l. KeepsBeginning (length all) l file) (sym same)
+          (⊎_elim
+          (λ as_was. keeps_all marks all all file first (begins_with_itself all) (record {
+            texts = old_one.1.texts;
+            is_journal = (kept.form, as_was ∙ old_one.1.sealed);
+            spelled = old_one.1.spelled;
+          }))
+          (λ made. absurd (no_head kept.form marks old_one.1.texts (sym made.0 ∙ old_one.1.sealed)))
+          (run.each file (counts (moment found) file run.later leaves))));
+      written = λ whole. absurd cc;
+    }
+
 -- and so does one at any moment since then
 pub kept_since : {D : Type 0} (moment : D → ℕ) (left_since : D → ℕ → List ℕ → Type 0) (found begun disk : D)
     (marks : List TableMark) (kept : KeptCommits) (groups : List (List ℕ)) (least : ℕ) (seen : List CommitRecord)
@@ -171,17 +201,6 @@ run_fault clients dispatchers opening.NoReader told same is =
     subst (IsRunFault clients dispatchers) (sym same) ((λ e. cc), is)
 run_fault clients dispatchers opening.OutOfMemory told same is =
     subst (IsRunFault clients dispatchers) (sym same) is
-
--- the run of an opened server is one over its base, with its dispatchers
-pub run_over : {S L E X : Type 0} (Spoken : S → TokenRecord → TokenRecord → L → Type 0) (left_in : X → List L)
-    (log_in : X → List CommitRecord) (result : Result X E) (opened base : Tables)
-    (commits : List CommitRecord) (speakers : List S) (there dispatchers : ℕ) → opened ≡ base → there ≡ dispatchers
-    → IfOk result (λ run. IsJournaledRun Spoken opened commits speakers there (left_in run) (log_in run))
-    → IfOk result (λ run. IsJournaledRun Spoken base commits speakers dispatchers (left_in run) (log_in run))
-run_over {S} {L} {E} {X} Spoken left_in log_in result opened base commits speakers there dispatchers same as_many run =
-    subst (λ n. IfOk result (λ run. IsJournaledRun Spoken base commits speakers n (left_in run) (log_in run))) as_many
-    (subst (λ b. IfOk result (λ run. IsJournaledRun Spoken b commits speakers there (left_in run) (log_in run)))
-    same run)
 
 -- who reads the log has seen nothing yet
 abbrev pub IsUnread : TableRecord → TokenRecord → Type 0

@@ -2,10 +2,10 @@
 use Rattle.std.proofs.Common.{◌≡◌, ◌≤◌, ◌⊎◌, ℕ, List, [], ◌∷◌, Bool, Option, None, Some, Result, Ok, Err, inl, inr, ap}
 use Rattle.std.proofs.Common.{arith, sym, ◌∙◌}
 use Rattle.std.proofs.Common.{false, refl, subst, true}
-use Rattle.std.specs.Prelude.{◌≢◌, All, IfErr, IfSome, IsSome, IsTrue, MatchOption, is_some, slice_get}
+use Rattle.std.specs.Prelude.{◌≢◌, All, IfErr, IfSome, IsNone, IsSome, IsTrue, MatchOption, is_some, slice_get}
 use Rattle.std.specs.Option.{option_map}
 use Rattle.journal.specs.Groups.{recovered}
-use Rattle.journal_opening.specs.Kept.{HasCommits, IsKnown}
+use Rattle.journal_opening.specs.Kept.{HasCommits}
 use Rattle.journal_opening.specs.Marks.{AreMarks, HaveChecksums}
 use Rattle.journal_opening.specs.Opens.{IsNotNew, TellsStartFault}
 use Rattle.journal_opening.specs.Status.{kept_status, opening_status}
@@ -14,7 +14,7 @@ use Rattle.journal_opening.specs.declared.fault.OpeningFault.TheVariants as open
 use Rattle.journal_opening.specs.declared.start.JournalStart.{JournalStart}
 use Rattle.journal_opening.specs.declared.start.JournalStart.TheVariants as start
 use Rattle.row_store.specs.History.{CommitRecord}
-use Rattle.serve_command.specs.Journals.{AreOnDisk, AreRefused, GoesOn, GoesOnFrom, IsRefusedFile, Journal, RefusesFile}
+use Rattle.serve_command.specs.Journals.{AreOnDisk, AreRefused, IsRefusedFile, Journal, RefusesFile}
 use Rattle.serve_command.specs.declared.runs.KeptLog.{KeptLog}
 use Rattle.ssb_base.specs.Base.{Tables}
 use Rattle.ssb_files.specs.Loaded.{AreRefusedToServe, IsLoadedToServe}
@@ -31,7 +31,6 @@ use Rattle.ssb_questions.specs.declared.query.Query.{Query}
 use Rattle.ssb_questions.specs.declared.value.Value.{Value}
 use Rattle.ssb_schema.specs.declared.table.Table.{Table}
 use Rattle.ssb_serving.proofs.PlaceLaws.{all_at}
-use Rattle.history.specs.Tokens.{TokenRecord}
 
 -- what was read of a file are the commits that it keeps
 pub has_kept : (marks : List TableMark) (file : List ℕ) (kept : KeptCommits) → IsKept marks (recovered file) kept
@@ -151,20 +150,29 @@ told_is_kept may_leave seen told end disk log left place one Well is few here sa
     kept_on_disk may_leave seen end disk log (told one) Well
     (told_is_kept_here may_leave seen told end log left place one is few here) same well
 
+false_not_true : false ≡ true → ⊥
+false_not_true is = absurd cc
+
 -- a journal was written to its end, where there is one
-pub all_written : {D : Type 0} (end : Option (KeptLog D)) (written : Bool)
-    → MatchOption end (written ≡ true) (λ k. written ≡ k.was_written) → IsTrue written
+pub all_written : {D : Type 0} (end : Option (KeptLog D)) (written took : Bool)
+    → MatchOption end (written ≡ took) (λ k. written ≡ true → k.was_written ≡ true) → IsTrue written
     → IfSome end (λ k. IsTrue k.was_written)
-all_written None written is whole = tt
-all_written (Some k) written is whole = sym is ∙ whole
+all_written None written took is whole = tt
+all_written (Some k) written took is whole = is whole
 
 -- or there is one
-pub one_unwritten : {D X Y : Type 0} (end : Option (KeptLog D)) (written : Bool) (place : Option X) (f : X → Y)
-    → MatchOption end (written ≡ true) (λ k. written ≡ k.was_written) → written ≡ false
-    → is_some end ≡ is_some place → IsSome (option_map f place)
-one_unwritten None written place f is not same = absurd cc
-one_unwritten (Some k) written None f is not same = absurd cc
-one_unwritten (Some k) written (Some x) f is not same = refl
+pub one_unwritten : {D X Y : Type 0} (end : Option (KeptLog D)) (written took : Bool) (place : Option X) (f : X → Y)
+    → MatchOption end (written ≡ took) (λ k. written ≡ true → k.was_written ≡ true) → written ≡ false
+    → (IsNone place → took ≡ true) → is_some end ≡ is_some place → IsSome (option_map f place)
+one_unwritten None written took None f is not all same = absurd (false_not_true (sym not ∙ is ∙ all refl))
+one_unwritten None written took (Some x) f is not all same = absurd cc
+one_unwritten (Some k) written took None f is not all same = absurd cc
+one_unwritten (Some k) written took (Some x) f is not all same = refl
+
+-- there is none
+pub none_placed : {X Y : Type 0} (place : Option X) (f : X → Y) → IsNone (option_map f place) → IsNone place
+none_placed None f is = refl
+none_placed (Some x) f is = absurd cc
 
 -- the journal's disk is there, where a journal is
 pub disk_there : {D : Type 0} (end : Option (KeptLog D)) (disk : Option D) → disk ≡ option_map (λ k. k.disk) end

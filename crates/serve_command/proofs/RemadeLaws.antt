@@ -1,6 +1,6 @@
 -- A journal's file that is read while its commits are made again: who takes part, and what is told of the file.
-use Rattle.std.proofs.Common.{◌≡◌, ℕ, ◌+◌, ◌<◌, ◌≤◌, List, [], ◌∷◌, ◌++◌, length, get_or, set, Option, None, Some, refl, sym, ap}
-use Rattle.std.proofs.Common.{◌∙◌, subst, arith, inl, inr, ◌⊎◌, drop, append-nil}
+use Rattle.std.proofs.Common.{◌≡◌, ℕ, List, [], ◌∷◌, ◌++◌, length, get_or, set, Option, None, Some, refl, sym, ap}
+use Rattle.std.proofs.Common.{◌∙◌, subst, arith, inl, inr, drop, append-nil}
 use Rattle.std.specs.Prelude.{◌≢◌, All, IfSome, false, nat_eq}
 use Rattle.std.proofs.Math.Seq.{drop-append_seam}
 use Rattle.std.proofs.lemmas.List.Elements.{All-nil, All-cons, All-head, All-tail}
@@ -239,19 +239,6 @@ pub not_opened : (base : Tables) (marks : List TableMark) (start : JournalStart)
 not_opened base marks start path dispatchers None why is = record { file = []; is_file = tt; tells = is }
 not_opened base marks start path dispatchers (Some file) why is = record { file = file; is_file = refl; tells = is }
 
--- over the same base and the same file
-pub not_remade_over : (base other : Tables) (marks others : List TableMark) (start starts : JournalStart)
-    (path paths : List ℕ) (dispatchers : ℕ) (known now : Option (List ℕ)) (why : ServeRefusal) → base ≡ other
-    → marks ≡ others → start ≡ starts → path ≡ paths → known ≡ now
-    → IsNotRemade base marks start path dispatchers known why → IsNotRemade other others starts paths dispatchers now why
-not_remade_over base other marks others start starts path paths dispatchers known now why same same_marks same_start
-    same_path same_file is =
-    subst (λ k. IsNotRemade other others starts paths dispatchers k why) same_file
-    (subst (λ p. IsNotRemade other others starts p dispatchers known why) same_path
-    (subst (λ s. IsNotRemade other others s path dispatchers known why) same_start
-    (subst (λ m. IsNotRemade other m start path dispatchers known why) same_marks
-    (subst (λ b. IsNotRemade b marks start path dispatchers known why) same is))))
-
 -- what is told with status 1 is of a refused file
 pub refused_remade : (base : Tables) (marks : List TableMark) (start : JournalStart) (path : List ℕ) (dispatchers : ℕ)
     (known : Option (List ℕ)) (why : ServeRefusal) → IsNotRemade base marks start path dispatchers known why
@@ -285,19 +272,3 @@ refused_remade base marks start path dispatchers known (refusal.NotServed fault.
     absurd (omega (arith, status))
 refused_remade base marks start path dispatchers known (refusal.NotServed fault.OutOfMemory) is status =
     absurd (omega (arith, status))
-
--- and no word was wrong
-pub remade_no_words : (base : Tables) (marks : List TableMark) (start : JournalStart) (path : List ℕ) (dispatchers : ℕ)
-    (known : Option (List ℕ)) (why : ServeRefusal) → IsNotRemade base marks start path dispatchers known why
-    → refusal_status why ≢ 2
-remade_no_words base marks start path dispatchers known refusal.TooManyClients is = absurd is.tells
-remade_no_words base marks start path dispatchers known (refusal.Journal why) is = opening_no_words why
-remade_no_words base marks start path dispatchers known (refusal.NotServed why) is = journaled_no_words why
-
--- where the commits were made again, nothing is refused
-pub unserved_status : (why : JournaledFault) → IsUnservedFault why → journaled_status why ≡ 4
-unserved_status (fault.NotRun why) is = absurd is
-unserved_status (fault.Replay why) is = absurd is
-unserved_status fault.Disturbed is = refl
-unserved_status fault.Write is = refl
-unserved_status fault.OutOfMemory is = refl

@@ -2,7 +2,7 @@
 use Rattle.std.proofs.Common.{◌≡◌, ◌∙◌, ◌<◌, ◌⊎◌, ℕ, ◌+◌, List, [], ◌∷◌, ◌++◌, length, Option, None, Some, Result, Ok}
 use Rattle.std.proofs.Common.{Err}
 use Rattle.std.proofs.Common.{Bool, ap, arith, length-append, refl, subst, sym}
-use Rattle.std.specs.Prelude.{◌≢◌, All, IfOk, IsErr, IsOk, IsSome, IsTrue, slice_get}
+use Rattle.std.specs.Prelude.{◌≢◌, All, IfOk, IsErr, IsNone, IsOk, IsSome, IsTrue, slice_get, true}
 use Rattle.std.specs.List.{AllPass, list_all}
 use Rattle.std.proofs.lemmas.List.Sums.{AllPass-from_list_all}
 use Rattle.std.proofs.lemmas.Option.{slice_get_within}
@@ -17,7 +17,7 @@ use Rattle.row_store.specs.Legal.{IsLegal}
 use Rattle.serve_command.specs.Journals.{GoesOnFrom, IsMet, Journal, clients_in}
 use Rattle.serve_command.specs.Served.{EndsAlone, HasEndedAlone, HasHadSessions, IsRunOver, IsServedBy, IsServer}
 use Rattle.serve_command.specs.Served.{ServesClients}
-use Rattle.serve_command.specs.Sessions.{HasLeft, HasStreamed, most_told}
+use Rattle.serve_command.specs.Sessions.{HasLeft, HasStreamed}
 use Rattle.serve_command.specs.declared.speakers.PathLeft.{PathLeft}
 use Rattle.ssb_base.specs.Base.{Tables}
 use Rattle.ssb_files.specs.Loaded.{IsLoadedToServe}
@@ -191,15 +191,15 @@ is_alone {L = L} Spoken journal texts speakers speaker dispatchers left one log 
 
 -- its session, by its number
 pub ended_alone : {S L : Type 0} (Spoken : S → TokenRecord → TokenRecord → L → Type 0)
-    (outcome : Result Served SessionError) (journal : Journal) (texts : Table → List ℕ) (dispatchers told : ℕ)
+    (outcome : Result Served SessionError) (takes : Bool) (journal : Journal) (texts : Table → List ℕ) (dispatchers told : ℕ)
     (unread before after : Option (List ℕ)) (AreKept : List CommitRecord → ℕ → Type 0) (log : List CommitRecord)
     (speaker : S) (one : L) (alone : IsAlone Spoken journal texts dispatchers log speaker one)
-    → HasStreamed (number_of alone.by.client.who) alone.by.client alone.closed unread before after outcome told
-    → AreKept log told → HasEndedAlone outcome journal texts dispatchers unread before after AreKept
-ended_alone Spoken outcome journal texts dispatchers told unread before after AreKept log speaker one alone had kept =
+    → HasStreamed (number_of alone.by.client.who) alone.by.client alone.closed unread before after outcome told takes
+    → AreKept log told → HasEndedAlone outcome takes journal texts dispatchers unread before after AreKept
+ended_alone Spoken outcome takes journal texts dispatchers told unread before after AreKept log speaker one alone had kept =
     let by = alone.by in
     let streamed = subst
-    (λ (w : Who). HasStreamed (number_of w) by.client alone.closed unread before after outcome told)
+    (λ (w : Who). HasStreamed (number_of w) by.client alone.closed unread before after outcome told takes)
     (met_number journal alone.server.table alone.server.kept 1 by.client by.met) had in record {
       server = alone.server;
       client = by.client;
@@ -216,14 +216,16 @@ ended_alone Spoken outcome journal texts dispatchers told unread before after Ar
     }
 
 -- with an exit status
-pub ends_alone : (outcome : Result Served SessionError) (status : ℕ) (journal : Journal) (texts : Table → List ℕ)
+pub ends_alone : (outcome : Result Served SessionError) (takes : Bool) (status : ℕ) (journal : Journal) (texts : Table → List ℕ)
     (dispatchers : ℕ) (unread before after : Option (List ℕ)) (AreKept AreThen : List CommitRecord → ℕ → Type 0)
-    → HasEndedAlone outcome journal texts dispatchers unread before after AreKept
+    → HasEndedAlone outcome takes journal texts dispatchers unread before after AreKept
     → ((log : List CommitRecord) (told : ℕ) → AreKept log told → AreThen log told) → (status ≡ 0 → IsOk outcome)
-    → (status ≢ 0 → IsErr outcome ⊎ IsSome journal)
+    → (status ≢ 0 → IsErr outcome ⊎ IsSome journal) → ((status ≡ 0) ⊎ IsNone journal → takes ≡ true)
     → EndsAlone status journal texts dispatchers unread before after AreThen
-ends_alone outcome status journal texts dispatchers unread before after AreKept AreThen is still well broke = record {
+ends_alone outcome takes status journal texts dispatchers unread before after AreKept AreThen is still well broke took = record {
   outcome = outcome;
+  takes = takes;
+  took = took;
   alone = record {
     server = is.server;
     client = is.client;
@@ -254,8 +256,8 @@ had_at : {S : Type 0} (status : ℕ) (journal : Journal) (table : TableRecord) (
     → IsServedBy (λ (s : S) old new one. HasLeft (number_of old.who) old new one) journal table kept log (place + 1)
     speaker closed left
     → AreKept log left.told → (status ≡ 0 → IsTrue left.was_served)
-    → HasHadSessions status journal table kept log AreKept (place + 1) closed
-had_at status journal table kept log AreKept place speaker closed left by told well =
+    → ((status ≡ 0) ⊎ IsNone journal → left.took_refreshes ≡ true) → HasHadSessions status journal table kept log AreKept (place + 1) closed
+had_at status journal table kept log AreKept place speaker closed left by told well took =
     let had = subst (λ (w : Who). HasLeft (number_of w) by.client closed left)
     (met_number journal table kept (place + 1) by.client by.met) by.spoken in record {
       client = by.client;
@@ -263,6 +265,7 @@ had_at status journal table kept log AreKept place speaker closed left by told w
       sessions = had.sessions;
       are = had.are;
       well = λ zero. had.ended (well zero);
+      took = λ so. had.took_are (took so);
       begins = by.begins;
       made = by.made;
       told = subst (AreKept log) had.told_is told;
@@ -274,8 +277,9 @@ serves_all : {S : Type 0} (status : ℕ) (journal : Journal) (texts : Table → 
     log
     → ((place : ℕ) (one : PathLeft) → slice_get left place ≡ Some one → AreKept log one.told)
     → (status ≡ 0 → All (λ one. IsTrue one.was_served) left)
+    → ((status ≡ 0) ⊎ IsNone journal → All (λ one. one.took_refreshes ≡ true) left)
     → ServesClients status journal texts (length speakers) dispatchers AreKept
-serves_all status journal texts speakers dispatchers left log AreKept over told well = record {
+serves_all status journal texts speakers dispatchers left log AreKept over told well took = record {
   server = over.server;
   served = λ i client within here.
       let speaker = get_below speakers i within in
@@ -283,7 +287,8 @@ serves_all status journal texts speakers dispatchers left log AreKept over told 
       had_at status journal over.server.table over.server.kept over.server.log AreKept i speaker.0 client one.0
       (over.served i speaker.0 client one.0 speaker.1 here one.1)
       (subst (λ (l : List CommitRecord). AreKept l one.0.told) (sym over.log_is) (told i one.0 one.1))
-      (λ zero. all_at (λ (l : PathLeft). IsTrue l.was_served) left i one.0 (well zero) one.1);
+      (λ zero. all_at (λ (l : PathLeft). IsTrue l.was_served) left i one.0 (well zero) one.1)
+      (λ so. all_at (λ (l : PathLeft). l.took_refreshes ≡ true) left i one.0 (took so) one.1);
 }
 
 -- all clients of a run
@@ -294,7 +299,8 @@ pub serves_clients : {S : Type 0} (status : ℕ) (journal : Journal) (texts : Ta
     log → length speakers ≡ clients
     → ((place : ℕ) (one : PathLeft) → slice_get left place ≡ Some one → AreKept log one.told)
     → (status ≡ 0 → All (λ one. IsTrue one.was_served) left)
+    → ((status ≡ 0) ⊎ IsNone journal → All (λ one. one.took_refreshes ≡ true) left)
     → ServesClients status journal texts clients dispatchers AreKept
-serves_clients status journal texts speakers clients dispatchers left log AreKept over many told well =
+serves_clients status journal texts speakers clients dispatchers left log AreKept over many told well took =
     subst (λ (n : ℕ). ServesClients status journal texts n dispatchers AreKept) many
-    (serves_all status journal texts speakers dispatchers left log AreKept over told well)
+    (serves_all status journal texts speakers dispatchers left log AreKept over told well took)

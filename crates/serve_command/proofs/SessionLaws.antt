@@ -1,5 +1,5 @@
 -- A session over a reader and a writer, one that was not begun, and sessions one after another.
-use Rattle.std.proofs.Common.{◌≡◌, ◌∙◌, ℕ, max, true, false, List, [], ◌∷◌, Option, None, Some, Result, Ok, Err}
+use Rattle.std.proofs.Common.{◌≡◌, ◌∙◌, ℕ, Bool, max, true, false, ◌&&◌, List, [], ◌∷◌, Option, None, Some, Result, Ok, Err}
 use Rattle.std.proofs.Common.{inl, inr, refl, sym, subst, ap, arith}
 use Rattle.std.proofs.Math.Nat.{max-zero}
 use Rattle.std.specs.Prelude.{IfOk, IfErr, OnOk, IsOk}
@@ -9,14 +9,14 @@ use Rattle.std.specs.declared.io.buffered.BufReader.{BufReader}
 use Rattle.history.specs.Tokens.{TokenRecord}
 use Rattle.serve_command.specs.Sessions.{AreSessions, HasConversed, HasEnded, HasHad, HasLeft, HasServedOnce}
 use Rattle.serve_command.specs.Sessions.{HasStreamed, most_told}
-use Rattle.serve_command.specs.declared.speakers.SessionEnd.{SessionEnd}
+use Rattle.serve_command.specs.declared.speakers.OnceLeft.{OnceLeft}
 use Rattle.serve_command.specs.declared.speakers.SessionEnd.TheVariants.{Last}
 use Rattle.ssb_script.proofs.RequestLaws.{nothing_is_unfinished}
 use Rattle.ssb_text.proofs.WrittenLaws.{appends_none}
 use Rattle.stream_sessions.specs.Conversation.{Converses, ConversesUntil}
 use Rattle.stream_sessions.specs.Events.{Event, most_covered}
 use Rattle.stream_sessions.specs.Session.{Serves, Breaks}
-use Rattle.stream_sessions.specs.Speaking.{InSession, first_format, speaking}
+use Rattle.stream_sessions.specs.Speaking.{InSession, first_format, manner_of, speaking}
 use Rattle.stream_sessions.specs.declared.outcome.Served.{Served}
 use Rattle.stream_sessions.specs.declared.outcome.SessionError.{SessionError}
 use Rattle.stream_sessions.specs.declared.outcome.SessionFault.TheVariants as fault
@@ -36,9 +36,9 @@ nothing_read : (unread : Option (List ℕ)) → Consumes unread unread []
 nothing_read None = tt
 nothing_read (Some bytes) = refl
 
-not_begun : (number : ℕ) (client : TokenRecord) (unread before : Option (List ℕ))
-    → HasEnded (Err (record { answered = 0; fault = fault.OutOfMemory })) number client client unread before before
-not_begun number client unread before = (
+not_begun : (takes : Bool) (number : ℕ) (client : TokenRecord) (unread before : Option (List ℕ))
+    → HasEnded (Err (record { answered = 0; fault = fault.OutOfMemory })) takes number client client unread before before
+not_begun takes number client unread before = (
   unread,
   (
     first_format,
@@ -50,7 +50,7 @@ not_begun number client unread before = (
         requests = [];
         rest = [];
         cut = record { joined = refl; each = tt; unfinished = nothing_is_unfinished };
-        between = speaking client first_format;
+        between = speaking client (manner_of takes first_format);
         replies = [];
         answered = refl;
         count = refl;
@@ -64,130 +64,154 @@ not_begun number client unread before = (
 )
 
 -- nothing was read, written or done
-pub nothing_streamed : (number : ℕ) (client : TokenRecord) (unread before : Option (List ℕ))
+pub nothing_streamed : (takes : Bool) (number : ℕ) (client : TokenRecord) (unread before : Option (List ℕ))
     → HasStreamed number client client unread before before
-    (Err (record { answered = 0; fault = fault.OutOfMemory })) 0
-nothing_streamed number client unread before = record {
-  ended = not_begun number client unread before;
+    (Err (record { answered = 0; fault = fault.OutOfMemory })) 0 takes
+nothing_streamed takes number client unread before = record {
+  ended = not_begun takes number client unread before;
   events = [];
   conversed = (first_format, (false, record { more = []; behind = refl; is = (refl, refl, refl) }));
   told_is = refl;
 }
 
 -- how a session ended over a wire, of which the other bytes are known
-has_ended : (outcome : Result Served SessionError) (number : ℕ) (old new : TokenRecord)
+has_ended : (outcome : Result Served SessionError) (takes : Bool) (number : ℕ) (old new : TokenRecord)
     (unread was rest before began after now : Option (List ℕ)) → was ≡ unread → began ≡ before → now ≡ after
-    → IfOk outcome (λ served. InSession old new (λ first last. Serves served number first last was rest began now))
-    → IfErr outcome (λ error. InSession old new (λ first last. Breaks error number first last was rest began now))
-    → HasEnded outcome number old new unread before after
-has_ended (Ok served) number old new unread was rest before began after now same same_too same_then serves breaks = (
+    → IfOk outcome (λ served. InSession takes old new (λ first last. Serves served number first last was rest began now))
+    → IfErr outcome (λ error. InSession takes old new (λ first last. Breaks error number first last was rest began now))
+    → HasEnded outcome takes number old new unread before after
+has_ended (Ok served) takes number old new unread was rest before began after now same same_too same_then serves breaks = (
   rest,
-  subst (λ (w : Option (List ℕ)). InSession old new (λ first last. Serves served number first last w rest before after))
+  subst (λ (w : Option (List ℕ)). InSession takes old new (λ first last. Serves served number first last w rest before after))
       same
       (subst
-      (λ (w : Option (List ℕ)). InSession old new (λ first last. Serves served number first last was rest w after))
+      (λ (w : Option (List ℕ)). InSession takes old new (λ first last. Serves served number first last was rest w after))
       same_too
       (subst
-      (λ (w : Option (List ℕ)). InSession old new (λ first last. Serves served number first last was rest began w))
+      (λ (w : Option (List ℕ)). InSession takes old new (λ first last. Serves served number first last was rest began w))
       same_then serves)),
 )
-has_ended (Err error) number old new unread was rest before began after now same same_too same_then serves breaks = (
+has_ended (Err error) takes number old new unread was rest before began after now same same_too same_then serves breaks = (
   rest,
-  subst (λ (w : Option (List ℕ)). InSession old new (λ first last. Breaks error number first last w rest before after))
+  subst (λ (w : Option (List ℕ)). InSession takes old new (λ first last. Breaks error number first last w rest before after))
       same
       (subst
-      (λ (w : Option (List ℕ)). InSession old new (λ first last. Breaks error number first last was rest w after))
+      (λ (w : Option (List ℕ)). InSession takes old new (λ first last. Breaks error number first last was rest w after))
       same_too
       (subst
-      (λ (w : Option (List ℕ)). InSession old new (λ first last. Breaks error number first last was rest began w))
+      (λ (w : Option (List ℕ)). InSession takes old new (λ first last. Breaks error number first last was rest began w))
       same_then breaks)),
 )
 
 -- and what went over it
-has_conversed : (outcome : Result Served SessionError) (number : ℕ) (old new : TokenRecord) (before after : List Event)
-    → before ≡ [] → OnOk outcome (InSession old new (λ first last. Converses true number first last before after []))
+has_conversed : (outcome : Result Served SessionError) (takes : Bool) (number : ℕ) (old new : TokenRecord) (before after : List Event)
+    → before ≡ [] → OnOk outcome (InSession takes old new (λ first last. Converses true number first last before after []))
     → IfErr outcome
-    (λ error. InSession old new (λ first last. ConversesUntil error.fault number first last before after []))
-    → HasConversed outcome number old new [] after
-has_conversed (Ok served) number old new before after none whole part =
-    subst (λ (es : List Event). InSession old new (λ first last. Converses true number first last es after [])) none
+    (λ error. InSession takes old new (λ first last. ConversesUntil error.fault number first last before after []))
+    → HasConversed outcome takes number old new [] after
+has_conversed (Ok served) takes number old new before after none whole part =
+    subst (λ (es : List Event). InSession takes old new (λ first last. Converses true number first last es after [])) none
     whole
-has_conversed (Err error) number old new before after none whole part =
+has_conversed (Err error) takes number old new before after none whole part =
     subst
-    (λ (es : List Event). InSession old new (λ first last. ConversesUntil error.fault number first last es after []))
+    (λ (es : List Event). InSession takes old new (λ first last. ConversesUntil error.fault number first last es after []))
     none part
 
 -- a session over a wire that was made of a reader and a writer
-pub has_streamed : (outcome : Result Served SessionError) (number told : ℕ) (old new : TokenRecord)
+pub has_streamed : (outcome : Result Served SessionError) (takes : Bool) (number told : ℕ) (old new : TokenRecord)
     (unread before after was rest began now : Option (List ℕ)) (start events : List Event) → was ≡ unread
     → began ≡ before → start ≡ [] → after ≡ now
-    → IfOk outcome (λ served. InSession old new (λ first last. Serves served number first last was rest began now))
-    → IfErr outcome (λ error. InSession old new (λ first last. Breaks error number first last was rest began now))
-    → OnOk outcome (InSession old new (λ first last. Converses true number first last start events []))
+    → IfOk outcome (λ served. InSession takes old new (λ first last. Serves served number first last was rest began now))
+    → IfErr outcome (λ error. InSession takes old new (λ first last. Breaks error number first last was rest began now))
+    → OnOk outcome (InSession takes old new (λ first last. Converses true number first last start events []))
     → IfErr outcome
-    (λ error. InSession old new (λ first last. ConversesUntil error.fault number first last start events []))
-    → told ≡ most_covered events → HasStreamed number old new unread before after outcome told
-has_streamed outcome number told old new unread before after was rest began now start events same same_too none
+    (λ error. InSession takes old new (λ first last. ConversesUntil error.fault number first last start events []))
+    → told ≡ most_covered events → HasStreamed number old new unread before after outcome told takes
+has_streamed outcome takes number told old new unread before after was rest began now start events same same_too none
     same_then serves breaks whole part told_is = record {
-      ended = has_ended outcome number old new unread was rest before began after now same same_too (sym same_then)
+      ended = has_ended outcome takes number old new unread was rest before began after now same same_too (sym same_then)
           serves breaks;
       events = events;
-      conversed = has_conversed outcome number old new start events none whole part;
+      conversed = has_conversed outcome takes number old new start events none whole part;
       told_is = told_is;
     }
 
 -- and what follows it
-pub served_once : (outcome : Result Served SessionError) (number told : ℕ) (old new : TokenRecord)
-    (unread before after : Option (List ℕ)) (end : SessionEnd)
-    → HasStreamed number old new unread before after outcome told → (end ≡ Last → IsOk outcome)
-    → HasServedOnce number old new end told
-served_once outcome number told old new unread before after end streamed last = inl (
-  record { outcome = outcome; unread = unread; before = before; after = after; events = streamed.events },
+pub served_once : (outcome : Result Served SessionError) (number : ℕ) (old new : TokenRecord)
+    (unread before after : Option (List ℕ)) (once : OnceLeft)
+    → HasStreamed number old new unread before after outcome once.told once.took_refreshes
+    → (once.end ≡ Last → IsOk outcome) → HasServedOnce number old new once
+served_once outcome number old new unread before after once streamed last = inl (
+  record {
+    outcome = outcome;
+    takes_refreshes = once.took_refreshes;
+    unread = unread;
+    before = before;
+    after = after;
+    events = streamed.events;
+  },
   record { ended = streamed.ended; conversed = streamed.conversed },
   last,
   streamed.told_is,
+  refl,
 )
 
 -- the same of the same number
-pub of_number : (was number told : ℕ) (old new : TokenRecord) (end : SessionEnd) → was ≡ number
-    → HasServedOnce was old new end told → HasServedOnce number old new end told
-of_number was number told old new end same once = subst (λ (n : ℕ). HasServedOnce n old new end told) same once
+pub of_number : (was number : ℕ) (old new : TokenRecord) (once : OnceLeft) → was ≡ number
+    → HasServedOnce was old new once → HasServedOnce number old new once
+of_number was number old new once same served = subst (λ (n : ℕ). HasServedOnce n old new once) same served
 
 -- no session so far
-pub none_had : (number : ℕ) (old : TokenRecord) → HasHad number old old 0
-none_had number old = record { sessions = []; are = refl; told_is = refl }
+pub none_had : (number : ℕ) (old : TokenRecord) → HasHad number old old 0 true
+none_had number old = record { sessions = []; are = refl; told_is = refl; took_are = λ is. tt }
+
+both_true : (a b : Bool) → (a && b) ≡ true → (a ≡ true) × (b ≡ true)
+both_true true true is = (refl, refl)
+both_true true false is = absurd cc
+both_true false b is = absurd cc
 
 -- one more, or none
-pub one_more : (number told more most : ℕ) (old between new : TokenRecord) (end : SessionEnd) → most ≡ max told more
-    → HasHad number old between told → HasServedOnce number between new end more → HasHad number old new most
-one_more number told more most old between new end is had (inl one) = record {
+pub one_more : (number told most : ℕ) (took now : Bool) (old between new : TokenRecord) (once : OnceLeft)
+    → most ≡ max told once.told → now ≡ (took && once.took_refreshes) → HasHad number old between told took
+    → HasServedOnce number between new once → HasHad number old new most now
+one_more number told most took now old between new once is took_is had (inl one) = record {
   sessions = one.0 ∷ had.sessions;
   are = (between, had.are, one.1);
-  told_is = is ∙ ap (λ (n : ℕ). max n more) had.told_is ∙ ap (λ (n : ℕ). max (most_told had.sessions) n) one.3;
+  told_is = is ∙ ap (λ (n : ℕ). max n once.told) had.told_is
+      ∙ ap (λ (n : ℕ). max (most_told had.sessions) n) one.3;
+  took_are = λ yes.
+      let both = both_true took once.took_refreshes (sym took_is ∙ yes) in
+      (one.4 ∙ both.1, had.took_are both.0);
 }
-one_more number told more most old between new end is had (inr none) = record {
+one_more number told most took now old between new once is took_is had (inr none) = record {
   sessions = had.sessions;
   are = subst (λ (now : TokenRecord). AreSessions number old had.sessions now) (sym none.1) had.are;
   told_is = is ∙ ap (λ (n : ℕ). max told n) none.2 ∙ max-zero told ∙ had.told_is;
+  took_are = λ yes. had.took_are (both_true took once.took_refreshes (sym took_is ∙ yes)).0;
 }
 
 -- the last of them
-pub left_at_last : (number told more most : ℕ) (old between new : TokenRecord) (end : SessionEnd) → most ≡ max told more
-    → HasHad number old between told → HasServedOnce number between new end more → end ≡ Last
-    → HasLeft number old new (record { was_served = true; told = most })
-left_at_last number told more most old between new end is had (inl one) last = record {
-  sessions = one.0 ∷ had.sessions;
-  are = (between, had.are, one.1);
-  told_is = is ∙ ap (λ (n : ℕ). max n more) had.told_is ∙ ap (λ (n : ℕ). max (most_told had.sessions) n) one.3;
-  ended = λ yes. one.2 last;
-}
-left_at_last number told more most old between new end is had (inr none) last = absurd (none.0 last)
+pub left_at_last : (number told most : ℕ) (took now : Bool) (old between new : TokenRecord) (once : OnceLeft)
+    → most ≡ max told once.told → now ≡ (took && once.took_refreshes) → HasHad number old between told took
+    → HasServedOnce number between new once → once.end ≡ Last
+    → HasLeft number old new (record { was_served = true; told = most; took_refreshes = now })
+unfolding one_more
+left_at_last number told most took now old between new once is took_is had (inl one) last =
+    let has = one_more number told most took now old between new once is took_is had (inl one) in record {
+      sessions = has.sessions;
+      are = has.are;
+      told_is = has.told_is;
+      took_are = has.took_are;
+      ended = λ yes. one.2 last;
+    }
+left_at_last number told most took now old between new once is took_is had (inr none) last = absurd (none.0 last)
 
-pub left_broken : (number told : ℕ) (old new : TokenRecord) → HasHad number old new told
-    → HasLeft number old new (record { was_served = false; told = told })
-left_broken number told old new had = record {
+pub left_broken : (number told : ℕ) (took : Bool) (old new : TokenRecord) → HasHad number old new told took
+    → HasLeft number old new (record { was_served = false; told = told; took_refreshes = took })
+left_broken number told took old new had = record {
   sessions = had.sessions;
   are = had.are;
   told_is = had.told_is;
+  took_are = had.took_are;
   ended = λ is. absurd cc;
 }

@@ -132,9 +132,6 @@ is_not_opened Taken Missing (file.Io error) is taken missing = absurd (omega (ar
 pub opening_no_words : (why : OpeningFault) → opening_status why ≢ 2
 opening_no_words why = no_words (opening_status why) (of_opening why)
 
-pub journaled_no_words : (why : JournaledFault) → journaled_status why ≢ 2
-journaled_no_words why = no_words (journaled_status why) (of_journaled why)
-
 a_fault : (status : ℕ) → IsJournalStatus status → IsFaultStatus status
 a_fault status (inl is) = inl is
 a_fault status (inr is) = inr (inr is)

@@ -1,6 +1,6 @@
 -- What a server goes on from, with a journal or without one; and the files that are refused. Without a journal it goes
 -- on from no commits.
-use Rattle.std.specs.Prelude.{◌≡◌, ◌⊎◌, ℕ, ◌+◌, List, [], Option, None, Some, IfSome}
+use Rattle.std.specs.Prelude.{◌≡◌, ◌⊎◌, ℕ, ◌+◌, List, [], Option, None, Some}
 use Rattle.history.specs.Tokens.{TableRecord, TokenRecord, new_token}
 use Rattle.history_core.specs.declared.event.Who.TheVariants.{Client}
 use Rattle.journal.specs.Groups.{behind, recovered}

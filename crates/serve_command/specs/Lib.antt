@@ -1,3 +1,4 @@
+pub mod BegunFiles
 pub mod Status
 pub mod Reading
 pub mod Seated

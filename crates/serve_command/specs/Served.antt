@@ -1,6 +1,6 @@
 -- What a live server over table files leaves, with a journal or without one.
 use Rattle.std.specs.Prelude.{◌≡◌, ◌≢◌, ◌<◌, ◌≤◌, ◌⊎◌, ℕ, ◌+◌, List, [], length, Option, Some, Result, IsErr, IsOk}
-use Rattle.std.specs.Prelude.{IsSome, slice_get}
+use Rattle.std.specs.Prelude.{Bool, IsNone, IsSome, slice_get, true}
 use Rattle.history.specs.Closing.{IsLogOf}
 use Rattle.history.specs.Tokens.{TableRecord, TokenRecord}
 use Rattle.history_core.specs.OwnCommits.{IsOfClients, commits_of}
@@ -8,7 +8,8 @@ use Rattle.row_store.specs.History.{CommitRecord, IsPrefix}
 use Rattle.row_store.specs.Legal.{IsLegal}
 use Rattle.serve_command.specs.JournaledRun.{HasRested}
 use Rattle.serve_command.specs.Journals.{AreKeptIn, IsMet, Journal, clients_in, dispatchers_in}
-use Rattle.serve_command.specs.Sessions.{AreSessions, EndWell, HasConversed, HasEnded, SessionRecord, most_told}
+use Rattle.serve_command.specs.Sessions.{AreSessions, EndWell, HasConversed, HasEnded, SessionRecord, TookRefreshes}
+use Rattle.serve_command.specs.Sessions.{most_told}
 use Rattle.ssb_files.specs.Loaded.{IsLoadedToServe}
 use Rattle.ssb_schema.specs.declared.table.Table.{Table}
 use Rattle.stream_sessions.specs.Events.{Event, most_covered}
@@ -58,34 +59,37 @@ pub record IsRunOver {S L : Type 0} (Spoken : S → TokenRecord → TokenRecord 
         → slice_get server.closed i ≡ Some client → slice_get left i ≡ Some one
         → IsServedBy Spoken journal server.table server.kept server.log (i + 1) speaker client one
 
--- of such a server client 1 had the only session, which ended so; what went over its wire is a conversation. What it
--- sees at the end is a beginning of the log, and its commits are those of its number in the log. As many commits as it
--- was told of at most are kept
-pub record HasEndedAlone (outcome : Result Served SessionError) (journal : Journal) (texts : Table → List ℕ)
+-- of such a server client 1 had the only session, which took refreshes or did not, and ended so; what went over its wire
+-- is a conversation. What it sees at the end is a beginning of the log, and its commits are those of its number in the
+-- log. As many commits as it was told of at most are kept
+pub record HasEndedAlone (outcome : Result Served SessionError) (takes : Bool) (journal : Journal) (texts : Table → List ℕ)
     (dispatchers : ℕ) (unread before after : Option (List ℕ)) (AreKept : List CommitRecord → ℕ → Type 0) : Type 0 where
   pub server : IsServer journal texts 1 dispatchers
   pub client : TokenRecord
   pub closed : TokenRecord
   pub is_closed : slice_get server.closed 0 ≡ Some closed
   pub met : IsMet journal server.table server.kept 1 client
-  pub ended : HasEnded outcome 1 client closed unread before after
+  pub ended : HasEnded outcome takes 1 client closed unread before after
   pub events : List Event
-  pub conversed : HasConversed outcome 1 client closed [] events
+  pub conversed : HasConversed outcome takes 1 client closed [] events
   pub begins : IsPrefix closed.seen server.log
   pub made : closed.mine ≡ commits_of 1 server.log
   pub kept : AreKept server.log (most_covered events)
 
--- the same with an exit status: with 0 its session was served to its end, so that known bytes grow by all that was told.
--- Else it broke, and they grow by what was told before; or the journal could not be written to its end
+-- the same with an exit status: with 0 its session took refreshes and was served to its end, so that known bytes grow by
+-- all that was told. Else it broke, and they grow by what was told before; or the journal could not be written to its
+-- end. Without a journal it took refreshes
 pub record EndsAlone (status : ℕ) (journal : Journal) (texts : Table → List ℕ) (dispatchers : ℕ)
     (unread before after : Option (List ℕ)) (AreKept : List CommitRecord → ℕ → Type 0) : Type 0 where
   pub outcome : Result Served SessionError
-  pub alone : HasEndedAlone outcome journal texts dispatchers unread before after AreKept
+  pub takes : Bool
+  pub took : (status ≡ 0) ⊎ IsNone journal → takes ≡ true
+  pub alone : HasEndedAlone outcome takes journal texts dispatchers unread before after AreKept
   pub well : status ≡ 0 → IsOk outcome
   pub broke : status ≢ 0 → IsErr outcome ⊎ IsSome journal
 
--- a client of such a server had these sessions, and with status 0 the last of them was served to its end. What it sees
--- then is a beginning of the log, and its commits are those of its number in the log. As many commits as it was told of
+-- a client of such a server had these sessions, and with status 0 the last of them was served to its end; they took
+-- refreshes, with status 0, and without a journal. What it sees then is a beginning of the log, and its commits are those of its number in the log. As many commits as it was told of
 -- at most are kept
 pub record HasHadSessions (status : ℕ) (journal : Journal) (table : TableRecord) (kept log : List CommitRecord)
     (AreKept : List CommitRecord → ℕ → Type 0) (number : ℕ) (closed : TokenRecord) : Type 0 where
@@ -94,6 +98,7 @@ pub record HasHadSessions (status : ℕ) (journal : Journal) (table : TableRecor
   pub sessions : List SessionRecord
   pub are : AreSessions number client sessions closed
   pub well : status ≡ 0 → EndWell sessions
+  pub took : (status ≡ 0) ⊎ IsNone journal → TookRefreshes sessions
   pub begins : IsPrefix closed.seen log
   pub made : closed.mine ≡ commits_of number log
   pub told : AreKept log (most_told sessions)

@@ -9,8 +9,7 @@ use std::sync::Wait;
 use std::sync::atomic::{AtomicBool, Ordering};
 use stream_sessions::{Acknowledges, Evidence, NotAcknowledged};
 
-/// The evidence that commits are on the disk: it is made of an [`OnDisk`] alone, and that of an open journal that keeps
-/// them.
+/// The evidence that commits are on the disk: it is made of an [`OnDisk`] alone, and that of a journal that keeps them.
 #[derive(Drop)]
 pub struct Durable {
     on_disk: OnDisk,
@@ -25,6 +24,8 @@ impl Evidence for Durable {
 pub struct JournalAcknowledger<D: Disk + Drop, L: LogSource + Drop> {
     pub(crate) journal: SharedJournal<D, L>,
     pub(crate) failed: AtomicBool,
+    /// Whether commits can be appended to it.
+    pub(crate) takes_refreshes: bool,
 }
 
 impl<D: Disk + Drop, L: LogSource + Drop> Acknowledges<Durable> for JournalAcknowledger<D, L> {
@@ -45,5 +46,9 @@ impl<D: Disk + Drop, L: LogSource + Drop> Acknowledges<Durable> for JournalAckno
 
     fn has_failed(&self) -> bool {
         self.failed.load(Ordering::SeqCst)
+    }
+
+    fn takes_refreshes(&self) -> bool {
+        self.takes_refreshes
     }
 }

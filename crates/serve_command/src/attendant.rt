@@ -1,9 +1,10 @@
 //! The attendant: a thread beside those of the clients, which does what they cannot do while they wait.
 //!
 //! A client's thread that waits in the opening of one pipe can neither open the other nor tell whom it waits for. The
-//! attendant does both for all clients. It sleeps while nothing is due.
+//! attendant does both for all clients. Where the journal has failed, it lets go all that wait for their clients, so that
+//! they end. It sleeps while nothing is due.
 
-use crate::ends::{EndPaths, open_unread};
+use crate::ends::{EndPaths, let_go, open_unread};
 use std::alloc::{AllocError, Global};
 use std::io::{Print, Write};
 use std::rt::Files;
@@ -44,7 +45,8 @@ impl fmt::Display for Awaited {
 // A client, as the attendant knows it.
 #[derive(Drop)]
 struct Attended<O: Drop> {
-    // Where its output is.
+    // Where its input and its output are.
+    input: String,
     path: String,
     // Whom its thread waits for, and how many ticks it has waited.
     awaited: Option<Awaited>,
@@ -56,8 +58,9 @@ struct Attended<O: Drop> {
 }
 
 impl<O: Drop> Attended<O> {
-    fn new(path: String) -> Attended<O> {
+    fn new(input: String, path: String) -> Attended<O> {
         Attended {
+            input,
             path,
             awaited: None,
             ticks: 0,
@@ -105,21 +108,23 @@ impl<O: Drop> Attended<O> {
     }
 }
 
-// The client of the number, which counts from 1.
-fn client_of<O: Drop>(clients: &[Mutex<Attended<O>>], number: u64) -> Option<&Mutex<Attended<O>>> {
-    clients.get(number.checked_sub(1)? as usize)
+// What stands at the place of the number, which counts from 1.
+fn at_number<T>(all: &[T], number: u64) -> Option<&T> {
+    all.get(number.checked_sub(1)? as usize)
 }
 
 /// What the threads of the clients and their attendant share.
 #[derive(Drop)]
 pub struct Attendant<O: Drop> {
-    // By number from 1.
+    // By number from 1, and whether their threads wait in a read.
     clients: Vec<Mutex<Attended<O>>>,
+    reading: Vec<AtomicBool>,
     // Whether it is told whom they wait for.
     tells: bool,
     // Where the attendant sleeps.
     bell: Parker,
     has_begun: AtomicBool,
+    has_failed: AtomicBool,
     has_ended: AtomicBool,
 }
 
@@ -127,22 +132,27 @@ impl<O: Drop> Attendant<O> {
     /// An attendant of clients whose ends are there. It tells whom they wait for, or does not.
     pub fn new(alloc: Global, ends: &[EndPaths], tells: bool) -> Result<Attendant<O>, AllocError> {
         let mut clients = Vec::new(alloc);
+        let mut reading = Vec::new(alloc);
         for paths in ends {
+            let input = String::from_str(alloc, paths.input.as_str())?;
             let path = String::from_str(alloc, paths.output.as_str())?;
-            clients.push(Mutex::new(Attended::new(path)))?;
+            clients.push(Mutex::new(Attended::new(input, path)))?;
+            reading.push(AtomicBool::new(false))?;
         }
         Ok(Attendant {
             clients,
+            reading,
             tells,
             bell: Parker::new(),
             has_begun: AtomicBool::new(false),
+            has_failed: AtomicBool::new(false),
             has_ended: AtomicBool::new(false),
         })
     }
 
     /// Whether it opens the output of this client, when that is due, so that the client's thread need not.
     pub(crate) fn opens_later<R: Wait>(&self, rt: &R, number: u64) -> bool {
-        match client_of(self.clients.as_slice(), number) {
+        match at_number(self.clients.as_slice(), number) {
             Some(client) => client.lock(rt).is_openable && self.has_begun.load(Ordering::SeqCst),
             None => false,
         }
@@ -150,7 +160,7 @@ impl<O: Drop> Attendant<O> {
 
     /// Keeps the output of this client open with no reader, until its thread waits for nobody any more.
     pub(crate) fn hold<R: Wait>(&self, rt: &R, number: u64, unread: O) {
-        match client_of(self.clients.as_slice(), number) {
+        match at_number(self.clients.as_slice(), number) {
             Some(client) => client.lock(rt).hold(unread),
             None => unread.drop(),
         }
@@ -158,7 +168,7 @@ impl<O: Drop> Attendant<O> {
 
     /// The thread of this client waits for somebody from now on.
     pub(crate) fn awaits<R: Wait>(&self, rt: &R, number: u64, awaited: Awaited) {
-        if let Some(client) = client_of(self.clients.as_slice(), number) {
+        if let Some(client) = at_number(self.clients.as_slice(), number) {
             client.lock(rt).awaits(awaited);
             self.bell.unpark();
         }
@@ -166,8 +176,38 @@ impl<O: Drop> Attendant<O> {
 
     /// The thread of this client waits for nobody any more.
     pub(crate) fn awaits_nobody<R: Wait>(&self, rt: &R, number: u64) {
-        if let Some(client) = client_of(self.clients.as_slice(), number) {
+        if let Some(client) = at_number(self.clients.as_slice(), number) {
             client.lock(rt).awaits_nobody();
+        }
+    }
+
+    /// The thread of this client waits in a read, or does not any more.
+    pub(crate) fn reads(&self, number: u64, is_reading: bool) {
+        if let Some(reading) = at_number(self.reading.as_slice(), number) {
+            reading.store(is_reading, Ordering::SeqCst);
+        }
+    }
+
+    /// The journal has failed: clients that are waited for are let go.
+    pub(crate) fn fail(&self) {
+        self.has_failed.store(true, Ordering::SeqCst);
+        self.bell.unpark();
+    }
+
+    // Lets the threads go on that wait for their clients.
+    fn let_all_go<R: Wait, F: Files<File = O>>(&self, rt: &R, files: &F) {
+        let mut number = 0u64;
+        for client in &self.clients {
+            number = number.saturating_add(1);
+            let client = client.lock(rt);
+            let reads = match at_number(self.reading.as_slice(), number) {
+                Some(reading) => reading.load(Ordering::SeqCst),
+                None => false,
+            };
+            if reads || client.awaited.is_some() {
+                let_go(files, client.input.as_str(), reads);
+                let_go(files, client.path.as_str(), false);
+            }
         }
     }
 
@@ -213,7 +253,10 @@ impl<O: Drop> Attendant<O> {
             if self.has_ended.load(Ordering::SeqCst) {
                 return;
             }
-            if self.has_due(rt) {
+            if self.has_failed.load(Ordering::SeqCst) {
+                thread::sleep(rt, Duration::from_millis(TICK));
+                self.let_all_go(rt, files);
+            } else if self.has_due(rt) {
                 thread::sleep(rt, Duration::from_millis(TICK));
                 self.tick(rt, files, screen);
             } else {

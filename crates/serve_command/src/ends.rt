@@ -67,6 +67,23 @@ pub(crate) fn open_unread<F: Files>(files: &F, path: &str) -> Option<F::File> {
     unread
 }
 
+// What ends a request that a client has begun, and asks for a reply.
+const LET_GO: &[u8] = b"\nabort\n";
+
+/// Lets who waits at a named pipe go on, in its opening or, with a text that asks for a reply, in a read. A pipe that is
+/// opened both ways is waited for by nobody. What is no named pipe is not opened.
+pub(crate) fn let_go<F: Files>(files: &F, path: &str, is_read: bool) {
+    if !is_named_pipe(fs::metadata(files, path)) {
+        return;
+    }
+    let opened = OpenOptions::new().read(true).write(true).open(files, path);
+    if let Ok(mut pipe) = opened {
+        if is_read {
+            let _ = pipe.write_all(LET_GO);
+        }
+    }
+}
+
 /// Reports each client that is answered to no named pipe, by its number from 1, if the writer takes it. It is mostly a
 /// slip, and the client then waits for its answers at a pipe that nobody writes.
 pub fn report_no_pipes<F: Files, E: Write>(files: &F, clients: &[EndPaths], err: &mut E) {

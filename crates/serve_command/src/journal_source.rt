@@ -9,7 +9,7 @@ ghost use Rattle.history_core.specs.Counts.{most_clients};
 
 use crate::acknowledging::Durable;
 use crate::fault::{ServeFault, ServeRefusal};
-use crate::journaled_run::{JournaledRun, run_journaled};
+use crate::journaled_run::{BeginsJournal, JournaledRun, run_journaled};
 use crate::ready::{ReadyLine, tell_ready};
 use crate::remade::remake_journal;
 use journal::{KeepsTorn, UnreadDisk};
@@ -74,8 +74,21 @@ impl<'a, P: KeepsTorn, E: Print> KeepsTorn for TornKeeper<'a, P, E> {
                 ),
             };
         }
-        tell_ready(self.ready, self.screen);
         Ok(kept)
+    }
+}
+
+impl<'a, P: KeepsTorn, E: Print> BeginsJournal for TornKeeper<'a, P, E> {
+    fn tell_begun(&self, is_open: bool) {
+        if !is_open {
+            let commits = self.commits;
+            let mut screen = io::writer(self.screen);
+            let _ = writeln!(
+                screen,
+                "ssb_live: journal: {commits} commits, read only: it cannot be written"
+            );
+        }
+        tell_ready(self.ready, self.screen);
     }
 }
 

@@ -1,11 +1,12 @@
 //! Sessions over a server with a journal, from its opening to its end.
 
 ghost use Rattle.std.specs.Prelude.{◌≡◌, ◌+◌, ◌≤◌, ◌++◌, [], ◌∷◌, All, IfOk, IfErr, IfSome, OnOk};
-ghost use Rattle.std.specs.Prelude.{◌⊎◌, IsSome, Some, length, map, true, vec_len};
+ghost use Rattle.std.specs.Prelude.{◌⊎◌, IsSome, Some, false, length, map, true, vec_len};
 ghost use Rattle.journal.specs.Groups.{recovered as recovered_groups, AreTorn};
 ghost use Rattle.journal.specs.Disk.{LeavesOnly};
-ghost use Rattle.ssb_journal.specs.Counts.{IsLeft, KeepsFirst, KeepsSince};
+ghost use Rattle.ssb_journal.specs.Counts.{IsLeft, KeepsSince};
 ghost use Rattle.ssb_journal.specs.Kept.{IsAsItWasOrNew};
+ghost use Rattle.ssb_journal.specs.Texts.{IsJournalOf};
 ghost use Rattle.ssb_journal.specs.Opening.{IsKept};
 ghost use Rattle.history_core.specs.Counts.{most_clients};
 ghost use Rattle.ssb_clients.specs.Tickets.{IsOf, IsQuiet};
@@ -16,16 +17,19 @@ ghost use Rattle.serve_command.specs.Remade.{AreAtLog};
 ghost use Rattle.serve_command.specs.Seated.{AllHaveSeen};
 ghost use Rattle.serve_command.specs.JournaledRun.{IsJournaledRun, IsUnservedFault};
 ghost use Rattle.serve_command.specs.JournaledRun.{HasKept, IsBegunOn, IsFoundOrKept, KeepsRecovered, begun_on};
+ghost use Rattle.serve_command.specs.BegunFiles.{KeepsBegun, disk_of};
 ghost use Rattle.serve_command.specs.declared.unserved.JournaledFault.TheVariants.{Disturbed, OutOfMemory, Write};
 
 use crate::acknowledging::{Durable, JournalAcknowledger};
 use crate::remade::{RemadeServer, Seats};
 use crate::server_log::{JournalLeft, LogStart, ServerLog, left_of};
 use crate::unserved::{JournaledFault, UnservedSessions};
-use journal::{Disk, Journal, KeepsTorn};
+use journal::{Disk, Found, Journal, KeepsTorn};
 use row_store::Log;
 use ssb_journal::laws::{begun_journal_keeps, first_of_log};
-use ssb_journal::{JournaledLog, OpenedJournal, SharedJournal, TableMark, begin};
+use ssb_journal::{
+    JournaledLog, LeftLog, LogSource, OpenedJournal, SharedJournal, TableMark, begin,
+};
 use ssb_server::{Client, Closed, Dispatcher, LogReader, Opened, Server};
 use ssb_serving::{EndedThreads, Spoken, serve_opened};
 use std::alloc::{AllocError, Global};
@@ -48,10 +52,52 @@ pub struct JournaledRun<D: Disk + Drop, L: Drop> {
     pub was_written: bool,
 }
 
+// The file of a journal, as the sessions find it.
+#[derive(Drop)]
+enum BegunFile<D: Disk + Drop> {
+    // An open journal: commits are appended to it.
+    Open(Journal<D>),
+    // It could not be written: what it keeps is read alone.
+    ReadOnly(D),
+}
+
+impl<D: Disk + Drop> BegunFile<D> {
+    fn is_open(&self) -> bool {
+        match self {
+            BegunFile::Open(_) => true,
+            BegunFile::ReadOnly(_) => false,
+        }
+    }
+
+    fn into_disk(self) -> D
+        ensures { result ≡ disk_of self }
+    {
+        match self {
+            BegunFile::Open(journal) => journal.into_disk(),
+            BegunFile::ReadOnly(disk) => disk,
+        }
+    }
+
+    // The journal beside the log whose first commits it keeps, for the threads of the sessions.
+    fn share<L: LogSource + Drop>(self, source: L, count: u64) -> SharedJournal<D, L>
+        requires kept { KeepsBegun D.may_leave D.seen count (L.log source) self }
+        requires since { KeepsSince L.begun (D.moment (disk_of self)) (D.left_since (disk_of self)) count (L.log source) }
+    {
+        match self {
+            BegunFile::Open(journal) => SharedJournal::new(JournaledLog::new(
+                journal, source, count,
+            )),
+            BegunFile::ReadOnly(disk) => SharedJournal::read_only(LeftLog::read_only(
+                disk, source, count,
+            )),
+        }
+    }
+}
+
 // A journal that was begun, beside the reader of the log whose first commits it keeps.
 #[derive(Drop)]
 struct BegunJournal<D: Disk + Drop, W: Wait + Drop> {
-    journal: Journal<D>,
+    file: BegunFile<D>,
     reader: LogReader<W>,
     count: u64,
 }
@@ -64,7 +110,45 @@ struct Participants<W: Wait + Drop, S: Drop> {
     dispatchers: Vec<Dispatcher<W>>,
 }
 
-// Keeps what a crash has torn, and begins the journal.
+/// Keeps what a crash has torn of a journal's file, and tells how the journal begins.
+pub trait BeginsJournal: KeepsTorn {
+    /// Tells that the sessions begin: commits can be appended to the journal, or it is read alone.
+    fn tell_begun(&self, is_open: bool);
+}
+
+// Keeps what a crash has torn, and begins the journal. An `Err` hands the disk back.
+fn begin_file<D, T>(
+    alloc: Global,
+    marks: &[TableMark],
+    found: Found<D>,
+    is_new: bool,
+    torn: Vec<u8>,
+    keeper: &T,
+) -> Result<Journal<D>, D>
+where
+    D: Disk + Drop,
+    T: KeepsTorn,
+    T::Kept: Drop,
+    requires new { is_new ≡ true → recovered_groups (D.seen found) ≡ [] }
+    requires torn { AreTorn (D.seen found) torn.items }
+    ensures same { is_new ≡ false → IfOk result (λ journal. recovered_groups (D.seen journal)
+        ≡ recovered_groups (D.seen found)) }
+    ensures made { is_new ≡ true → IfOk result (λ journal. IsJournalOf marks.now [] (D.seen journal)) }
+    ensures any_moment { IfOk result (λ journal. LeavesOnly D.moment D.left_since found journal
+        (IsAsItWasOrNew marks.now (recovered_groups (D.seen found)))) }
+    ensures any_moment_err { IfErr result (λ disk. LeavesOnly D.moment D.left_since found disk
+        (IsAsItWasOrNew marks.now (recovered_groups (D.seen found)))) }
+{
+    let Ok(torn) = keeper.keep_torn(torn) else {
+        return Err(found.into_disk());
+    };
+    match begin::<D, T>(alloc, marks, found, is_new, &torn) {
+        Ok(journal) => Ok(journal),
+        Err((_, disk)) => Err(disk),
+    }
+}
+
+// Keeps what a crash has torn, and begins the journal. One that was there and cannot be written is read alone.
 fn begin_again<D, T, W>(
     alloc: Global,
     reader: LogReader<W>,
@@ -74,16 +158,16 @@ fn begin_again<D, T, W>(
 ) -> Result<BegunJournal<D, W>, UnservedSessions<D>>
 where
     D: Disk + Drop,
-    T: KeepsTorn,
+    T: BeginsJournal,
     T::Kept: Drop,
     W: Wait + Drop,
     requires seen { reader.seen ≡ opened.kept.commits.items }
     requires kept { IsKept marks.now (recovered_groups (D.seen opened.found)) opened.kept }
     requires torn { AreTorn (D.seen opened.found) opened.torn.items }
     ensures reader { IfOk result (λ begun. begun.reader ≡ reader) }
-    ensures kept { IfOk result (λ begun. KeepsFirst begun.count begun.reader.seen (D.seen begun.journal)) }
+    ensures kept { IfOk result (λ begun. KeepsBegun D.may_leave D.seen begun.count begun.reader.seen begun.file) }
     ensures count { IfOk result (λ begun. begun.count ≡ length opened.kept.commits.items) }
-    ensures any_moment { IfOk result (λ begun. LeavesOnly D.moment D.left_since opened.found begun.journal
+    ensures any_moment { IfOk result (λ begun. LeavesOnly D.moment D.left_since opened.found (disk_of begun.file)
         (IsAsItWasOrNew marks.now (recovered_groups (D.seen opened.found)))) }
     ensures fault { IfErr result (λ unserved. unserved.fault ≡ Write) }
     ensures handed { IfErr result (λ unserved. IsSome unserved.disk) }
@@ -91,19 +175,23 @@ where
         opened.found opened.kept.commits.items)) }
 {
     let OpenedJournal { found, kept, torn } = opened;
-    let Ok(torn) = keeper.keep_torn(torn) else {
-        return Err(UnservedSessions::new(JournaledFault::Write, found.into_disk()));
-    };
     begun_journal_keeps();
     first_of_log();
-    match begin::<D, T>(alloc, marks, found, kept.is_new, &torn) {
-        Ok(journal) => Ok(BegunJournal {
-            journal,
-            reader,
-            count: kept.count,
-        }),
-        Err((_, disk)) => Err(UnservedSessions::new(JournaledFault::Write, disk)),
-    }
+    let file = match begin_file(alloc, marks, found, kept.is_new, torn, keeper) {
+        Ok(journal) => BegunFile::Open(journal),
+        Err(disk) => {
+            if kept.is_new {
+                return Err(UnservedSessions::new(JournaledFault::Write, disk));
+            }
+            BegunFile::ReadOnly(disk)
+        },
+    };
+    keeper.tell_begun(file.is_open());
+    Ok(BegunJournal {
+        file,
+        reader,
+        count: kept.count,
+    })
 }
 
 // The clients of the sessions and those that rested, one after another, and what the speakers left.
@@ -149,19 +237,19 @@ where
     requires few { server.now.clients ≤ most_clients }
     requires reader { begun.reader.table ≡ server.now }
     requires picked { K.reader ≡ Some begun.reader }
-    requires begun { IsBegunOn D.moment D.left_since K.begun begun.journal begun.count }
-    requires kept { KeepsFirst begun.count begun.reader.seen (D.seen begun.journal) }
+    requires begun { IsBegunOn D.moment D.left_since K.begun (disk_of begun.file) begun.count }
+    requires kept { KeepsBegun D.may_leave D.seen begun.count begun.reader.seen begun.file }
     ensures served { IfOk result (λ end. AreSpoken S.spoken participants.speakers.items participants.clients.items
         (map (λ one. one.client) end.0.spoken.items) (map (λ one. one.left) end.0.spoken.items)) }
     ensures dispatchers { IfOk result (λ end. AreStill participants.dispatchers.items end.0.dispatchers.items) }
     ensures reader { IfOk result (λ end. IsLater begun.reader end.1.reader) }
     ensures left { IfOk result (λ end. IsLeft (D.may_leave end.1.disk) (D.seen end.1.disk) end.1.count
         end.1.reader.seen end.1.is_whole) }
-    ensures since { IfOk result (λ end. KeepsSince (begun_on D.moment D.left_since begun.journal begun.count)
+    ensures since { IfOk result (λ end. KeepsSince (begun_on D.moment D.left_since (disk_of begun.file) begun.count)
         (D.moment end.1.disk) (D.left_since end.1.disk) end.1.count end.1.reader.seen) }
     ensures handed { IfErr result (λ unserved. (unserved.fault ≡ Disturbed) ⊎ IsSome unserved.disk) }
     ensures fault { IfErr result (λ unserved. (unserved.fault ≡ Disturbed) ⊎ (unserved.fault ≡ OutOfMemory)) }
-    ensures since_err { IfErr result (λ unserved. IfSome unserved.disk (HasKept D.moment D.left_since begun.journal
+    ensures since_err { IfErr result (λ unserved. IfSome unserved.disk (HasKept D.moment D.left_since (disk_of begun.file)
         begun.count begun.reader.seen)) }
 {
     let Participants {
@@ -170,14 +258,16 @@ where
         dispatchers,
     } = participants;
     let BegunJournal {
-        journal,
+        file,
         reader,
         count,
     } = begun;
     let source: ServerLog<'_, W, K> = ServerLog::new(server, reader);
+    let takes_refreshes = file.is_open();
     let journaled = JournalAcknowledger {
-        journal: SharedJournal::new(JournaledLog::new(journal, source, count)),
+        journal: file.share(source, count),
         failed: AtomicBool::new(false),
+        takes_refreshes,
     };
     let service = Service {
         rt,
@@ -186,7 +276,11 @@ where
         server,
     };
     let ended = serve_opened(&service, clients, dispatchers, speakers);
-    let JournalAcknowledger { journal, failed: _ } = journaled;
+    let JournalAcknowledger {
+        journal,
+        failed: _,
+        takes_refreshes: _,
+    } = journaled;
     let Some(left) = left_of(journal) else {
         return Err(UnservedSessions::lost());
     };
@@ -276,7 +370,8 @@ where
 /// and each dispatcher in a thread of its own. What a crash has torn of the file is kept, and the journal is begun. What
 /// is told to a client is on the disk before. It waits until all of them have ended.
 ///
-/// A journal that could not be begun is `Write`. An `Err` hands the disk back, but where another has it out, which is
+/// Where the file of a journal that was there cannot be written, what it keeps is served, and no refresh is taken. A new
+/// journal that could not be begun is `Write`. An `Err` hands the disk back, but where another has it out, which is
 /// `Disturbed`.
 pub fn run_journaled<D, T, W, R, S>(
     rt: &R,
@@ -287,7 +382,7 @@ pub fn run_journaled<D, T, W, R, S>(
 ) -> Result<JournaledRun<D, S::Left>, UnservedSessions<D>>
 where
     D: Disk + Drop + Send,
-    T: KeepsTorn,
+    T: BeginsJournal,
     T::Kept: Drop,
     W: Wait + Drop + Send,
     R: Wait + Threads + Sync + Clock,
@@ -331,7 +426,7 @@ where
     let begun = begin_again(alloc, reader, marks, opened, keeper)?;
     first_of_log();
     let Ok(resting) = clients.split_off(speakers.len()) else {
-        let disk = begun.journal.into_disk();
+        let disk = begun.file.into_disk();
         return Err(UnservedSessions::new(JournaledFault::OutOfMemory, disk));
     };
     let participants = Participants {

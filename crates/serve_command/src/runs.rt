@@ -39,7 +39,7 @@ use std::io::{Print, Read};
 use std::sync::{Arc, Wait};
 use std::thread::Threads;
 use std::time::Clock;
-use stream_sessions::{Nothing, Speaks};
+use stream_sessions::{Nothing, Speaker, Speaks};
 
 /// How clients are served, whoever they are.
 #[derive(Drop)]
@@ -153,6 +153,18 @@ fn load_marked<R: Threads + Sync + AllocGlobal, I: Read + Drop>(
     })
 }
 
+/// Whether the sessions of all speakers took refreshes.
+pub(crate) fn all_took<S: Speaker>(all_left: &[S::Left]) -> bool
+    ensures { result ≡ true → All (λ left. S.took left ≡ true) all_left.now }
+{
+    for left in all_left {
+        if !S::took_refreshes(left) {
+            return false;
+        }
+    }
+    true
+}
+
 // Serves clients at once, one for each speaker, without a journal.
 fn run_without<R, S, D: Drop>(
     rt: &R,
@@ -168,19 +180,25 @@ where
     ensures left { IfOk result (λ run. vec_len run.left ≡ vec_len speakers) }
     ensures counts { OnOk result (AreCounts (vec_len speakers) dispatchers) }
     ensures kept { IfOk result (λ run. run.kept ≡ None) }
+    ensures took { IfOk result (λ run. All (λ left. S.took left ≡ true) run.left.items) }
     ensures failed { IfErr result (λ fault. serving_status fault ≡ 4) }
 {
-    match serve_streams(rt, rt.alloc(), loaded, speakers, dispatchers) {
-        Ok(run) => Ok(SessionsRun {
-            left: run.left,
-            log: run.log,
-            kept: None,
-        }),
+    let run = match serve_streams(rt, rt.alloc(), loaded, speakers, dispatchers) {
+        Ok(run) => run,
         Err(fault) => {
             let fault = JournaledFault::NotRun(fault);
-            Err(ServeFault::Found(ServeRefusal::NotServed(fault)))
+            return Err(ServeFault::Found(ServeRefusal::NotServed(fault)));
         }
+    };
+    if !all_took::<S>(&run.left) {
+        let fault = JournaledFault::Disturbed;
+        return Err(ServeFault::Found(ServeRefusal::NotServed(fault)));
     }
+    Ok(SessionsRun {
+        left: run.left,
+        log: run.log,
+        kept: None,
+    })
 }
 
 // Serves clients at once, one for each speaker, behind the commits of the journal at this place.
@@ -279,6 +297,7 @@ where
     ensures told { IfOk result (λ run. IfSome run.kept (λ kept. All (λ left. S.told left ≤ kept.count)
         run.left.items)) }
     ensures journal { IfOk result (λ run. is_some run.kept ≡ is_some place.entry) }
+    ensures took { IfOk result (λ run. IsNone place.entry → All (λ left. S.took left ≡ true) run.left.items) }
     ensures refused { IfErr result (λ fault. serving_status fault ≡ 1 → (texts : Table → List ℕ)
         → AreRows I.remaining tables texts → AreRefused texts settings.standing.items
         (option_map (λ place. P.holds place.file.now) place.entry)

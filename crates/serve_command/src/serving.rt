@@ -17,7 +17,7 @@ use crate::attendant::Attendant;
 use crate::ends::EndPaths;
 use crate::fault::{ServeFault, ServeRefusal};
 use crate::journal_source::JournalPlace;
-use crate::runs::{KeptLog, ServeSettings, SessionsRun, run_over};
+use crate::runs::{KeptLog, ServeSettings, SessionsRun, all_took, run_over};
 use crate::speakers::{PathClient, PathLeft, StreamClient, StreamLeft};
 use journal::KeepsTorn;
 use journal_opening::OpensJournal;
@@ -82,11 +82,12 @@ where
     O: Write + Drop + Send,
     E: Print,
     ensures ended { IfOk result (λ left. (texts : Table → List ℕ) → AreRows I.remaining tables texts
-        → HasEndedAlone left.one.ended (option_map (λ place. P.holds place.file.now) place.entry) texts
+        → HasEndedAlone left.one.ended left.one.took_refreshes (option_map (λ place. P.holds place.file.now) place.entry) texts
         settings.dispatchers (J.remaining client.input) (O.contents client.output) (O.contents left.one.output)
         (λ log told. IfSome left.kept (λ kept. AreOnDisk (P.Disk.may_leave kept.disk)
         (P.Disk.seen kept.disk) (IsTrue kept.was_written) log told))) }
     ensures journal { IfOk result (λ left. is_some left.kept ≡ is_some place.entry) }
+    ensures took { IfOk result (λ left. IsNone place.entry → left.one.took_refreshes ≡ true) }
     ensures refused { IfErr result (λ fault. serving_status fault ≡ 1 → (texts : Table → List ℕ)
         → AreRows I.remaining tables texts → AreRefused texts settings.standing.items
         (option_map (λ place. P.holds place.file.now) place.entry)
@@ -108,13 +109,14 @@ where
     Ok(AloneLeft { one, kept })
 }
 
-// Whether the journal was written to its end, where there is one.
-fn was_written<D: Drop>(kept: &Option<KeptLog<D>>) -> bool
-    ensures { MatchOption kept.now (result ≡ true) (λ kept. result ≡ kept.was_written) }
+// Whether all refreshes were taken, and the journal was written to its end, where there is one.
+fn was_written<D: Drop>(kept: &Option<KeptLog<D>>, took_refreshes: bool) -> bool
+    ensures took { result ≡ true → took_refreshes ≡ true }
+    ensures written { MatchOption kept.now (result ≡ took_refreshes) (λ kept. result ≡ true → kept.was_written ≡ true) }
 {
     match kept {
-        Some(kept) => kept.was_written,
-        None => true,
+        Some(kept) => kept.was_written && took_refreshes,
+        None => took_refreshes,
     }
 }
 
@@ -199,8 +201,9 @@ where
                 output,
                 ended,
                 told: _,
+                took_refreshes,
             } = one;
-            let written = was_written(&kept);
+            let written = was_written(&kept, took_refreshes);
             StreamEnd {
                 status: tell_end(&ended, written, &mut err),
                 output: Some(output),
@@ -343,7 +346,7 @@ where
     match run_over(rt, settings, tables, place, speakers, screen) {
         Ok(run) => {
             let SessionsRun { left, log: _, kept } = run;
-            let written = was_written(&kept);
+            let written = was_written(&kept, all_took::<PathClient<'_, F, E>>(&left));
             ClientsEnd {
                 status: tell_clients(written, were_served(&left), &mut err),
                 disk: disk_of(kept),

@@ -18,8 +18,8 @@ use std::sync::Wait;
 use std::time::{Clock, Duration};
 use std::{fmt, io, thread};
 use stream_sessions::{
-    Acknowledges, Ending, Evidence, Served, SessionError, SessionFault, Speaker, Speaks, Wire,
-    serve_session,
+    Acknowledges, Ending, Evidence, Served, Service, SessionError, SessionFault, Speaker, Speaks,
+    Wire, serve_session,
 };
 
 // How many bytes of a client's requests are read at once.
@@ -35,13 +35,14 @@ pub struct StreamClient<I: Read + Drop, O: Write + Drop> {
     pub output: O,
 }
 
-/// What such a client leaves: what it was answered to, how its session ended, and of how many commits that told at
-/// most.
+/// What such a client leaves: what it was answered to, how its session ended, of how many commits that told at most,
+/// and whether it took refreshes.
 #[derive(Drop)]
 pub struct StreamLeft<O: Write + Drop> {
     pub output: O,
     pub ended: Result<Served, SessionError>,
     pub told: u64,
+    pub took_refreshes: bool,
 }
 
 // Serves a session to a client whose ends are open, and closes the one that is read.
@@ -64,9 +65,10 @@ fn speak_over<
     requires quiet { is_some client.old.asked ≡ false }
     ensures same { AreAlike client.old client.new }
     ensures streamed { HasStreamed (number_of client.old.who) client.old client.new (I.remaining ends.input)
-        (O.contents ends.output) (O.contents result.output) result.ended result.told }
+        (O.contents ends.output) (O.contents result.output) result.ended result.told result.took_refreshes }
 {
     let StreamClient { input, output } = ends;
+    let took_refreshes = acknowledger.takes_refreshes();
     let input = match BufReader::with_capacity(alloc, READ_AHEAD, input) {
         Ok(input) => input,
         Err(_) => {
@@ -77,12 +79,19 @@ fn speak_over<
                     fault: SessionFault::OutOfMemory,
                 }),
                 told: 0,
+                took_refreshes,
             };
         }
     };
     let mut wire: Wire<I, O, Y> = Wire::new(input, output);
+    let service = Service {
+        rt,
+        alloc,
+        acknowledger,
+        server,
+    };
     server.figures().session_begins();
-    let ended = serve_session(rt, alloc, acknowledger, server, client, &mut wire);
+    let ended = serve_session(&service, client, &mut wire, took_refreshes);
     server.figures().session_ends();
     let told = wire.told();
     let output = wire.into_output();
@@ -90,6 +99,7 @@ fn speak_over<
         output,
         ended,
         told,
+        took_refreshes,
     }
 }
 
@@ -97,12 +107,18 @@ impl<I: Read + Drop, O: Write + Drop> Speaker for StreamClient<I, O> {
     type Left = StreamLeft<O>;
 
     ghost spoken = { λ speaker old new left. HasStreamed (number_of old.who) old new (I.remaining speaker.input)
-        (O.contents speaker.output) (O.contents left.output) left.ended left.told };
+        (O.contents speaker.output) (O.contents left.output) left.ended left.told left.took_refreshes };
 
     ghost told = { λ left. left.told };
 
+    ghost took = { λ left. left.took_refreshes };
+
     fn commits_told(left: &StreamLeft<O>) -> u64 {
         left.told
+    }
+
+    fn took_refreshes(left: &StreamLeft<O>) -> bool {
+        left.took_refreshes
     }
 }
 
@@ -132,6 +148,25 @@ pub struct PathClient<'a, F: Files, E: Print> {
     pub attendant: &'a Attendant<F::File>,
 }
 
+// What such a client is read from, of which the attendant knows when it is waited for.
+#[derive(Drop)]
+struct AttendedInput<'a, O: Drop> {
+    input: O,
+    attendant: &'a Attendant<O>,
+    number: u64,
+}
+
+impl<'a, O: Read + Drop> Read for AttendedInput<'a, O> {
+    ghost remaining = { λ attended. O.remaining attended.input };
+
+    fn read(&mut self, buf: &mut [u8]) -> io::Result<usize> {
+        self.attendant.reads(self.number, true);
+        let result = self.input.read(buf);
+        self.attendant.reads(self.number, false);
+        result
+    }
+}
+
 // What broke a client's session.
 #[derive(Drop)]
 enum ClientFault<'a> {
@@ -159,6 +194,15 @@ enum SessionEnd {
     Broken,
 }
 
+// What a session of such a client leaves: how it ended, of how many commits it told at most, and whether it took
+// refreshes.
+#[derive(Clone, Copy, Debug, PartialEq, Eq)]
+struct OnceLeft {
+    end: SessionEnd,
+    told: u64,
+    took_refreshes: bool,
+}
+
 impl<'a, F: Files, E: Print> PathClient<'a, F, E> {
     // Tells a fault, if the screen takes it.
     fn tell(&self, fault: &ClientFault<'_>) {
@@ -180,6 +224,7 @@ impl<'a, F: Files, E: Print> PathClient<'a, F, E> {
         ensures again { result ≡ SessionEnd.Again → IsTrue comes_again }
     {
         match ended {
+            Ok(_) if comes_again && has_failed => SessionEnd::Broken,
             Ok(served) if comes_again => {
                 if served.ending == Ending::RequestTooLong {
                     thread::sleep(rt, Duration::from_millis(BETWEEN_SESSIONS));
@@ -207,8 +252,7 @@ impl<'a, F: Files, E: Print> PathClient<'a, F, E> {
         }
     }
 
-    // Opens the ends, and serves a session over them. The end that is read is closed first. It tells of how many
-    // commits was told, too.
+    // Opens the ends, and serves a session over them. The end that is read is closed first.
     fn speak_once<W: Follower + Drop, R: Wait + Clock, Y: Evidence, K: Acknowledges<Y>>(
         &self,
         rt: &R,
@@ -216,28 +260,38 @@ impl<'a, F: Files, E: Print> PathClient<'a, F, E> {
         acknowledger: &K,
         server: &Server<W>,
         client: &mut Client<W>,
-    ) -> (SessionEnd, u64)
+    ) -> OnceLeft
         requires table { client.old.table ≡ server.now }
         requires quiet { is_some client.old.asked ≡ false }
         ensures same { AreAlike client.old client.new }
-        ensures served { HasServedOnce (number_of client.old.who) client.old client.new result.0 result.1 }
-        ensures keeps { result.0 ≡ SessionEnd.Again → IsTrue self.now.keeps }
+        ensures served { HasServedOnce (number_of client.old.who) client.old client.new result }
+        ensures keeps { result.end ≡ SessionEnd.Again → IsTrue self.now.keeps }
     {
         let ends = match open_ends(rt, self.files, &self.paths, self.attendant, self.number) {
             Ok(ends) => ends,
             Err(fault) => {
                 self.tell(&ClientFault::End(fault));
-                return (SessionEnd::Broken, 0);
+                return OnceLeft {
+                    end: SessionEnd::Broken,
+                    told: 0,
+                    took_refreshes: acknowledger.takes_refreshes(),
+                };
             }
         };
         let comes_again = self.keeps && ends.are_named_pipes();
         let Ends { input, output } = ends;
+        let input = AttendedInput {
+            input,
+            attendant: self.attendant,
+            number: self.number,
+        };
         let ends = StreamClient { input, output };
         let StreamLeft {
             ended,
             told,
             output,
-        } = speak_over::<W, R, F::File, F::File, Y, K>(
+            took_refreshes,
+        } = speak_over::<W, R, AttendedInput<'a, F::File>, F::File, Y, K>(
             rt,
             alloc,
             acknowledger,
@@ -246,17 +300,25 @@ impl<'a, F: Files, E: Print> PathClient<'a, F, E> {
             ends,
         );
         output.drop();
+        if acknowledger.has_failed() {
+            self.attendant.fail();
+        }
         let end = self.end_of(rt, ended, comes_again, acknowledger.has_failed());
-        (end, told)
+        OnceLeft {
+            end,
+            told,
+            took_refreshes,
+        }
     }
 }
 
-/// What such a client leaves: whether its last session was served to its end, and of how many commits its sessions told
-/// at most.
+/// What such a client leaves: whether its last session was served to its end, of how many commits its sessions told at
+/// most, and whether each of them took refreshes.
 #[derive(Clone, Copy, Debug, PartialEq, Eq)]
 pub struct PathLeft {
     pub was_served: bool,
     pub told: u64,
+    pub took_refreshes: bool,
 }
 
 impl<'a, F: Files, E: Print> Speaker for PathClient<'a, F, E> {
@@ -267,8 +329,14 @@ impl<'a, F: Files, E: Print> Speaker for PathClient<'a, F, E> {
 
     ghost told = { λ left. left.told };
 
+    ghost took = { λ left. left.took_refreshes };
+
     fn commits_told(left: &PathLeft) -> u64 {
         left.told
+    }
+
+    fn took_refreshes(left: &PathLeft) -> bool {
+        left.took_refreshes
     }
 }
 
@@ -282,21 +350,25 @@ impl<'a, R: Wait + Clock, F: Files, E: Print, Y: Evidence> Speaks<R, Y> for Path
         client: &mut Client<W>,
     ) -> PathLeft {
         let mut told: u64 = 0;
+        let mut took_refreshes = true;
         for _ in rt.forever() {
-            let (end, now) = self.speak_once(rt, alloc, acknowledger, server, client);
-            told = told.max(now);
-            match end {
+            let once = self.speak_once(rt, alloc, acknowledger, server, client);
+            told = told.max(once.told);
+            took_refreshes = took_refreshes && once.took_refreshes;
+            match once.end {
                 SessionEnd::Again => self.rest(rt),
                 SessionEnd::Last => {
                     return PathLeft {
                         was_served: true,
                         told,
+                        took_refreshes,
                     };
                 }
                 SessionEnd::Broken => {
                     return PathLeft {
                         was_served: false,
                         told,
+                        took_refreshes,
                     };
                 }
             }

@@ -1,21 +1,31 @@
-use Rattle.serve_command.proofs.BeginningLaws.{keeps_first, kept_in_beginning}
+use Rattle.std.proofs.Common.{subst, sym}
 use Rattle.journal.specs.Groups.{recovered as recovered_groups}
+use Rattle.serve_command.specs.BegunFiles.{KeepsBegun}
+use Rattle.serve_command.proofs.BeginningLaws.{keeps_first, kept_in_beginning, kept_unwritten}
+use Rattle.serve_command.proofs.journaled_run.begin_again.Goals.{in-Ok, in-Err+else-kept}
 use Rattle.serve_command.proofs.journaled_run.begin_again.Goals as goal
 
-pub returns-in-Ok-begin-clause-kept : goal.returns-in-Ok-begin-clause-kept
-returns-in-Ok-begin-clause-kept g c =
+pub returns-then-kept-clause-any_moment_err : goal.returns-then-kept-clause-any_moment_err
+returns-then-kept-clause-any_moment_err g c =
+    let found = c.args.opened.found in
+    rw c.new.ensures
+    (kept_in_beginning g.D.Disk.moment g.D.Disk.left_since found c.in-Err.disk c.args.marks.now c.args.opened.kept
+    (recovered_groups (g.D.Disk.seen found)) c.first_of_log.ensures c.requires.kept c.in-Err.ensures.any_moment_err)
+
+pub returns-clause-kept : goal.returns-clause-kept
+returns-clause-kept g c =
     let marks = c.args.marks.now in
     let kept = c.args.opened.kept in
-    let file = g.D.Disk.seen c.in-Ok-begin.journal in
-    keeps_first marks kept.commits.items c.args.reader.seen kept.count file c.first_of_log.ensures c.requires.seen
-    kept.counted
-    (c.begun_journal_keeps.ensures marks kept (g.D.Disk.seen c.args.opened.found) file c.requires.kept
-    c.in-Ok-begin.ensures.same c.in-Ok-begin.ensures.made)
-
-pub returns-in-Err-clause-any_moment_err : goal.returns-in-Err-clause-any_moment_err
-returns-in-Err-clause-any_moment_err g c =
     let found = c.args.opened.found in
-    rw c.new-in-Err.ensures
-    (kept_in_beginning g.D.Disk.moment g.D.Disk.left_since found c.in-Err.disk c.args.marks.now
-    c.args.opened.kept (recovered_groups (g.D.Disk.seen found)) c.first_of_log.ensures c.requires.kept
-    c.in-Err.ensures.any_moment_err)
+    elim c.match-begin_file.branch [
+      | in-Ok w ↦ subst (KeepsBegun g.D.Disk.may_leave g.D.Disk.seen kept.count c.args.reader.seen) (sym w.file-is)
+          (keeps_first marks kept.commits.items c.args.reader.seen kept.count (g.D.Disk.seen w.in-Ok.journal)
+          c.first_of_log.ensures c.requires.seen kept.counted
+          (c.begun_journal_keeps.ensures marks kept (g.D.Disk.seen found) (g.D.Disk.seen w.in-Ok.journal) c.requires.kept
+          w.in-Ok.ensures.same w.in-Ok.ensures.made))
+      | in-Err+else-kept w ↦ subst (KeepsBegun g.D.Disk.may_leave g.D.Disk.seen kept.count c.args.reader.seen)
+          (sym w.file-is)
+          (kept_unwritten g.D.Disk.moment g.D.Disk.left_since g.D.Disk.may_leave g.D.Disk.seen found w.in-Err.disk marks kept
+          (recovered_groups (g.D.Disk.seen found)) c.args.reader.seen kept.count (g.met.D.Disk.counts_now w.in-Err.disk)
+          c.first_of_log.ensures c.requires.kept w.if-kept.false w.in-Err.ensures.any_moment_err c.requires.seen kept.counted)
+    ]

@@ -1,4 +1,4 @@
-use Rattle.std.proofs.Common.{◌≡◌, ◌≤◌, ◌∙◌, Err, List, length, ap, inr, refl, subst, sym, arith, rules}
+use Rattle.std.proofs.Common.{◌≡◌, ◌∙◌, Err, List, length, ap, inr, refl, subst, sym, arith, rules}
 use Rattle.std.proofs.lemmas.Option.{IfSome_then}
 use Rattle.journal.specs.Groups.{recovered as recovered_groups}
 use Rattle.row_store.proofs.PrefixLaws.{beginnings_chain}
@@ -9,6 +9,7 @@ use Rattle.serve_command.proofs.RemadeLaws.{still_of, still_on}
 use Rattle.serve_command.proofs.RunLaws.{journaled_run, later_begins, left_of_log, parted_at, reader_begins}
 use Rattle.serve_command.proofs.RunLaws.{ready_to_close, seated_quiet, told_each}
 use Rattle.ssb_journal.specs.Kept.{IsAsItWasOrNew}
+use Rattle.serve_command.specs.BegunFiles.{disk_of}
 use Rattle.serve_command.specs.JournaledRun.{HasKept, IsFoundOrKept}
 use Rattle.serve_command.specs.Reading.{IsLater}
 use Rattle.ssb_serving.specs.Members.{IsStill}
@@ -113,7 +114,7 @@ returns-clause-any_moment g c =
     (beginnings_chain c.in_ok-begun.begun.reader.seen now.reader.seen log
     (later_begins c.in_ok-begun.begun.reader now.reader later) begins) in
     rw c.in_ok-closed.ensures.journal.0
-    (kept_throughout g.D.Disk.moment g.D.Disk.left_since found c.in_ok-begun.begun.journal now.disk
+    (kept_throughout g.D.Disk.moment g.D.Disk.left_since found (disk_of c.in_ok-begun.begun.file) now.disk
     (IsAsItWasOrNew c.args.remade.marks.now groups) c.in_ok-begun.begun.count now.count kept.commits.items
     now.reader.seen log c.in_ok-begun.ensures.any_moment
     c.in_ok-begun.ensures.count
@@ -124,8 +125,8 @@ returns-clause-any_moment g c =
 pub returns-in_default-clause-any_moment_err : goal.returns-in_default-clause-any_moment_err
 returns-in_default-clause-any_moment_err g c =
     let found = c.args.remade.opened.found in
-    rw (c.new.ensures, c.into_disk-disk.ensures.same)
-    (kept_in_beginning g.D.Disk.moment g.D.Disk.left_since found c.in_ok-begun.begun.journal
+    rw (c.new.ensures, c.into_disk-disk.ensures)
+    (kept_in_beginning g.D.Disk.moment g.D.Disk.left_since found (disk_of c.in_ok-begun.begun.file)
     c.args.remade.marks.now c.args.remade.opened.kept (recovered_groups (g.D.Disk.seen found))
     c.first_of_log.ensures c.requires.kept c.in_ok-begun.ensures.any_moment)
 
@@ -136,7 +137,7 @@ returns-then-not-all_are_kept-clause-any_moment_err g c =
     let begun = c.in_ok-begun.begun in
     let left = c.in_ok-ended.left in
     rw c.new-then-not-all_are_kept.ensures
-    (kept_since g.D.Disk.moment g.D.Disk.left_since found begun.journal left.disk c.args.remade.marks.now kept
+    (kept_since g.D.Disk.moment g.D.Disk.left_since found (disk_of begun.file) left.disk c.args.remade.marks.now kept
     (recovered_groups (g.D.Disk.seen found)) begun.count begun.reader.seen c.first_of_log.ensures c.requires.kept
     c.in_ok-begun.ensures.any_moment
     c.in_ok-begun.ensures.count (ap (λ (t : TokenRecord). t.seen) c.in_ok-begun.ensures.reader ∙ c.requires.at_log.seen)
@@ -160,9 +161,9 @@ returns-in_err-ended-clause-any_moment_err g c =
     let is : c.from_residual-in_err-ended.result ≡ Err c.in_err-ended.field-0.0 = search rules in
     rw is
     (IfSome_then c.in_err-ended.field-0.0.disk
-    {P = HasKept g.D.Disk.moment g.D.Disk.left_since begun.journal begun.count begun.reader.seen}
+    {P = HasKept g.D.Disk.moment g.D.Disk.left_since (disk_of begun.file) begun.count begun.reader.seen}
     {Q = IsFoundOrKept g.D.Disk.moment g.D.Disk.left_since found kept.commits.items} c.in_err-ended.ensures.since_err
-    (λ disk has. kept_since g.D.Disk.moment g.D.Disk.left_since found begun.journal disk c.args.remade.marks.now kept
+    (λ disk has. kept_since g.D.Disk.moment g.D.Disk.left_since found (disk_of begun.file) disk c.args.remade.marks.now kept
     (recovered_groups (g.D.Disk.seen found)) begun.count begun.reader.seen c.first_of_log.ensures c.requires.kept
     c.in_ok-begun.ensures.any_moment
     c.in_ok-begun.ensures.count (ap (λ (t : TokenRecord). t.seen) c.in_ok-begun.ensures.reader ∙ c.requires.at_log.seen) has))
@@ -185,7 +186,7 @@ returns-in_err-closed-clause-any_moment_err g c =
     let left = c.in_ok-ended.left in
     let is : c.from_residual-in_err-closed.result ≡ Err c.in_err-closed.field-0.0 = search rules in
     rw (is, c.in_err-closed.ensures.handed)
-    (kept_since g.D.Disk.moment g.D.Disk.left_since found begun.journal left.disk c.args.remade.marks.now kept
+    (kept_since g.D.Disk.moment g.D.Disk.left_since found (disk_of begun.file) left.disk c.args.remade.marks.now kept
     (recovered_groups (g.D.Disk.seen found)) begun.count begun.reader.seen c.first_of_log.ensures c.requires.kept
     c.in_ok-begun.ensures.any_moment
     c.in_ok-begun.ensures.count (ap (λ (t : TokenRecord). t.seen) c.in_ok-begun.ensures.reader ∙ c.requires.at_log.seen)

@@ -1,10 +1,11 @@
 use Rattle.serve_command.proofs.BeginningLaws.{since_begun, since_begun_on}
 use Rattle.serve_command.proofs.RunLaws.{later_begins}
+use Rattle.serve_command.specs.BegunFiles.{disk_of}
 use Rattle.serve_command.proofs.journaled_run.run_sessions.Goals as goal
 
-pub new-requires-clause-since : goal.new-requires-clause-since
-new-requires-clause-since g c =
-    since_begun g.D.Disk.moment g.D.Disk.left_since g.K.LogStart.begun c.args.begun.journal c.args.begun.count
+pub share-requires-clause-since : goal.share-requires-clause-since
+share-requires-clause-since g c =
+    since_begun g.D.Disk.moment g.D.Disk.left_since g.K.LogStart.begun (disk_of c.args.begun.file) c.args.begun.count
     c.new-source.result.reader.seen c.requires.begun
 
 pub returns-in-Ok-clause-reader : goal.returns-in-Ok-clause-reader
@@ -12,7 +13,7 @@ returns-in-Ok-clause-reader g c = c.in-Some.ensures.later c.args.begun.reader c.
 
 pub returns-in-Ok-clause-since : goal.returns-in-Ok-clause-since
 returns-in-Ok-clause-since g c =
-    since_begun_on g.D.Disk.moment g.D.Disk.left_since g.K.LogStart.begun c.args.begun.journal c.in-Some.left.disk
+    since_begun_on g.D.Disk.moment g.D.Disk.left_since g.K.LogStart.begun (disk_of c.args.begun.file) c.in-Some.left.disk
     c.args.begun.count c.in-Some.left.count c.in-Some.left.reader.seen c.requires.begun c.in-Some.ensures.since
 
 pub returns-clause-since_err : goal.returns-clause-since_err
@@ -23,7 +24,7 @@ returns-clause-since_err g c =
       log = c.in-Some.left.reader.seen;
       begins = later_begins c.args.begun.reader c.in-Some.left.reader
           (c.in-Some.ensures.later c.args.begun.reader c.requires.picked);
-      since = since_begun_on g.D.Disk.moment g.D.Disk.left_since g.K.LogStart.begun c.args.begun.journal
+      since = since_begun_on g.D.Disk.moment g.D.Disk.left_since g.K.LogStart.begun (disk_of c.args.begun.file)
           c.in-Some.left.disk c.args.begun.count c.in-Some.left.count c.in-Some.left.reader.seen c.requires.begun
           c.in-Some.ensures.since;
     })

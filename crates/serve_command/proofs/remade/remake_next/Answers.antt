@@ -1,4 +1,4 @@
-use Rattle.std.proofs.Common.{◌≡◌, ◌++◌, ◌∙◌, ap, arith, length, subst}
+use Rattle.std.proofs.Common.{◌≡◌, ◌++◌, ◌∙◌, arith, length, subst}
 use Rattle.std.proofs.lemmas.List.{take_at}
 use Rattle.ssb_serving.specs.Members.{AreStill}
 use Rattle.serve_command.proofs.RemadeLaws.{as_many_stay, dispatchers_at, made_and_carried, reader_at}

@@ -1,7 +1,9 @@
-use Rattle.std.proofs.Common.{◌∙◌, ⊎_elim, sym}
-use Rattle.serve_command.proofs.JournalLaws.{all_written, disk_there, told_is_kept}
+use Rattle.std.proofs.Common.{◌≡◌, ◌∙◌, ⊎_elim, subst, sym, true}
+use Rattle.std.specs.Prelude.{All}
+use Rattle.serve_command.proofs.JournalLaws.{all_written, disk_there, none_placed, told_is_kept}
 use Rattle.serve_command.proofs.ServedLaws.{all_served, serves_clients}
 use Rattle.serve_command.proofs.StatusLaws.{serving_failed, serving_told}
+use Rattle.serve_command.specs.declared.speakers.PathLeft.{PathLeft}
 use Rattle.serve_command.proofs.serving.serve_clients.Goals as goal
 
 pub returns-in-Ok-run_over-clause-served : goal.returns-in-Ok-run_over-clause-served
@@ -10,8 +12,11 @@ returns-in-Ok-run_over-clause-served g c = λ closed texts are.
     (sym c.in-Ok.speakers.ok.0 ∙ c.in-Ok.ensures)
     (λ place one here. told_is_kept g.P.Disk.Disk.may_leave g.P.Disk.Disk.seen (λ left. left.told) _ _ _ _ place one
     _ c.in-Ok-run_over.ensures.kept c.in-Ok-run_over.ensures.told here c.disk_of.ensures
-    (λ zero. all_written _ _ c.was_written-written.ensures (c.tell_clients.ensures.written zero)))
-    (λ zero. all_served _ _ _ c.were_served.ensures (c.tell_clients.ensures.served zero) c.deref.ensures.value)
+    (λ zero. all_written _ _ _ c.was_written-written.ensures.written (c.tell_clients.ensures.written zero)))
+    (λ zero. all_served _ _ _ c.were_served.ensures (c.tell_clients.ensures.served zero) c.deref-in-Ok-run_over.ensures.value)
+    (λ so. ⊎_elim (λ zero. subst (All (λ (l : PathLeft). l.took_refreshes ≡ true)) c.deref.ensures.value
+    (c.all_took.ensures (c.was_written-written.ensures.took (c.tell_clients.ensures.written zero))))
+    (λ none. c.in-Ok-run_over.ensures.took (none_placed c.args.place _ none)) so)
 
 pub returns-in-Ok-run_over-clause-disk : goal.returns-in-Ok-run_over-clause-disk
 returns-in-Ok-run_over-clause-disk g c = λ status. disk_there _ _ c.disk_of.ensures ∙ c.in-Ok-run_over.ensures.journal

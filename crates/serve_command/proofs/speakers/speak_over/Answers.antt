@@ -8,11 +8,11 @@ pub returns-in-Err-clause-same : goal.returns-in-Err-clause-same
 returns-in-Err-clause-same g c = alike_itself _ c.requires.quiet
 
 pub returns-in-Err-clause-streamed : goal.returns-in-Err-clause-streamed
-returns-in-Err-clause-streamed g c = nothing_streamed _ _ _ _
+returns-in-Err-clause-streamed g c = nothing_streamed _ _ _ _ _
 
 pub returns-clause-streamed : goal.returns-clause-streamed
 returns-clause-streamed g c =
-    has_streamed _ _ _ _ _ _ _ _ _ _ _ _ _ _
+    has_streamed _ _ _ _ _ _ _ _ _ _ _ _ _ _ _
     (ap (λ (wire : WireRecord). wire.unread) c.new-wire.ensures
     ∙ fresh_reader g.I.Read.remaining c.in-Ok.input c.args.ends.input c.in-Ok.ensures.inner c.in-Ok.ensures.empty
     c.in-Ok.ensures.capacity)
