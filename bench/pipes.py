@@ -32,7 +32,7 @@ BAD_REQUESTS = [("que", "70 BadLine 1"), ("commit", "70 BadLine 1"), ("query|Q9.
 class Server:
     """The program with so many clients, each over two named pipes in a folder."""
 
-    def __init__(self, data, folder, clients, *words, quiet=True, env=None):
+    def __init__(self, data, folder, clients, *words, quiet=True, env=None, prepare=None):
         self.ends = []
         for number in range(1, clients + 1):
             ends = folder / f"in-{number}", folder / f"out-{number}"
@@ -43,7 +43,8 @@ class Server:
         self.errors = open(folder / "errors", "w+")
         given = ["--quiet"] * quiet + [word for ends in self.ends for word in ("--client", *ends)]
         self.process = subprocess.Popen([LIVE, "serve", "--data", data, *words, *given], stderr=self.errors,
-                                        stdin=subprocess.DEVNULL, stdout=subprocess.DEVNULL, env=env)
+                                        stdin=subprocess.DEVNULL, stdout=subprocess.DEVNULL, env=env,
+                                        preexec_fn=prepare)
 
     def told(self, waits=False):
         """What it told, but that it is ready, and for whom it waits, or with the latter."""
