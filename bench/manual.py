@@ -4,11 +4,19 @@ import re
 import subprocess
 
 # The texts that are packed beside the program, and what each is about.
-DOCUMENTS = {"SERVING.md": "How to serve clients, at a terminal or over pipes, and what a journal keeps.",
+DOCUMENTS = {"README.md": "What the program is, and what of it is proved.",
+             "SERVING.md": "How to serve clients, at a terminal or over pipes, and what a journal keeps.",
              "FORMATS.md": "All that is read and written, and the status with which the program ends.",
-             "FAULTS.md": "Every error, by its number."}
+             "FAULTS.md": "Every error, by its number.",
+             "LIMITS.md": "What fits on one machine, and what it takes.",
+             "RELIABILITY.md": "What is there after a crash, and how that is tested.",
+             "PYTHON.md": "The client for Python, ssb_live.py."}
 SERVICE_FILES = ["  /var/lib/ssb_live/tables     the five tables", "  /var/lib/ssb_live/journal    the commits",
-                 "  /run/ssb_live                the pipes in-1 and out-1 to in-4 and out-4"]
+                 "  /run/ssb_live                the pipes in-1 and out-1 to in-4 and out-4, and figures.prom"]
+TOOL_FILES = ["  /usr/share/ssb-live/board            a live page of reports; --help tells more",
+              "  /usr/share/ssb-live/example.board    reports for it",
+              "  /usr/share/ssb-live/link.py          the link to a second server; --help tells more",
+              "  /usr/share/ssb-live/ssb_live.words   for rlwrap -f: words that Tab completes"]
 WORD = re.compile(r" +(?:-\w, )?--([a-z]+(?:-[a-z]+)*)((?: <\w+>)*)")
 
 
@@ -90,7 +98,8 @@ def manual(made):
         lines += [f".SH COMMAND {name.upper()}", *paragraphs(one.text), ".PP", f".B {escaped(one.usage)}"]
         for part in ("Arguments", "Options"):
             lines += entries(one.parts.get(part, []))
-    lines += [".SH FILES", *paragraphs(["Of the service ssb_live:", "", *SERVICE_FILES]), ".SH SEE ALSO"]
+    lines += [".SH FILES", *paragraphs(["Of the service ssb_live:", "", *SERVICE_FILES]),
+              *paragraphs(["Tools in Python, tested and not proved:", "", *TOOL_FILES]), ".SH SEE ALSO"]
     for name, has in DOCUMENTS.items():
         lines += [".TP", escaped(f"/usr/share/doc/{made.name}/{name}"), has]
     return "".join(f"{line}\n" for line in lines)

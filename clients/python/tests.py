@@ -292,6 +292,7 @@ class Refreshes(Trial):
 
     def test_a_journal_keeps_the_commits_for_the_next_server(self):
         self.live.close()
+        self.assertEqual(self.process.wait(PATIENCE), 0)        # it has the pipes until it has ended
         for commits, word in ((1, "--new-journal"), (2, "--journal")):
             self.serve(word, self.folder / "journal")
             with self.connect() as live:
