@@ -9,6 +9,7 @@ import sys
 import time
 
 from common import HERE, journal_words, make_tables
+from full import limit_files
 from journals import HEAD_BYTES, JournalReader, groups_of
 from judge import Disagreement
 from pipes import PATIENCE, READY, Server, line_end, ssb_live
@@ -18,6 +19,7 @@ CLIENTS = 16
 STARTING = 600          # seconds after which a start counts as stuck
 TICK = 0.002            # seconds between two looks for what is not there yet
 COMMITS = 6             # of the first server that `forks` begins with
+TORN = b" 000000000009000\n" + 2000 * b"x"     # a beginning of a group
 FIRST_KEY = 10**13      # of the orders that are added there
 OWN_KEY = 2 * 10**13    # .. of those that only a second has
 CASES = []              # of `forks`, in their order
@@ -50,8 +52,9 @@ class Machine:
         self.reader, self.marks, self.server = JournalReader(self.journal, data), [], None
         self.ends = [(folder / f"in-{number}", folder / f"out-{number}") for number in range(1, CLIENTS + 1)]
 
-    def start(self):
-        self.server = Server(self.data, self.folder, CLIENTS, *journal_words(self.journal), "--keep", quiet=False)
+    def start(self, prepare=None):
+        self.server = Server(self.data, self.folder, CLIENTS, *journal_words(self.journal), "--keep", quiet=False,
+                             prepare=prepare)
         end = time.monotonic() + STARTING
         while not READY.search((self.folder / "errors").read_text()):
             if self.server.process.poll() is not None or time.monotonic() > end:
@@ -252,6 +255,15 @@ class Forks:
         made = self.machine(data=data)
         made.start()
         return made
+
+    @case
+    def a_second_that_takes_no_refreshes(self):
+        second = self.begun(3)
+        second.kill()
+        with open(second.journal, "ab") as file:
+            file.write(TORN)
+        second.start(limit_files(len(TORN) - 1))        # so that what is torn cannot be kept
+        return self.expect(self.first, second, 3, "the second takes no refreshes", 3)
 
     # while it runs
 

@@ -30,7 +30,8 @@ the second has to say every five seconds that it has no other commits.
   status 0   a signal (INT, TERM) ended it; with --once: the second has all that FILE has
          1   a person has to look: Forked N, Refused N, other tables, a damaged journal, a disk that fails
          2   wrong words
-         3   the link is cut, or no reply came for a minute: start it again, and it goes on
+         3   the link is cut, no reply came for a minute, or the second's journal cannot be written: start it again,
+             and it goes on
 """
 import argparse
 import collections
@@ -66,6 +67,11 @@ class Stop(Exception):
 
 
 class Cut(Stop):
+    status = 3
+
+
+class ReadOnly(Stop):
+    """The second takes no refreshes: perhaps the next server there does."""
     status = 3
 
 
@@ -333,6 +339,8 @@ class Link:
         while not found:
             for line in self.session.turn(1):
                 found = found or refusal.fullmatch(line)
+                if line == b"fault: 68 ReadOnly":
+                    raise ReadOnly("the second takes no refreshes: its journal could not be written when it started")
             if time.monotonic() > began + PATIENCE:
                 raise Cut(f"the second has not replied in {PATIENCE} s")
         self.count = int(found[1])

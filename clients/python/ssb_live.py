@@ -21,6 +21,7 @@ No call waits longer than the connection's `timeout`. What goes wrong is an exce
         IntegrityError
           Refused             a refresh that was refused: nothing was changed
         OperationalError
+          ReadOnly            the server takes no refreshes, and this was one: nothing was done
           Unserved            the server lacked memory for it: nothing was done
           Ended               the server ended the session, or died; the connection is closed
           TimedOut            there was no reply in time; the connection is closed
@@ -32,6 +33,7 @@ import contextlib
 import errno
 import fcntl
 import math
+import operator
 import os
 import re
 import secrets
@@ -45,10 +47,15 @@ TIMEOUT = 60.0              # seconds
 MOST_BYTES = 1 << 20        # of a request
 TICK = 0.002                # seconds between two looks for a server that opens its end
 PART = 1 << 16              # bytes that are read at once: as many as a pipe holds
+UNKNOWN, ITS_FAULT = b"x\n", b"fault: 70 BadLine 1\n"
+READ_ONLY = b"fault: 68 ReadOnly\n"
+ASKED = 64                  # requests of the greeting of a server that takes no refreshes
+GREETING = 8192             # bytes that the replies to a greeting have at most
 
 LINEORDER = ("LO_ORDERKEY", "LO_LINENUMBER", "LO_CUSTKEY", "LO_PARTKEY", "LO_SUPPKEY", "LO_ORDERDATE",
              "LO_ORDERPRIORITY", "LO_SHIPPRIORITY", "LO_QUANTITY", "LO_EXTENDEDPRICE", "LO_ORDTOTALPRICE",
              "LO_DISCOUNT", "LO_REVENUE", "LO_SUPPLYCOST", "LO_TAX", "LO_COMMITDATE", "LO_SHIPMODE")
+TEXTS = {"LO_ORDERPRIORITY", "LO_SHIPMODE"}
 MEASURES = ("LO_REVENUE", "LO_REVENUE-LO_SUPPLYCOST", "LO_EXTENDEDPRICE*LO_DISCOUNT", "LO_QUANTITY", "COUNT")
 NUMBERS = {"D_YEAR", "D_YEARMONTHNUM", "D_WEEKNUMINYEAR", *MEASURES}
 # The printed columns of the thirteen; those of star stand in its constants.
@@ -103,6 +110,11 @@ class Refused(IntegrityError):
         self.at, self.action, self.text, self.number = at, action, text, int(text.split(" ", 1)[0])
 
 
+class ReadOnly(OperationalError):
+    """The server takes no refreshes, as its journal could not be written when it started. Nothing was done; the
+    connection can be used for questions."""
+
+
 class Unserved(OperationalError):
     """The server lacked memory for the request, and did nothing; the connection can be used."""
 
@@ -130,6 +142,11 @@ class Answer(collections.abc.Sequence):
     def __getitem__(self, place):
         return self.rows[place]
 
+    def to_pandas(self):
+        """The rows as a DataFrame of pandas, which has to be installed."""
+        import pandas
+        return pandas.DataFrame(self.rows, columns=list(self.columns))
+
     def __repr__(self):
         return f"<{self.name} at {self.at}: {len(self.rows)} rows of {', '.join(self.columns)}>"
 
@@ -143,11 +160,32 @@ def columns_of(name, constants=()):
 
 
 def field_of(value):
-    """A value as a field of a record."""
-    text = str(value)
+    """A value as a field of a record: a text, or a whole number."""
+    text = value if isinstance(value, str) else str(number_of(value))
     if re.search(r"[|\r\n]", text) or text.endswith(" "):
         raise ProgrammingError(f"{text!r} has a bar, an end of a line, or a space at its end")
     return text
+
+
+def number_of(value):
+    """A whole number, of Python's or of another library's type, or as its digits."""
+    if isinstance(value, str) and value.isascii() and value.isdigit():
+        return value
+    if isinstance(value, (str, bool)) or not hasattr(value, "__index__"):
+        raise ProgrammingError(f"{value!r} is no whole number")
+    return operator.index(value)
+
+
+def column_of(column, value):
+    """A value as a field of this column of LINEORDER."""
+    try:
+        if column not in TEXTS:
+            return field_of(number_of(value))
+        if not isinstance(value, str):
+            raise ProgrammingError(f"{value!r} is no text")
+        return field_of(value)
+    except ProgrammingError as fault:
+        raise ProgrammingError(f"{column}: {fault}") from None
 
 
 def question_of(question):
@@ -229,7 +267,7 @@ class Refresh:
 
     def withdraw(self, key):
         """Removes all lines of the order with this key."""
-        self.records.append(f"withdraw|{field_of(key)}")
+        self.records.append(f"withdraw|{column_of('LO_ORDERKEY', key)}")
 
     def abort(self):
         """Drops the refresh."""
@@ -245,7 +283,10 @@ class Refresh:
                 odd = ", ".join(sorted(map(str, set(line) ^ set(LINEORDER))))
                 raise ProgrammingError(f"a line has the columns of LINEORDER, each once: {odd}")
             line = [line[column] for column in LINEORDER]
-        return "line|" + "|".join(map(field_of, line))
+        line = tuple(line)
+        if len(line) != len(LINEORDER):
+            raise ProgrammingError(f"a line has {len(LINEORDER)} values, and this one has {len(line)}")
+        return "line|" + "|".join(map(column_of, LINEORDER, line))
 
     def __enter__(self):
         return self
@@ -387,7 +428,7 @@ class Connection:
         """Raises what a reply says that is no answer and no receipt."""
         fault = re.fullmatch(r"fault: (\d+ .+)", reply)
         if fault:
-            raise Fault(fault[1])
+            raise (ReadOnly if fault[1].startswith("68 ") else Fault)(fault[1])
         refused = re.fullmatch(r"refused at (\d+) action (\d+): (\d+ .+)", reply)
         if refused:
             raise Refused(int(refused[1]), int(refused[2]), refused[3])
@@ -447,13 +488,27 @@ class Connection:
         """Sends a refresh that is always refused, by a key that nobody else can have named. All that comes before its
         refusal was for a client before this one, which may have left the session in mid-request."""
         key = secrets.randbits(63)
-        refusal = re.compile(rb"(?:^|\n)refused at \d+ action [12]: 47 Absent %d\n\Z" % key)
-        text = bytearray()
+        refresh = b"begin\nwithdraw|%d\nwithdraw|%d\ncommit\n" % (key, key)
+        reply = rb"(?:refused at \d+ action [12]: 47 Absent %d\n|%s)" % (key, READ_ONLY)
+        if self._hear(b"\nabort\n" + refresh, reply, deadline).endswith(READ_ONLY):
+            self._greet_by_turns(refresh, reply, deadline)
 
-        def is_greeted(part):
+    def _greet_by_turns(self, refresh, reply, deadline):
+        """A server that takes no refreshes names no key: it is sent that refresh, and a line that is no request, in
+        turns that nobody else can have sent."""
+        turns = [secrets.randbits(1) for _ in range(ASKED)]
+        self._hear(b"".join(refresh if turn else UNKNOWN for turn in turns),
+                   b"".join(reply if turn else ITS_FAULT for turn in turns), deadline)
+
+    def _hear(self, request, reply, deadline):
+        """Sends a request, and reads until what came ends with such a reply, which begins a line; what came."""
+        text, wanted = bytearray(), re.compile(rb"(?:^|\n)%s\Z" % reply)
+
+        def is_heard(part):
             text.extend(part)
-            return refusal.search(text, max(0, len(text) - 200))
-        self._send_and_read(b"\nabort\nbegin\nwithdraw|%d\nwithdraw|%d\ncommit\n" % (key, key), is_greeted, deadline)
+            return wanted.search(text, max(0, len(text) - GREETING))
+        self._send_and_read(request, is_heard, deadline)
+        return text
 
     def _take_turn(self, deadline):
         """Waits for the turn of a request, where other threads have one under way."""

@@ -5,9 +5,11 @@ PROGRAM is ssb_live (by default out/start/ssb_live, which `./start` makes); the 
 are small, and what is asked of them was reckoned by hand. It takes some seconds; the status is 1 where a test fails.
 """
 import contextlib
+import importlib.util
 import json
 import os
 import pathlib
+import resource
 import signal
 import subprocess
 import sys
@@ -56,11 +58,11 @@ class Trial(unittest.TestCase):
         for end in sum(self.ends, ()):
             os.mkfifo(end)
 
-    def serve(self, *words, clients=1):
-        """Starts the program."""
+    def serve(self, *words, clients=1, prepare=None):
+        """Starts the program; `prepare` is called in its process before."""
         words = [*words, *(word for ends in self.ends[:clients] for word in ("--client", *ends))]
         self.process = subprocess.Popen([PROGRAM, "serve", "--data", self.folder, "--quiet", *words],
-                                        stdin=subprocess.DEVNULL)
+                                        stdin=subprocess.DEVNULL, preexec_fn=prepare)
         self.addCleanup(self.stop, self.process)
 
     @staticmethod
@@ -121,6 +123,13 @@ class Answers(Trial):
         rows = [("CHINA", 1993, 980), ("CHINA", 1994, 495), ("UNITED STATES", 1993, 2910)]
         self.assertEqual((answer.columns, list(answer)), (("C_NATION", "D_YEAR", "LO_REVENUE"), rows))
         self.assertEqual((len(answer), answer[-1]), (3, rows[2]))
+
+    @unittest.skipUnless(importlib.util.find_spec("pandas"), "pandas is not there")
+    def test_an_answer_is_a_frame_of_pandas(self):
+        frame = self.live.ask(*BY_NATION).to_pandas()
+        self.assertEqual(list(frame.columns), ["C_NATION", "D_YEAR", "LO_REVENUE"])
+        self.assertEqual(frame.groupby("C_NATION")["LO_REVENUE"].sum().to_dict(), {"CHINA": 1475, "UNITED STATES": 2910})
+        self.assertEqual(self.live.ask("star", "COUNT", "D_YEAR", "D_YEAR=1995").to_pandas().shape, (0, 2))
 
     def test_constants_are_sent_as_they_are(self):
         self.assertEqual(self.live.ask("Q1.1", 1994, 1, 1, 0, 24).rows, [(500,)])
@@ -270,12 +279,34 @@ class Refreshes(Trial):
         self.assertEqual(self.live.ask("Q1.1").rows, [(Q1_1,)])
 
     def test_a_fault_of_a_refresh_is_raised(self):
-        cases = [(lambda it: None, "72 EmptyBlock 2"), (lambda it: it.withdraw("x"), "70 BadLine 2"),
-                 (lambda it: it.add(), "73 Row 2 1 NoLines"), (lambda it: it.add((1, 2)), "70 BadLine 3")]
+        cases = [(lambda it: None, "72 EmptyBlock 2"), (lambda it: it.withdraw(-1), "70 BadLine 2"),
+                 (lambda it: it.add(), "73 Row 2 1 NoLines"), (lambda it: it.add(line(9, number=-1)), "70 BadLine 3")]
         for work, text in cases:
             with self.raises(ssb_live.Fault, text), self.live.refresh() as refresh:
                 work(refresh)
         self.assertEqual(self.live.ask("Q1.1").at, 0)
+
+    def test_a_value_of_another_type_is_not_sent(self):
+        cases = [("LO_DISCOUNT", 0.1, "LO_DISCOUNT: 0.1 is no whole number"), ("LO_TAX", None, "LO_TAX: None is no"),
+                 ("LO_QUANTITY", "many", "LO_QUANTITY: 'many' is no whole number"), ("LO_ORDERKEY", True, "True is no"),
+                 ("LO_SHIPMODE", 3, "LO_SHIPMODE: 3 is no text"), ("LO_SHIPMODE", "A|R", "LO_SHIPMODE: 'A.R' has a bar")]
+        for column, value, text in cases:
+            named = {**dict(zip(ssb_live.LINEORDER, line(9))), column: value}
+            with self.raises(ssb_live.ProgrammingError, text), self.live.refresh() as refresh:
+                refresh.add(named)
+        with self.raises(ssb_live.ProgrammingError, "17 values, and this one has 2"), self.live.refresh() as refresh:
+            refresh.add((1, 2))
+        with self.raises(ssb_live.ProgrammingError, "LO_ORDERKEY: 7.0 is no whole number"):
+            self.live.refresh().withdraw(7.0)
+        with self.raises(ssb_live.ProgrammingError, "1993.0 is no whole number"):
+            self.live.ask("Q1.1", 1993.0, 1, 3, 0, 24)
+        self.assertEqual(self.live.ask("Q1.1").rows, [(Q1_1,)])
+
+    def test_numbers_may_be_digits(self):
+        with self.live.refresh() as refresh:
+            refresh.add([str(value) for value in line(9)])
+            refresh.withdraw("8")
+        self.assertEqual(self.live.ask("star", "COUNT").rows, [(3,)])
 
     def test_a_block_that_is_left_by_an_exception_sends_nothing(self):
         with self.raises(KeyError), self.live.refresh() as refresh:
@@ -300,6 +331,42 @@ class Refreshes(Trial):
                     refresh.add(line(100 + commits))
                 self.assertEqual((refresh.committed, live.ask("star", "COUNT").rows), (commits, [(3 + commits,)]))
             self.assertEqual(self.process.wait(PATIENCE), 0)
+
+
+def write_nothing():
+    """A write to a file fails from now on, as on a full disk."""
+    signal.signal(signal.SIGXFSZ, signal.SIG_IGN)
+    resource.setrlimit(resource.RLIMIT_FSIZE, (0, resource.RLIM_INFINITY))
+
+
+class ReadOnlyServers(Trial):
+    """A server over a journal of one commit, whose torn end it cannot keep: it takes no refreshes."""
+
+    def setUp(self):
+        super().setUp()
+        self.serve("--new-journal", self.folder / "journal")
+        with self.connect() as live, live.refresh() as refresh:
+            refresh.withdraw(7)
+        self.assertEqual(self.process.wait(PATIENCE), 0)
+        with open(self.folder / "journal", "ab") as file:
+            file.write(b" 000000000000057\n26e3bdf5")
+        self.serve("--journal", self.folder / "journal", prepare=write_nothing)
+
+    def test_questions_are_answered_and_refreshes_are_not_taken(self):
+        with self.connect() as live:
+            self.assertEqual((live.ask("star", "COUNT").at, live.ask("star", "COUNT").rows), (1, [(1,)]))
+            with self.raises(ssb_live.ReadOnly, "68 ReadOnly"), live.refresh() as refresh:
+                refresh.withdraw(8)
+            self.assertEqual((live.ask("star", "COUNT").at, live.ask("star", "COUNT").rows), (1, [(1,)]))
+        self.assertEqual(self.process.wait(PATIENCE), 4)
+
+    def test_what_a_client_before_left_is_not_taken_for_a_reply(self):
+        into, out = (os.open(path, os.O_RDWR | os.O_NONBLOCK) for path in self.ends[0])
+        os.write(into, b"begin\nwithdraw|8\ncommit\nx\nquery|Q1.1\nbegin\nwithdraw|7\n")
+        with self.connect() as live:
+            self.assertEqual(live.ask("star", "COUNT").rows, [(1,)])
+            os.close(into)
+            os.close(out)
 
 
 class BrokenServers(Trial):
