@@ -11,10 +11,6 @@ use Rattle.history.specs.Tokens.{TableRecord, TokenRecord}
 use Rattle.ssb_clients.specs.Clients.{Refreshed, Looks, HandsBack, Asks, Polls}
 use Rattle.ssb_clients.specs.Tickets.{IsOf}
 use Rattle.ssb_server.specs.Turns.{HasFetched}
-use Rattle.ssb_clients.proofs.StayingLaws.{new_clients_are_quiet, those_that_answer_are_of_it}
-
--- whose the clients and dispatchers of a new server are
-pub ruleset new_are_its_own = (new_clients_are_quiet, those_that_answer_are_of_it)
 
 module _ (table : TableRecord) where
   pub looks_stays : (before after : TokenRecord) → IsOf table before → Looks before after → IsOf table after

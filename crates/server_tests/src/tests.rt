@@ -1,3 +1,4 @@
+mod clients;
 mod closing;
 mod figures;
 mod following;

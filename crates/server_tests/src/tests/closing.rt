@@ -2,32 +2,17 @@
 ghost use Rattle.std.specs.Prelude.{◌≡◌, All, IfOk};
 ghost use Rattle.ssb_clients.specs.Tickets.{IsOf, IsQuiet};
 
-use crate::tests::opening::{next_client, next_dispatcher, opened, opened_keeping};
-use crate::tests::trial::{follows, refreshes_quiet};
-use ssb_server::{Client, Closed, Dispatcher, Keeps, Opened, Server};
+use crate::tests::clients::{next_client, refreshes_quiet, with_client};
+use crate::tests::opening::{next_dispatcher, opened, opened_keeping};
+use crate::tests::trial::follows;
+use ssb_server::{Client, Closed, Dispatcher, EndsCopies, Keeps, Opened, Server};
 use std::alloc::{AllocError, Global};
 use std::sync::Wait;
 use std::test::Fail;
 use test_fixtures::adding;
 
-/// These clients, and one more.
-pub fn with_client<W: Wait + Drop>(
-    server: &Server<W>,
-    mut clients: Vec<Client<W>>,
-    client: Client<W>,
-) -> Result<Vec<Client<W>>, AllocError>
-    requires clients { All (IsQuiet server.now) clients.items }
-    requires client { IsQuiet server.now client }
-    ensures { IfOk result (λ all. All (IsQuiet server.now) all.items) }
-{
-    let _ = server;
-    clients.reserve(1)?;
-    clients.push_reserved(client);
-    Ok(clients)
-}
-
 // These dispatchers, and one more.
-fn with_dispatcher<W: Wait + Drop>(
+fn with_dispatcher<W: EndsCopies + Drop>(
     server: &Server<W>,
     mut dispatchers: Vec<Dispatcher<W>>,
     dispatcher: Dispatcher<W>,
@@ -43,7 +28,7 @@ fn with_dispatcher<W: Wait + Drop>(
 }
 
 /// Closes a server.
-pub fn closes<W: Wait + Drop>(
+pub fn closes<W: EndsCopies + Drop>(
     server: Server<W>,
     clients: Vec<Client<W>>,
     dispatchers: Vec<Dispatcher<W>>,
@@ -64,7 +49,7 @@ pub fn closes<W: Wait + Drop>(
 }
 
 // A server that is not closed, and gives all back.
-fn stays_open<W: Wait + Drop>(
+fn stays_open<W: EndsCopies + Drop>(
     server: Server<W>,
     clients: Vec<Client<W>>,
     dispatchers: Vec<Dispatcher<W>>,
@@ -88,7 +73,10 @@ fn stays_open<W: Wait + Drop>(
 }
 
 // Closes a server that gave all back, with this client too.
-fn closes_with_client<W: Wait + Drop>(back: Opened<W>, client: Client<W>) -> Result<Closed, Fail>
+fn closes_with_client<W: EndsCopies + Drop>(
+    back: Opened<W>,
+    client: Client<W>,
+) -> Result<Closed, Fail>
     requires clients { All (IsQuiet back.server) back.clients.items }
     requires client { IsQuiet back.server client }
     requires dispatchers { All (IsOf back.server) back.dispatchers.items }
@@ -105,7 +93,9 @@ fn closes_with_client<W: Wait + Drop>(back: Opened<W>, client: Client<W>) -> Res
 
 // Closes a server with a client missing, and then with all. How many clients and dispatchers were handed back, and how
 // many loaded lines and commits there are at the close.
-fn closed_at_last<W: Wait + Drop>(made: Opened<W>) -> Result<((usize, usize), (usize, u64)), Fail>
+fn closed_at_last<W: EndsCopies + Drop>(
+    made: Opened<W>,
+) -> Result<((usize, usize), (usize, u64)), Fail>
     requires clients { All (IsQuiet made.server) made.clients.items }
     requires dispatchers { All (IsOf made.server) made.dispatchers.items }
 {

@@ -9,7 +9,7 @@ use crate::tests::parties::{Plays, PlaysTurns};
 use crate::tests::trial::TrialDeed::{Adds, Asks, Polls};
 use crate::tests::trial::TrialStep::{First, Second, Third};
 use crate::tests::trial::{Trial, TrialStep};
-use ssb_server::{Opened, ScanGate, Server, Turn};
+use ssb_server::{EndsCopies, Opened, ScanGate, Server, Turn};
 use std::alloc::Global;
 use std::sync::Wait;
 use std::sync::atomic::{AtomicBool, Ordering};
@@ -58,7 +58,7 @@ impl ScanGate for HeldGate {
 }
 
 // One turn through the gate.
-fn held_turn<W: Wait + Drop, D: PlaysTurns<W> + Drop, R: Wait + Threads + Sync>(
+fn held_turn<W: EndsCopies + Drop, D: PlaysTurns<W> + Drop, R: Wait + Threads + Sync>(
     rt: &R,
     server: &Server<W>,
     mut dispatcher: D,
@@ -98,7 +98,7 @@ fn go_on<T: Plays, R: Wait + Threads + Sync>(
 
 // A turn through a gate that holds its scan, and the others who go on meanwhile.
 fn hold_and_go_on<
-    W: Wait + Drop + Send,
+    W: EndsCopies + Drop + Send,
     D: PlaysTurns<W> + Drop + Send,
     T: Plays,
     R: Wait + Threads + Sync,
@@ -127,7 +127,7 @@ fn hold_and_go_on<
 // A client asks and its scan is held while the others go on; then both who asked poll. What the held turn did, and
 // whether it was held all the while.
 fn asks_and_is_held<
-    W: Wait + Drop + Send,
+    W: EndsCopies + Drop + Send,
     D: PlaysTurns<W> + Drop + Send,
     T: Plays,
     R: Wait + Threads + Sync,

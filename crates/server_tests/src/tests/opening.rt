@@ -2,13 +2,21 @@
 ghost use Rattle.std.specs.Prelude.{All, IfOk, IfSome};
 ghost use Rattle.ssb_clients.specs.Tickets.{IsOf, IsQuiet};
 
-use ssb_server::{Client, Dispatcher, Keeps, Loaded, OpenFault, Opened, Server, open};
+use ssb_server::{Dispatcher, EndsCopies, Keeps, Loaded, OpenFault, Opened, Server, open};
 use std::hash::RandomState;
 use std::random::RandomSource;
 use std::sync::Wait;
 use std::test::Fail;
 use std::thread::Threads;
 use test_fixtures::standard_base;
+
+// The small data set, loaded.
+fn small_loaded<R: Threads + Sync + AllocGlobal + RandomSource>(rt: &R) -> Result<Loaded, Fail> {
+    let alloc = rt.alloc();
+    let base = standard_base(rt, alloc)?;
+    let hashing = RandomState::new(rt)?;
+    Ok(Loaded::new(rt, alloc, hashing, &base, &[])?)
+}
 
 /// A server over the small data set, for so many clients and dispatchers, which keeps of its log what somebody has yet
 /// to read.
@@ -24,7 +32,6 @@ pub fn opened<R: Threads + Sync + Wait + AllocGlobal + RandomSource>(
 }
 
 /// The same, which keeps this part of its log.
-#[tactic(auto, using(crate::proofs::PlaceLaws::new_are_its_own))]
 pub fn opened_keeping<R: Threads + Sync + Wait + AllocGlobal + RandomSource>(
     rt: &R,
     clients: u32,
@@ -34,30 +41,15 @@ pub fn opened_keeping<R: Threads + Sync + Wait + AllocGlobal + RandomSource>(
     ensures clients { IfOk result (λ made. All (IsQuiet made.server) made.clients.items) }
     ensures dispatchers { IfOk result (λ made. All (IsOf made.server) made.dispatchers.items) }
 {
-    let alloc = rt.alloc();
-    let base = standard_base(rt, alloc)?;
-    let loaded = Loaded::new(rt, alloc, RandomState::new(rt)?, &base, &[])?;
-    match open(alloc, rt, loaded, clients, dispatchers, keeps) {
+    let loaded = small_loaded(rt)?;
+    match open(rt.alloc(), rt, loaded, clients, dispatchers, keeps) {
         Ok(made) => Ok(made),
         Err(fault) => Err(fault)?,
     }
 }
 
-/// The last client, which leaves.
-pub fn next_client<W: Wait + Drop>(
-    server: &Server<W>,
-    clients: &mut Vec<Client<W>>,
-) -> Option<Client<W>>
-    requires { All (IsQuiet server.now) clients.old.items }
-    ensures left { All (IsQuiet server.now) clients.new.items }
-    ensures next { IfSome result (IsQuiet server.now) }
-{
-    let _ = server;
-    clients.pop()
-}
-
 /// The last dispatcher, which leaves.
-pub fn next_dispatcher<W: Wait + Drop>(
+pub fn next_dispatcher<W: EndsCopies + Drop>(
     server: &Server<W>,
     dispatchers: &mut Vec<Dispatcher<W>>,
 ) -> Option<Dispatcher<W>>
@@ -71,8 +63,6 @@ pub fn next_dispatcher<W: Wait + Drop>(
 
 #[test]
 fn counts_out_of_range_open_nothing(rt: HostRuntime) -> Result<(), Fail> {
-    let alloc = rt.alloc();
-    let base = standard_base(&rt, alloc)?;
     for (clients, dispatchers, fault) in [
         (0, 1, OpenFault::ClientCount),
         (17, 1, OpenFault::ClientCount),
@@ -80,9 +70,8 @@ fn counts_out_of_range_open_nothing(rt: HostRuntime) -> Result<(), Fail> {
         (1, 5, OpenFault::DispatcherCount),
         (0, 0, OpenFault::ClientCount),
     ] {
-        let hashing = RandomState::new(&rt)?;
-        let loaded = Loaded::new(&rt, alloc, hashing, &base, &[])?;
-        let opened = open(alloc, &rt, loaded, clients, dispatchers, Keeps::Recent);
+        let loaded = small_loaded(&rt)?;
+        let opened = open(rt.alloc(), &rt, loaded, clients, dispatchers, Keeps::Recent);
         assert_eq!(rt; opened.err().ok_or("opened")?, fault);
     }
     Ok(())

@@ -5,7 +5,7 @@ ghost use Rattle.history.specs.Tokens.{TokenRecord};
 ghost use Rattle.ssb_clients.specs.Tickets.{IsOf};
 
 use crate::tests::trial::{Trial, TrialStep, turns};
-use ssb_server::{Dispatcher, ScanGate, Server, Turn};
+use ssb_server::{Dispatcher, EndsCopies, ScanGate, Server, Turn};
 use std::alloc::Global;
 use std::sync::Wait;
 use std::test::Fail;
@@ -16,12 +16,12 @@ pub trait HasPartyToken {
     ghost token: { Self → TokenRecord };
 }
 
-impl<W: Wait + Drop> HasPartyToken for Dispatcher<W> {
+impl<W: EndsCopies + Drop> HasPartyToken for Dispatcher<W> {
     ghost token = { λ d. d };
 }
 
 /// Who takes turns, as a dispatcher does.
-pub trait PlaysTurns<W: Wait + Drop>: HasPartyToken {
+pub trait PlaysTurns<W: EndsCopies + Drop>: HasPartyToken {
     fn take_turn<R: Wait + Threads + Sync, G: ScanGate>(
         &mut self,
         rt: &R,

@@ -4,12 +4,13 @@ ghost use Rattle.std.specs.Thread.{IsSync};
 ghost use Rattle.history.specs.Tokens.{TableRecord};
 ghost use Rattle.ssb_clients.specs.Tickets.{IsOf, IsQuiet};
 
-use crate::tests::closing::{closes, with_client};
-use crate::tests::opening::{next_client, opened_keeping};
-use crate::tests::trial::{meets_quiet, refreshes_quiet};
-use row_store::Commit;
+use crate::tests::clients::{meets_quiet, next_client, refreshes_quiet, with_client};
+use crate::tests::closing::closes;
+use crate::tests::opening::opened_keeping;
+use row_store::{Commit, Follower};
+use ssb_clients::{Client, Server};
 use ssb_schema::Refresh;
-use ssb_server::{Client, Closed, Keeps, Opened, Server};
+use ssb_server::{Closed, EndsCopies, Keeps, Opened};
 use std::alloc::Global;
 use std::marker::Model;
 use std::sync::{Arc, Wait};
@@ -31,13 +32,13 @@ fn adding_behind(alloc: Global, key: u64) -> Result<Vec<Arc<Refresh>>, Fail> {
 
 // A client of a server, with refreshes that it is to make. Contracts see the table.
 #[derive(Drop)]
-struct Maker<'s, W: Wait + Drop> {
-    server: &'s Server<W>,
-    client: Client<W>,
+struct Maker<'s, K: Follower + Drop> {
+    server: &'s Server<K>,
+    client: Client<K>,
     refreshes: Vec<Arc<Refresh>>,
 }
 
-impl<'s, W: Wait + Drop> Model for Maker<'s, W> {
+impl<'s, K: Follower + Drop> Model for Maker<'s, K> {
     ghost Value = { TableRecord };
 
     ghost view = { λ m. m.server.now };
@@ -45,8 +46,8 @@ impl<'s, W: Wait + Drop> Model for Maker<'s, W> {
     ghost invariant = { λ m. IsQuiet m.server.now m.client };
 }
 
-impl<'s, W: Wait + Drop> Maker<'s, W> {
-    fn new(server: &'s Server<W>, client: Client<W>, refreshes: Vec<Arc<Refresh>>) -> Maker<'s, W>
+impl<'s, K: Follower + Drop> Maker<'s, K> {
+    fn new(server: &'s Server<K>, client: Client<K>, refreshes: Vec<Arc<Refresh>>) -> Maker<'s, K>
         requires { IsQuiet server.now client }
         ensures { result ≡ server.now }
     {
@@ -57,7 +58,7 @@ impl<'s, W: Wait + Drop> Maker<'s, W> {
         }
     }
 
-    fn into_client(self) -> Client<W>
+    fn into_client(self) -> Client<K>
         ensures { IsQuiet self.entry result }
     {
         let Maker {
@@ -80,7 +81,7 @@ trait Makes {
         ensures { Self.table self.new ≡ Self.table self.old };
 }
 
-impl<'s, W: Wait + Drop> Makes for Maker<'s, W> {
+impl<'s, K: Follower + Drop> Makes for Maker<'s, K> {
     ghost table = { λ m. m };
 
     fn make_all<R: Wait>(&mut self, rt: &R) {
@@ -89,10 +90,10 @@ impl<'s, W: Wait + Drop> Makes for Maker<'s, W> {
 }
 
 // A client makes these refreshes, one after another.
-fn make_each<W: Wait + Drop, R: Wait>(
+fn make_each<K: Follower + Drop, R: Wait>(
     rt: &R,
-    server: &Server<W>,
-    client: &mut Client<W>,
+    server: &Server<K>,
+    client: &mut Client<K>,
     all: &[Arc<Refresh>],
 )
     requires { IsQuiet server.now client.old }
@@ -148,12 +149,12 @@ fn three_make<M: Makes + Send, R: Wait + Threads + Sync>(
 }
 
 // The last client of the list, who leaves, with ten refreshes that add the orders behind this key.
-fn next_maker<'s, W: Wait + Drop>(
+fn next_maker<'s, K: Follower + Drop>(
     alloc: Global,
-    server: &'s Server<W>,
-    clients: &mut Vec<Client<W>>,
+    server: &'s Server<K>,
+    clients: &mut Vec<Client<K>>,
     key: u64,
-) -> Result<Maker<'s, W>, Fail>
+) -> Result<Maker<'s, K>, Fail>
     requires { All (IsQuiet server.now) clients.old.items }
     ensures left { All (IsQuiet server.now) clients.new.items }
     ensures maker { IfOk result (λ maker. maker ≡ server.now) }
@@ -164,12 +165,12 @@ fn next_maker<'s, W: Wait + Drop>(
 
 // Three clients of a server, who are back, make ten refreshes each at once, and then two of them meet: how many commits
 // these see.
-fn make_and_meet<W: Wait + Drop + Send, R: Wait + Threads + Sync>(
+fn make_and_meet<K: Follower + Drop + Send, R: Wait + Threads + Sync>(
     rt: &R,
     alloc: Global,
-    server: &Server<W>,
-    mut clients: Vec<Client<W>>,
-) -> Result<(u64, Vec<Client<W>>), Fail>
+    server: &Server<K>,
+    mut clients: Vec<Client<K>>,
+) -> Result<(u64, Vec<Client<K>>), Fail>
     requires { All (IsQuiet server.now) clients.items }
     ensures { IfOk result (λ made. All (IsQuiet server.now) made.1.items) }
 {
@@ -185,7 +186,7 @@ fn make_and_meet<W: Wait + Drop + Send, R: Wait + Threads + Sync>(
 }
 
 // The same, after which the server is closed: how many commits were seen, and the log.
-fn thirty_are_made<W: Wait + Drop + Send, R: Wait + Threads + Sync>(
+fn thirty_are_made<W: EndsCopies + Drop + Send, R: Wait + Threads + Sync>(
     rt: &R,
     alloc: Global,
     made: Opened<W>,

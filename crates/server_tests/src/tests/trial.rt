@@ -2,22 +2,16 @@
 ghost use Rattle.std.specs.Prelude.{All};
 ghost use Rattle.ssb_clients.specs.Tickets.{IsOf, IsQuiet};
 
-use crate::tests::opening::{next_client, next_dispatcher, opened};
-use history_core::Response;
-use row_store::{Receipt, RefreshError};
+use crate::tests::clients::{does, meets, next_client};
+use crate::tests::opening::{next_dispatcher, opened};
 use server_figures::Figures;
-use ssb_answers::Answer;
-use ssb_report::{write_answers, write_reply};
-use ssb_schema::Refresh;
-use ssb_server::{Client, Dispatcher, OpenGate, Opened, ScanGate, Server, Turn};
-use ssb_text::WriteFault;
+use ssb_server::{Client, Dispatcher, EndsCopies, OpenGate, Opened, ScanGate, Server, Turn};
 use std::alloc::{AllocError, Global};
 use std::marker::Model;
 use std::random::RandomSource;
-use std::sync::{Arc, Wait};
+use std::sync::Wait;
 use std::test::Fail;
 use std::thread::Threads;
-use test_fixtures::{adding, asking, refresh};
 
 /// What a client does.
 #[derive(Clone, Copy, Debug)]
@@ -53,7 +47,7 @@ pub enum TrialStep {
 
 /// Three clients and a dispatcher of a server, which is theirs.
 #[derive(Drop)]
-pub struct Trial<'s, W: Wait + Drop> {
+pub struct Trial<'s, W: EndsCopies + Drop> {
     server: &'s Server<W>,
     first: Client<W>,
     second: Client<W>,
@@ -61,31 +55,13 @@ pub struct Trial<'s, W: Wait + Drop> {
     dispatcher: Dispatcher<W>,
 }
 
-impl<'s, W: Wait + Drop> Model for Trial<'s, W> {
+impl<'s, W: EndsCopies + Drop> Model for Trial<'s, W> {
     ghost Value = { Unit {0} };
 
     ghost view = { λ t. tt };
 
     ghost invariant = { λ t. IsOf t.server.now t.first × IsOf t.server.now t.second × IsOf t.server.now t.third
         × IsOf t.server.now t.dispatcher };
-}
-
-// Room for what is told, so that its growth is never the one that is refused.
-fn room(alloc: Global) -> Result<Vec<u8>, AllocError> {
-    let mut told = Vec::new(alloc);
-    told.reserve(400)?;
-    Ok(told)
-}
-
-// What was written, without the end of its last line. There is room for all of it, and it is UTF-8.
-fn text(
-    alloc: Global,
-    written: Result<(), WriteFault>,
-    told: Vec<u8>,
-) -> Result<String, AllocError> {
-    written.map_err(|_| AllocError)?;
-    let told = str::from_utf8(told.as_slice()).map_err(|_| AllocError)?;
-    String::from_str(alloc, told.trim_end())
 }
 
 // What a turn did.
@@ -104,142 +80,6 @@ fn counted(alloc: Global, figures: Figures) -> Result<String, AllocError> {
     format!(in alloc;
         "{commits} commits, {lines} lines, {refusals} refused, {answers} answers, {batches} batches"
     )
-}
-
-// A client's refresh.
-fn refreshed<R: Wait, W: Wait + Drop>(
-    rt: &R,
-    server: &Server<W>,
-    client: &mut Client<W>,
-    refresh: Arc<Refresh>,
-) -> Result<Receipt, RefreshError>
-    requires { IsOf server.now client.old }
-    ensures { IsOf server.now client.new }
-{
-    let _ = client.number();
-    client.refresh(rt, server, refresh)
-}
-
-/// The refresh of a client that asks nothing.
-pub fn refreshes_quiet<R: Wait, W: Wait + Drop>(
-    rt: &R,
-    server: &Server<W>,
-    client: &mut Client<W>,
-    refresh: Arc<Refresh>,
-) -> Result<Receipt, RefreshError>
-    requires { IsQuiet server.now client.old }
-    ensures { IsQuiet server.now client.new }
-{
-    let _ = client.number();
-    client.refresh(rt, server, refresh)
-}
-
-// A refresh that withdraws the order of this key.
-fn withdrawing(alloc: Global, key: u64) -> Result<Arc<Refresh>, AllocError> {
-    let actions = format!(in alloc; "withdraw|{key}\n")?;
-    refresh(alloc, actions.as_str()).map_err(|_| AllocError)
-}
-
-// A refresh that adds the order of this key.
-fn adding_one(alloc: Global, key: u64) -> Result<Arc<Refresh>, AllocError> {
-    adding(alloc, key).map_err(|_| AllocError)
-}
-
-// A client refreshes, and what it is told.
-fn refreshes<R: Wait, W: Wait + Drop>(
-    rt: &R,
-    alloc: Global,
-    server: &Server<W>,
-    client: &mut Client<W>,
-    refresh: Arc<Refresh>,
-) -> Result<String, AllocError>
-    requires { IsOf server.now client.old }
-    ensures { IsOf server.now client.new }
-{
-    let mut told = room(alloc)?;
-    let written = write_reply(&mut told, &refreshed(rt, server, client, refresh));
-    text(alloc, written, told)
-}
-
-// A client asks, where it is not asking.
-#[tactic(auto, using(crate::proofs::PlaceLaws::asks_stays))]
-fn asks<W: Wait + Drop>(
-    alloc: Global,
-    server: &Server<W>,
-    client: &mut Client<W>,
-    queries: &str,
-) -> Result<String, AllocError>
-    requires { IsOf server.now client.old }
-    ensures { IsOf server.now client.new }
-{
-    if client.is_asking() {
-        return String::from_str(alloc, "asking");
-    }
-    let questions = asking(alloc, queries).map_err(|_| AllocError)?;
-    client.ask(server, questions);
-    String::from_str(alloc, "asked")
-}
-
-// The answer to each question of a request, in order.
-fn answers_of(alloc: Global, response: Response) -> Result<Vec<Answer>, AllocError> {
-    let count = match &response {
-        Response::Rows { questions, .. } => questions.len(),
-        Response::Unserved { questions, .. } => questions.len(),
-    };
-    let mut answers = Vec::with_capacity(alloc, count)?;
-    response.put_answers(&mut answers);
-    Ok(answers)
-}
-
-// A client polls, and what it is told.
-#[tactic(auto, using(crate::proofs::PlaceLaws::polls_stays))]
-fn polls<W: Wait + Drop>(
-    alloc: Global,
-    server: &Server<W>,
-    client: &mut Client<W>,
-) -> Result<String, AllocError>
-    requires { IsOf server.now client.old }
-    ensures { IsOf server.now client.new }
-{
-    let Some(response) = client.poll(server) else {
-        return String::from_str(alloc, "no answer");
-    };
-    let answers = answers_of(alloc, response)?;
-    let mut told = room(alloc)?;
-    let written = write_answers(&mut told, answers.as_slice());
-    text(alloc, written, told)
-}
-
-// A client meets another one, and how many commits it then sees.
-#[tactic(auto, using(crate::proofs::PlaceLaws::looks_stays))]
-fn meets<W: Wait + Drop>(
-    alloc: Global,
-    server: &Server<W>,
-    client: &mut Client<W>,
-    other: &mut Client<W>,
-) -> Result<String, AllocError>
-    requires client { IsOf server.now client.old }
-    requires other { IsOf server.now other.old }
-    ensures client { IsOf server.now client.new }
-    ensures other { IsOf server.now other.new }
-{
-    let seen = client.meet(server, other);
-    format!(in alloc; "sees {seen}")
-}
-
-/// A client meets another one, and both ask nothing: how many commits it then sees.
-#[tactic(auto, using(ssb_clients::proofs::StayingLaws::looks_stays))]
-pub fn meets_quiet<W: Wait + Drop>(
-    server: &Server<W>,
-    client: &mut Client<W>,
-    other: &mut Client<W>,
-) -> u64
-    requires client { IsQuiet server.now client.old }
-    requires other { IsQuiet server.now other.old }
-    ensures client { IsQuiet server.now client.new }
-    ensures other { IsQuiet server.now other.new }
-{
-    client.meet(server, other)
 }
 
 /// A turn of a dispatcher.
@@ -265,25 +105,6 @@ pub fn follows<W: Wait + Drop, R: Wait>(rt: &R, server: &Server<W>, dispatcher: 
     dispatcher.follow(rt, server);
 }
 
-// What a client does, and what it is told.
-fn does<R: Wait, W: Wait + Drop>(
-    rt: &R,
-    alloc: Global,
-    server: &Server<W>,
-    client: &mut Client<W>,
-    deed: TrialDeed,
-) -> Result<String, AllocError>
-    requires { IsOf server.now client.old }
-    ensures { IsOf server.now client.new }
-{
-    match deed {
-        TrialDeed::Adds(key) => refreshes(rt, alloc, server, client, adding_one(alloc, key)?),
-        TrialDeed::Withdraws(key) => refreshes(rt, alloc, server, client, withdrawing(alloc, key)?),
-        TrialDeed::Asks(queries) => asks(alloc, server, client, queries),
-        TrialDeed::Polls => polls(alloc, server, client),
-    }
-}
-
 // Whether what a step told is what stands beside it.
 fn as_expected(alloc: Global, step: (TrialStep, &str), told: String) -> Result<(), Fail> {
     if told.as_str() != step.1 {
@@ -292,7 +113,7 @@ fn as_expected(alloc: Global, step: (TrialStep, &str), told: String) -> Result<(
     Ok(())
 }
 
-impl<'s, W: Wait + Drop> Trial<'s, W> {
+impl<'s, W: EndsCopies + Drop> Trial<'s, W> {
     /// A trial of the last three of these clients and the last of these dispatchers, which leave.
     pub fn new(
         server: &'s Server<W>,
@@ -311,7 +132,9 @@ impl<'s, W: Wait + Drop> Trial<'s, W> {
             dispatcher: next_dispatcher(server, dispatchers).ok_or("no dispatcher")?,
         })
     }
+}
 
+impl<'s, W: Wait + Drop> Trial<'s, W> {
     // Takes a step. What its client is told, or what the dispatcher did.
     fn takes<R: Wait + Threads + Sync>(
         &mut self,

@@ -1,5 +1,5 @@
-use Rattle.ssb_clients.proofs.StayingLaws.{refreshed_stays}
-use Rattle.server_tests.proofs.tests.trial.refreshes_quiet.Goals as goal
+use Rattle.server_tests.proofs.PlaceLaws.{refreshed_stays}
+use Rattle.server_tests.proofs.tests.clients.refreshed.Goals as goal
 
 pub returns : goal.returns
 returns g c =

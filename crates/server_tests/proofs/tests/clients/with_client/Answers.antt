@@ -2,7 +2,7 @@ use Rattle.std.proofs.Common.{◌∙◌, ◌++◌, ◌∷◌, [], ap, sym, subst
 use Rattle.std.specs.Prelude.{All}
 use Rattle.std.proofs.lemmas.List.Elements.{All-push}
 use Rattle.ssb_clients.specs.Tickets.{IsQuiet}
-use Rattle.server_tests.proofs.tests.closing.with_client.Goals as goal
+use Rattle.server_tests.proofs.tests.clients.with_client.Goals as goal
 
 pub returns : goal.returns
 returns g c =

@@ -1,5 +1,5 @@
-use Rattle.server_tests.proofs.PlaceLaws.{refreshed_stays}
-use Rattle.server_tests.proofs.tests.trial.refreshed.Goals as goal
+use Rattle.ssb_clients.proofs.StayingLaws.{refreshed_stays}
+use Rattle.server_tests.proofs.tests.clients.refreshes_quiet.Goals as goal
 
 pub returns : goal.returns
 returns g c =
