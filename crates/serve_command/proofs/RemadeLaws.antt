@@ -28,12 +28,10 @@ use Rattle.serve_command.proofs.BeginningLaws.{begun_table, opened_dispatchers, 
 use Rattle.serve_command.proofs.JournalLaws.{refused_open}
 use Rattle.serve_command.proofs.RemakingLaws.{still_still}
 use Rattle.serve_command.proofs.SeatLaws.{new_are_seated}
-use Rattle.serve_command.proofs.StatusLaws.{journaled_no_words, opening_no_words}
-use Rattle.serve_command.specs.JournaledRun.{IsUnservedFault}
 use Rattle.serve_command.specs.Journals.{RefusesFile}
 use Rattle.serve_command.specs.Remade.{AreAtLog, IsNotRemade, IsRemakeFault}
 use Rattle.serve_command.specs.Seated.{AreSeated}
-use Rattle.serve_command.specs.Status.{journaled_status, refusal_status}
+use Rattle.serve_command.specs.Status.{refusal_status}
 use Rattle.serve_command.specs.declared.fault.ServeRefusal.{ServeRefusal}
 use Rattle.serve_command.specs.declared.fault.ServeRefusal.TheVariants as refusal
 use Rattle.serve_command.specs.declared.unserved.JournaledFault.{JournaledFault}
