@@ -10,7 +10,7 @@ ghost use Rattle.history.specs.Rule.{dealer, terms_of};
 ghost use Rattle.history.specs.Seats.{IsDealer};
 ghost use Rattle.history.specs.Members.{who_at};
 ghost use Rattle.history.specs.TokenParts.{table_of};
-ghost use Rattle.history.specs.Tokens.{new_token, new_clients, new_dispatchers, IsSound, IsClient, IsDispatcher, Saw};
+ghost use Rattle.history.specs.Tokens.{new_token, new_clients, new_dispatchers, IsClient, IsDispatcher, Saw};
 ghost use Rattle.history.specs.Tokens.{Took, MayPut, Put, posted, Grabs, MayAnswer, Answers, Collected, with_writer};
 ghost use Rattle.history.specs.Tokens.{without_writer};
 ghost use Rattle.history.specs.Closing.{AreClients, AreDispatchers, IsLogOf};
@@ -170,7 +170,6 @@ impl<W: Follower + Drop> SharedTable<W> {
         requires free { token.old.has_rows ≡ false }
         ensures rows { result ≡ record { base = token.new.table.base; log = token.new.seen } }
         ensures took { Took token.old token.new }
-        ensures sound { IsSound token.new }
     {
         let rows = steps::take_rows(rt, &self.ruled, &mut token.seat);
         token.seen_len = rows.len() as u64;
@@ -191,7 +190,6 @@ impl<W: Follower + Drop> SharedTable<W> {
         requires taken { token.old.has_rows ≡ true }
         requires rows { MayPut token.old rows }
         ensures put { Put token.old rows token.new }
-        ensures sound { IsSound token.new }
     {
         let length = rows.len() as u64;
         if length == token.seen_len {
@@ -208,7 +206,6 @@ impl<W: Follower + Drop> SharedTable<W> {
         requires table { token.old.table ≡ self.now }
         ensures length { result ≡ length token.new.seen }
         ensures saw { Saw token.old token.new }
-        ensures sound { IsSound token.new }
     {
         token.seen_len = steps::look(&self.ruled, &mut token.seat);
         token.seen_len
@@ -306,7 +303,6 @@ impl<W: Follower + Drop> SharedTable<W> {
         ensures saw { Saw token.old token.new }
         ensures met { IsPrefix other.old.seen token.new.seen }
         ensures other { Saw other.old other.new }
-        ensures sound { IsSound token.new × IsSound other.new }
     {
         steps::hear(&self.ruled, &mut token.seat, &mut other.seat);
         other.seen_len = steps::look(&self.ruled, &mut other.seat);

@@ -1,6 +1,7 @@
 //! The tokens by which clients and dispatchers act at the table.
 ghost use Rattle.std.specs.Prelude.{◌≡◌, ◌+◌, ◌<◌, Some, Contains, length, slice_get};
 ghost use Rattle.history.specs.TokenParts.{IsSeatOf};
+ghost use Rattle.history.specs.Tokens.{IsSound};
 
 use crate::rule::TableSeat;
 use arrayvec::ArrayVec;
@@ -56,6 +57,13 @@ impl<W> Token<W> {
         ensures { result ≡ length self.now.seen }
     {
         self.seen_len
+    }
+
+    /// Every token is sound: its history is legal, and has the commits of its holder. The law alone: it does nothing.
+    pub fn soundness(&self)
+        ensures { IsSound self.now }
+    {
+        let _who = self.who;
     }
 
     pub(crate) fn into_seat(self) -> TableSeat<W>

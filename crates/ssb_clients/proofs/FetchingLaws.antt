@@ -7,7 +7,7 @@ use Rattle.row_store.specs.History.{CommitRecord, IsPrefix}
 use Rattle.row_store.proofs.PrefixLaws.{beginnings_are_shorter}
 use Rattle.history_core.specs.declared.event.Who.TheVariants.{Dispatcher}
 use Rattle.history_core.specs.Events as event
-use Rattle.history.specs.Tokens.{TokenRecord, Took, Saw, IsSound, gave_back}
+use Rattle.history.specs.Tokens.{TokenRecord, Took, Saw, gave_back}
 use Rattle.ssb_clients.specs.Deeds as deeds
 use Rattle.ssb_clients.specs.Fetching.{HasBeside, AreThere, Fetches}
 use Rattle.ssb_clients.specs.Ready.{IsIdle}
@@ -39,10 +39,10 @@ pub fetches : (before t after : TokenRecord) (number : ℕ) → before.who ≡ D
     → Took before t → after ≡ gave_back t → Fetches before after
 fetches before t after number who free took put = grind (arith, append_assoc)
 
-pub idle_after_fetch : (number : ℕ) (before after : TokenRecord) → Fetches before after → IsSound after
+pub idle_after_fetch : (number : ℕ) (before after : TokenRecord) → Fetches before after
     → IsIdle number before → IsIdle number after
-idle_after_fetch number before after fetches sound idle = grind arith
+idle_after_fetch number before after fetches idle = grind arith
 
-pub idle_after_look : (number : ℕ) (before after : TokenRecord) → Saw before after → IsSound after
+pub idle_after_look : (number : ℕ) (before after : TokenRecord) → Saw before after
     → IsIdle number before → IsIdle number after
-idle_after_look number before after saw sound idle = grind arith
+idle_after_look number before after saw idle = grind arith

@@ -8,7 +8,7 @@ use Rattle.history_core.specs.declared.response.Response.{Response}
 use Rattle.history_core.specs.declared.response.Response.TheVariants.{Rows, Unserved}
 use Rattle.history.specs.declared.request.PostedRequest.{PostedRequest}
 use Rattle.history_core.specs.Events.{Questions}
-use Rattle.history.specs.Tokens.{TokenRecord, IsSound, Collected, Saw, posted}
+use Rattle.history.specs.Tokens.{TokenRecord, Collected, Saw, posted}
 use Rattle.history.specs.Words.{IsRight}
 use Rattle.history_core.specs.Events as event
 use Rattle.ssb_clients.specs.Clients.{Asks, Polls}
@@ -30,7 +30,3 @@ polled before between after reply col saw = grind (arith, right_later, append_as
 pub asks : (before between after : TokenRecord) (questions : Questions) → Saw before between → after ≡ posted between questions
     → Asks before questions after
 asks before between after questions saw now = grind (arith, append_assoc)
-
-pub sound_posted : (t after : TokenRecord) (questions : Questions) → after ≡ posted t questions → IsSound t → IsSound after
-sound_posted t after questions now sound =
-    subst IsSound (sym now) record { legal = sound.legal; named = sound.named; owns = sound.owns }

@@ -11,7 +11,7 @@ use Rattle.history_core.specs.Events.{Questions}
 use Rattle.history_core.specs.declared.response.Response.{Response}
 use Rattle.history_core.specs.declared.event.Who.TheVariants.{Client}
 use Rattle.history.specs.declared.request.PostedRequest.{PostedRequest}
-use Rattle.history.specs.Tokens.{TableRecord, TokenRecord, IsSound}
+use Rattle.history.specs.Tokens.{TableRecord, TokenRecord}
 use Rattle.history.specs.Words.{IsRight, request}
 use Rattle.ssb_clients.specs.Deeds as deeds
 
@@ -26,7 +26,6 @@ pub record IsAtRest (number : ℕ) (asking : Bool) (t : TokenRecord) : Type 0 wh
   pub who_is : t.who ≡ Client number
   pub rows : t.has_rows ≡ false
   pub asking_is : asking ≡ is_some t.asked
-  pub sound : IsSound t
 
 -- the client sees a history that begins with what it had seen, and one commit of its own after that
 pub record Commits (before : TokenRecord) (commit : CommitRecord) (number : ℕ) (after : TokenRecord) : Type 0 where

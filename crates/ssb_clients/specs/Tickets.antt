@@ -6,7 +6,7 @@ use Rattle.ssb_base.specs.Base.{Tables}
 use Rattle.history_core.specs.OwnCommits.{IsOfClients}
 use Rattle.history_core.specs.declared.event.Who.TheVariants.{Client, Dispatcher}
 use Rattle.history.specs.Closing.{AreNumbered, IsLogOf}
-use Rattle.history.specs.Tokens.{TableRecord, TokenRecord, IsSound, IsFree}
+use Rattle.history.specs.Tokens.{TableRecord, TokenRecord, IsFree}
 use Rattle.history.specs.Words.{Owns}
 
 -- a client's token that has done nothing yet
@@ -15,14 +15,12 @@ pub record IsNewClient (t : TokenRecord) : Type 0 where
   pub who_is : t.who ≡ Client number
   pub free : IsFree t
   pub quiet : t.asked ≡ None
-  pub sound : IsSound t
 
 -- a client's token that does not hold the rows
 pub record IsResting (t : TokenRecord) : Type 0 where
   pub number : ℕ
   pub who_is : t.who ≡ Client number
   pub rows : t.has_rows ≡ false
-  pub sound : IsSound t
 
 -- a dispatcher's token that holds nothing
 pub record IsLeft (t : TokenRecord) : Type 0 where

@@ -66,7 +66,6 @@ fn apply<K: Follower + Drop, R: Wait>(
 ) -> Result<Receipt, RefreshError>
     requires { IsClient server.now number token.old }
     ensures refreshed { Refreshed token.old number refresh.value result token.new }
-    ensures sound { IsSound token.new }
 {
     let mut rows = server.table.take_rows(rt, token);
     let reply = rows.refresh(number, refresh);
@@ -86,7 +85,6 @@ fn ask<K: Follower + Drop>(
     requires client { IsClient table.now number token.old }
     requires mailbox { token.old.asked ≡ None }
     ensures asked { Asks token.old questions token.new }
-    ensures sound { IsSound token.new }
 {
     table.look(token);
     table.post(token, questions);
@@ -99,9 +97,7 @@ fn poll<K: Follower + Drop>(
     number: u32,
 ) -> Option<Response>
     requires client { IsClient table.now number token.old }
-    requires sound { IsSound token.old }
     ensures polled { MatchOption result (token.new ≡ token.old) (λ answer. Polls token.old answer token.new) }
-    ensures sound { IsSound token.new }
 {
     let answer = table.collect(token)?;
     table.look(token);
@@ -130,6 +126,13 @@ impl<K: Follower + Drop> Client<K> {
         ensures value { result ≡ number_of self.now.who }
     {
         self.number
+    }
+
+    /// A client's history is legal, and has its commits: so its token says. The law alone: it does nothing.
+    pub fn soundness(&self)
+        ensures { IsSound self.now }
+    {
+        self.token.soundness();
     }
 
     /// How many commits the client has seen.
@@ -170,7 +173,6 @@ impl<K: Follower + Drop> Client<K> {
         requires { self.old.table ≡ server.now }
         ensures refreshed { (number : ℕ) → self.old.who ≡ IsNumbered number
             → Refreshed self.old number refresh.value result self.new }
-        ensures sound { IsSound self.new }
     {
         let applied = apply(rt, server, &mut self.token, self.number, refresh);
         if let Ok(receipt) = &applied {
@@ -185,7 +187,6 @@ impl<K: Follower + Drop> Client<K> {
         requires table { self.old.table ≡ server.now }
         requires quiet { is_some self.old.asked ≡ false }
         ensures asked { Asks self.old questions self.new }
-        ensures sound { IsSound self.new }
     {
         ask(&server.table, &mut self.token, self.number, questions);
         self.asking = true;
@@ -196,7 +197,6 @@ impl<K: Follower + Drop> Client<K> {
     pub fn poll(&mut self, server: &Server<K>) -> Option<Response>
         requires { self.old.table ≡ server.now }
         ensures polled { MatchOption result (self.new ≡ self.old) (λ answer. Polls self.old answer self.new) }
-        ensures sound { IsSound self.new }
     {
         let answer = poll(&server.table, &mut self.token, self.number);
         if answer.is_some() {
@@ -210,7 +210,6 @@ impl<K: Follower + Drop> Client<K> {
         requires table { self.old.table ≡ server.now }
         requires asking { is_some self.old.asked ≡ true }
         ensures polled { Polls self.old result self.new }
-        ensures sound { IsSound self.new }
     {
         for _ in rt.forever() {
             if let Some(answer) = self.poll(server) {
@@ -229,7 +228,6 @@ impl<K: Follower + Drop> Client<K> {
         ensures looks { Looks self.old self.new }
         ensures met { IsPrefix other.old.seen self.new.seen }
         ensures other { Looks other.old other.new }
-        ensures sound { IsSound self.new × IsSound other.new }
     {
         server.table.meet(&mut self.token, &mut other.token)
     }

@@ -1,7 +1,7 @@
 //! The commits that somebody lacks, copied out of the row store.
 ghost use Rattle.std.specs.Prelude.{◌≡◌, ◌≤◌, true, false, length, drop, IfOk};
 ghost use Rattle.row_store.specs.History.{lines_after};
-ghost use Rattle.history.specs.Tokens.{IsSound, gave_back};
+ghost use Rattle.history.specs.Tokens.{gave_back};
 ghost use Rattle.ssb_clients.specs.Fetching.{IsDispatcher, HasBeside, AreThere, Fetches};
 
 use crate::server::Server;
@@ -48,7 +48,6 @@ fn copy_and_put<K: Follower + Drop>(
     requires taken { taken ≤ length token.old.seen }
     ensures back { token.new ≡ gave_back token.old }
     ensures commits { IfOk result (λ commits. commits.items ≡ drop taken token.new.seen) }
-    ensures sound { IsSound token.new }
 {
     let commits = copy_behind(server.alloc, &rows, taken);
     let forgotten = rows.forget(taken.min(unneeded));
@@ -71,7 +70,6 @@ pub(crate) fn copy_new<K: Follower + Drop, R: Wait>(
     requires taken { AreThere token.old taken }
     ensures fetched { Fetches token.old token.new }
     ensures commits { IfOk result (λ commits. commits.items ≡ drop taken token.new.seen) }
-    ensures sound { IsSound token.new }
     ensures few { length (lines_after token.new.table.base token.new.seen) ≤ token.new.table.base.limits.lines }
 {
     let rows = server.table.take_rows(rt, token);
@@ -94,7 +92,6 @@ impl<K: Follower + Drop> Server<K> {
         requires taken { HasBeside token.old taken }
         ensures fetched { Fetches token.old token.new }
         ensures commits { IfOk result (λ commits. commits.items ≡ drop taken token.new.seen) }
-        ensures sound { IsSound token.new }
         ensures few { length (lines_after token.new.table.base token.new.seen) ≤ token.new.table.base.limits.lines }
     {
         self.pace.hold();

@@ -5,8 +5,8 @@
 //! does not name of it stays, and to the record of what it did the call adds the events of `specs/Deeds.antt`, no
 //! others. Which clause says which part:
 //!
-//! - one list of commits, and legal: `sound` of every call (`IsSound`: the history that the token has seen is legal,
-//!   its own commits are those of its number); it only grows: `begins` in what `refresh`, `ask`, `poll` and `meet` say;
+//! - one list of commits, and legal: `Client::soundness` (`IsSound`: the history that the token has seen is legal, its
+//!   own commits are those of its number); it only grows: `begins` in what `refresh`, `ask`, `poll` and `meet` say;
 //! - own commits: `Client::refresh`, clause `refreshed`: a receipt's number is the length of what is then seen, which
 //!   ends with the commit; a refusal is the one-thread warehouse's after what is then seen, and tells its length;
 //! - floors: `Client::ask`, clause `asked`; answers: `Client::poll` and `Client::await_answer`, clause `polled`

@@ -16,7 +16,7 @@ use Rattle.ssb_server.specs.Opening.{IsNewDispatcher, IsDispatcherCount}
 
 -- a token that has done nothing may go to who reads the log
 pub idle_at_first : (base : Tables) (t : TokenRecord) → IsNewDispatcher base t → (number : ℕ) × IsIdle number t
-idle_at_first base t new = (new.number, record { who_is = new.who_is; free = new.free; sound = new.sound })
+idle_at_first base t new = (new.number, record { who_is = new.who_is; free = new.free })
 
 -- as many tokens of dispatchers as the table has
 pub dispatcher_count : (table : TableRecord) (tokens : List TokenRecord) → tokens ≡ new_dispatchers table

@@ -8,16 +8,10 @@ use Rattle.row_store.specs.History.{CommitRecord}
 use Rattle.history_core.specs.declared.event.Who.{Who}
 use Rattle.history_core.specs.declared.event.Who.TheVariants.{Client, Dispatcher}
 use Rattle.history.specs.Words.{Owns}
-use Rattle.history.specs.Tokens.{TableRecord, TokenRecord, IsSound, IsFree, new_token, new_clients, new_dispatchers}
+use Rattle.history.specs.Tokens.{TableRecord, TokenRecord, IsFree, new_token, new_clients, new_dispatchers}
 use Rattle.history.specs.Closing.{IsClientOf, IsDispatcherOf, AreNumbered, AreClients, AreDispatchers}
 use Rattle.ssb_clients.specs.Tickets.{IsNewClient, IsResting, IsLeft, IsQuiet, IsOf}
 use Rattle.ssb_server.specs.Opening.{IsNewDispatcher}
-
-none_there : (i : ℕ) (commit : CommitRecord) → slice_get [] i ≡ Some commit → ⊥
-none_there i commit here = let low : i < 0 = slice_get_within [] i commit here in omega (arith, low)
-
-new_sound : (table : TableRecord) (who : Who) → Owns who [] [] → IsSound (new_token table who)
-new_sound table who owns = grind (arith, none_there)
 
 new_free : (table : TableRecord) (who : Who) → IsFree (new_token table who)
 new_free table who = record { rows = refl; writer = refl; hand = refl }
@@ -29,7 +23,6 @@ clients_are_new table = All-map IsNewClient (λ number. new_token table (Client 
       who_is = refl;
       free = new_free table _;
       quiet = refl;
-      sound = new_sound table _ refl;
     })
 
 pub dispatchers_are_new : (table : TableRecord) → All (IsNewDispatcher table.base) (new_dispatchers table)
@@ -39,7 +32,6 @@ dispatchers_are_new table = All-map (IsNewDispatcher table.base) (λ number. new
       number = _;
       who_is = refl;
       free = new_free table _;
-      sound = new_sound table _ refl;
     })
 
 pub clients_left : (table : TableRecord) (tokens : List TokenRecord) → All IsResting tokens → All (IsQuiet table) tokens

@@ -12,7 +12,7 @@ use Rattle.row_store.specs.State.{State, StandsFor}
 use Rattle.ssb_base.specs.Base.{Tables}
 use Rattle.ssb_answers.specs.declared.answer.Unserved.TheVariants.{Twin}
 use Rattle.history_core.specs.Events as event
-use Rattle.history.specs.Tokens.{TableRecord, TokenRecord, IsSound, with_writer, without_writer}
+use Rattle.history.specs.Tokens.{TableRecord, TokenRecord, with_writer, without_writer}
 use Rattle.twin_cell.specs.Twin.{Writing, Reading, Entered}
 use Rattle.ssb_server.proofs.DeedLaws.{added_three}
 use Rattle.ssb_server.specs.Deeds as deeds
@@ -157,9 +157,6 @@ pub snapshot_fetched : (before : TokenRecord) (list : List CommitRecord) (taken 
     → before.has_writer ≡ false → taken ≡ with_writer before list → Fetches taken fetched
     → after ≡ without_writer fetched → HasFetched before after
 snapshot_fetched before list taken fetched after free first fetches put = grind (arith, added_three)
-
-pub sound_without : (t u : TokenRecord) → u ≡ without_writer t → IsSound t → IsSound u
-sound_without t u e sound = subst IsSound (sym e) record { legal = sound.legal; named = sound.named; owns = sound.owns }
 
 -- the writer follows as before when it has published once more, or failed to
 pub again_follows : (base : Tables) (list : List CommitRecord) (between : Writing)

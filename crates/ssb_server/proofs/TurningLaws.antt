@@ -8,7 +8,7 @@ use Rattle.twin_cell.specs.Twin.{Reading, Entered}
 use Rattle.fact_columns.specs.Stored.{Stored, columns_state}
 use Rattle.history_core.specs.declared.dispatcher.Outcome.{Outcome}
 use Rattle.history_core.specs.declared.dispatcher.Outcome.TheVariants.{Served, GivenUp}
-use Rattle.history.specs.Tokens.{TableRecord, TokenRecord, IsSound, IsFree}
+use Rattle.history.specs.Tokens.{TableRecord, TokenRecord, IsFree}
 use Rattle.shared_scan.specs.Answers.{AreSnapshot}
 use Rattle.ssb_server.specs.Hand.{Hand, no_hand, Keeps}
 use Rattle.history.specs.Words.{IsCause}
@@ -60,15 +60,6 @@ keeps_later t u hand fetched is = subst (λ (x : TokenRecord). Keeps hand x.grab
 
 pub version_later : (t u : TokenRecord) → HasFetched t u → u.version ≡ Some (length u.seen)
 version_later t u fetched = ap (λ (x : TokenRecord). x.version) fetched.now
-
-pub sound_later : (t u : TokenRecord) (count : ℕ) (outcome : Outcome) → Gave t count outcome u → IsSound t → IsSound u
-sound_later t u count outcome gave is = subst IsSound (sym gave.now)
-    record { legal = is.legal; named = is.named; owns = is.owns }
-
-pub sound_finished : (t u : TokenRecord) (turn : Turn) → Finishes t turn u → IsSound t → IsSound u
-sound_finished t u Idle ends is = absurd ends
-sound_finished t u (Answered at count) ends is = sound_later t u count (Served at) ends.2 is
-sound_finished t u (Unserved count cause) ends is = sound_later t u count (GivenUp cause) ends.2 is
 
 -- the table and what was seen stay
 pub seen_finished : (P : TableRecord → List CommitRecord → Type 0) (t u : TokenRecord) (turn : Turn) → Finishes t turn u

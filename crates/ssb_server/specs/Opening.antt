@@ -2,7 +2,7 @@
 use Rattle.std.specs.Prelude.{◌≡◌, ℕ, ◌≤◌, true, All, List, [], length}
 use Rattle.ssb_base.specs.Base.{Tables}
 use Rattle.history_core.specs.declared.event.Who.TheVariants.{Dispatcher}
-use Rattle.history.specs.Tokens.{TokenRecord, IsSound, IsFree}
+use Rattle.history.specs.Tokens.{TokenRecord, IsFree}
 use Rattle.twin_cell.specs.Twin.{Reading}
 use Rattle.row_store.specs.State.{state_of}
 use Rattle.fact_columns.specs.Stored.{columns_state}
@@ -36,7 +36,6 @@ pub record IsNewDispatcher (base : Tables) (t : TokenRecord) : Type 0 where
   pub number : ℕ
   pub who_is : t.who ≡ Dispatcher number
   pub free : IsFree t
-  pub sound : IsSound t
 
 -- a reader over this base that was told nothing
 abbrev pub IsNewReader : Tables → Reading → Type 0

@@ -1,7 +1,7 @@
 //! Dispatchers, which answer what clients ask.
 ghost use Rattle.std.specs.Prelude.{◌≡◌, []};
 ghost use Rattle.history_core.specs.declared.event.Who.TheVariants.{Dispatcher as IsNumbered};
-ghost use Rattle.history.specs.Tokens.{IsSound, IsFree};
+ghost use Rattle.history.specs.Tokens.{IsFree};
 ghost use Rattle.history.specs.Members.{number_of};
 ghost use Rattle.ssb_server.specs.Ends.{Turned};
 ghost use Rattle.ssb_server.specs.Hand.{no_hand};
@@ -116,7 +116,6 @@ impl<W: Wait + Drop> Dispatcher<W> {
         requires { self.old.table ≡ server.now }
         ensures followed { HasFetched self.old self.new }
         ensures free { IsFree self.new }
-        ensures sound { IsSound self.new }
     {
         follow(rt, server, &mut self.token);
     }
@@ -132,7 +131,6 @@ impl<W: Wait + Drop> Dispatcher<W> {
         requires { self.old.table ≡ server.now }
         ensures turned { Turned self.old result self.new }
         ensures free { IsFree self.new }
-        ensures sound { IsSound self.new }
     {
         let Some(reader) = self.reader.take() else {
             unreachable!()

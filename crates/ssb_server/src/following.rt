@@ -1,6 +1,5 @@
 //! How the copies follow the commits, though nothing is asked.
 ghost use Rattle.std.specs.Prelude.{◌≡◌, ◌++◌, false};
-ghost use Rattle.history.specs.Tokens.{IsSound};
 ghost use Rattle.ssb_clients.specs.Fetching.{IsDispatcher, Fetches};
 ghost use Rattle.ssb_server.specs.Turns.{HoldsNothing, HasFetched, HasTaken, Follows};
 
@@ -37,7 +36,6 @@ fn carry_over<W: Wait + Drop, R: Wait>(
     requires free { token.old.has_rows ≡ false }
     requires writer { HasTaken token.old writer }
     ensures fetched { Fetches token.old token.new }
-    ensures sound { IsSound token.new }
     ensures writer { Follows token.new.table.base token.new.seen result.0 }
 {
     let taken = writer.taken();
@@ -52,7 +50,6 @@ pub(crate) fn follow<W: Wait + Drop, R: Wait>(rt: &R, server: &Server<W>, token:
     requires dispatcher { IsDispatcher server.now token.old }
     requires free { HoldsNothing token.old }
     ensures followed { HasFetched token.old token.new }
-    ensures sound { IsSound token.new }
 {
     server.begins_to_follow();
     let table = server.table();

@@ -1,7 +1,6 @@
 //! From the grabbed requests to the entered copy: the latest commits are fetched, published and told.
 ghost use Rattle.std.specs.Prelude.{◌≡◌, ◌≤◌, false, [], ◌∷◌, ◌++◌, length, MatchResult};
 ghost use Rattle.row_store.specs.History.{lines_after};
-ghost use Rattle.history.specs.Tokens.{IsSound};
 ghost use Rattle.ssb_clients.specs.Fetching.{IsDispatcher, Fetches};
 ghost use Rattle.ssb_server.specs.Turns.{HoldsNothing, HasFetched, Knows, StandsAt, HasTaken, Appends, Follows, Misses};
 
@@ -127,7 +126,6 @@ fn bring_up<W: Wait + Drop, R: Wait>(
     requires writer { HasTaken token.old writer }
     requires reader { Knows token.old.table.base token.old.seen reader }
     ensures fetched { Fetches token.old token.new }
-    ensures sound { IsSound token.new }
     ensures few { length (lines_after token.new.table.base token.new.seen) ≤ token.new.table.base.limits.lines }
     ensures writer { Follows token.new.table.base token.new.seen result.0 }
     ensures entered { MatchResult result.1 (StandsAt token.new.table.base token.new.seen)
@@ -151,7 +149,6 @@ pub(crate) fn snapshot<W: Wait + Drop, R: Wait>(
     requires free { HoldsNothing token.old }
     requires reader { Knows token.old.table.base token.old.seen reader }
     ensures fetched { HasFetched token.old token.new }
-    ensures sound { IsSound token.new }
     ensures few { length (lines_after token.new.table.base token.new.seen) ≤ token.new.table.base.limits.lines }
     ensures entered { MatchResult result (StandsAt token.new.table.base token.new.seen)
         (Misses token.new.table.base token.new.seen) }

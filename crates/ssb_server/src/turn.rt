@@ -4,7 +4,6 @@ ghost use Rattle.row_store.specs.History.{CommitRecord};
 ghost use Rattle.row_store.specs.State.{StandsFor};
 ghost use Rattle.fact_columns.specs.Stored.{columns_state};
 ghost use Rattle.shared_scan.specs.Answers.{AreSnapshot};
-ghost use Rattle.history.specs.Tokens.{IsSound};
 ghost use Rattle.twin_cell.specs.Twin.{Reading};
 ghost use Rattle.ssb_server.specs.Hand.{Keeps, no_hand};
 ghost use Rattle.ssb_clients.specs.Fetching.{IsDispatcher};
@@ -120,7 +119,6 @@ fn answer_hand<W: Wait + Drop, R: Wait + Threads + Sync, G: ScanGate>(
     ensures ended { Ends token.old result.1 token.new }
     ensures found { TellsFound result.0 result.1 }
     ensures reader { Knows token.new.table.base token.new.seen result.0 }
-    ensures sound { IsSound token.new }
     ensures empty { batch.new ≡ no_hand }
     ensures hand { Keeps no_hand token.new.grabbed }
 {
@@ -153,13 +151,11 @@ pub(crate) fn take_turn<W: Wait + Drop, R: Wait + Threads + Sync, G: ScanGate>(
     requires dispatcher { IsDispatcher server.now token.old }
     requires free { HoldsNothing token.old }
     requires hand { token.old.grabbed ≡ [] }
-    requires sound { IsSound token.old }
     requires empty { batch.old ≡ no_hand }
     requires reader { Knows token.old.table.base token.old.seen reader }
     ensures turned { Turned token.old result.1 token.new }
     ensures found { TellsFound result.0 result.1 }
     ensures reader { Knows token.new.table.base token.new.seen result.0 }
-    ensures sound { IsSound token.new }
     ensures empty { batch.new ≡ no_hand }
 {
     grab_all(server, token, batch);

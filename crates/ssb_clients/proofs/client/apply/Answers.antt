@@ -16,18 +16,17 @@ put_rows-requires-clause-table g c =
 pub put_rows-requires-clause-taken : goal.put_rows-requires-clause-taken
 put_rows-requires-clause-taken g c = ap (λ (t : TokenRecord). t.has_rows) c.take_rows-rows.ensures.took.now
 
-pub returns-clause-sound : goal.returns-clause-sound
-returns-clause-sound g c = c.put_rows.ensures.sound
-
 pub put_rows-requires-clause-rows : goal.put_rows-requires-clause-rows
 put_rows-requires-clause-rows g c = may_put c.take_rows-rows.new.token c.take_rows-rows.result c.refresh-reply.new.self
     c.args.number c.args.refresh.value c.refresh-reply.result
     (ap (λ (t : TokenRecord). t.who) c.take_rows-rows.ensures.took.now ∙ c.requires.who_is) c.take_rows-rows.ensures.rows
     c.refresh-reply.ensures.reply c.refresh-reply.ensures.committed c.refresh-reply.ensures.unchanged
 
-pub returns-clause-refreshed : goal.returns-clause-refreshed
-returns-clause-refreshed g c = refreshed c.args.token.now c.take_rows-rows.new.token c.put_rows.new.token
-    c.take_rows-rows.result c.refresh-reply.new.self c.args.number c.args.refresh.value c.refresh-reply.result
-    c.requires.who_is c.requires.rows c.take_rows-rows.ensures.took c.take_rows-rows.ensures.rows
-    c.refresh-reply.ensures.reply c.refresh-reply.ensures.committed c.refresh-reply.ensures.unchanged
-    c.put_rows.ensures.put
+pub returns : goal.returns
+returns g c = record {
+  refreshed = refreshed c.args.token.now c.take_rows-rows.new.token c.put_rows.new.token
+      c.take_rows-rows.result c.refresh-reply.new.self c.args.number c.args.refresh.value c.refresh-reply.result
+      c.requires.who_is c.requires.rows c.take_rows-rows.ensures.took c.take_rows-rows.ensures.rows
+      c.refresh-reply.ensures.reply c.refresh-reply.ensures.committed c.refresh-reply.ensures.unchanged
+      c.put_rows.ensures.put;
+}

@@ -1,6 +1,6 @@
 use Rattle.std.proofs.Common.{◌∙◌, ap}
 use Rattle.history.specs.Tokens.{TokenRecord}
-use Rattle.ssb_clients.proofs.PollingLaws.{asks, sound_posted}
+use Rattle.ssb_clients.proofs.PollingLaws.{asks}
 use Rattle.ssb_clients.proofs.client.ask.Goals as goal
 
 pub look-requires : goal.look-requires
@@ -18,10 +18,8 @@ post-requires-clause-client g c = (
 pub post-requires-clause-mailbox : goal.post-requires-clause-mailbox
 post-requires-clause-mailbox g c = ap (λ (t : TokenRecord). t.asked) c.look.ensures.saw.now ∙ c.requires.mailbox
 
-pub returns-clause-sound : goal.returns-clause-sound
-returns-clause-sound g c = sound_posted c.look.new.token c.post.new.token c.args.questions c.post.ensures.posted
-    c.look.ensures.sound
-
-pub returns-clause-asked : goal.returns-clause-asked
-returns-clause-asked g c = asks c.args.token.now c.look.new.token c.post.new.token c.args.questions c.look.ensures.saw
-    c.post.ensures.posted
+pub returns : goal.returns
+returns g c = record {
+  asked = asks c.args.token.now c.look.new.token c.post.new.token c.args.questions c.look.ensures.saw
+      c.post.ensures.posted;
+}

@@ -14,6 +14,8 @@ look-requires g c = record {
   table = ap (λ (t : TokenRecord). t.table) c.in_ok-answer.ensures.collected.now ∙ c.requires.client.table_is;
 }
 
-pub returns-clause-polled : goal.returns-clause-polled
-returns-clause-polled g c = polled c.args.token.now c.collect.new.token c.look.new.token c.in_ok-answer.answer
-    c.in_ok-answer.ensures.collected c.look.ensures.saw
+pub returns : goal.returns
+returns g c = record {
+  polled = polled c.args.token.now c.collect.new.token c.look.new.token c.in_ok-answer.answer
+      c.in_ok-answer.ensures.collected c.look.ensures.saw;
+}

@@ -16,9 +16,6 @@ put_rows-requires-clause-rows g c =
     let same = c.forget-forgotten.ensures.same ∙ c.requires.rows in
     (ap (λ (w : Warehouse). w.base) same, inl (ap (λ (w : Warehouse). w.log) same))
 
-pub returns-clause-sound : goal.returns-clause-sound
-returns-clause-sound g c = c.put_rows.ensures.sound
-
 pub returns-clause-back : goal.returns-clause-back
 returns-clause-back g c =
     c.put_rows.ensures.put.0 (ap (λ (w : Warehouse). w.log) (c.forget-forgotten.ensures.same ∙ c.requires.rows))

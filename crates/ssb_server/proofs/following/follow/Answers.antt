@@ -1,7 +1,6 @@
 use Rattle.std.proofs.Common.{◌∙◌, ap, sym}
 use Rattle.history.specs.Tokens.{TokenRecord}
 use Rattle.ssb_server.proofs.SnapshotLaws.{dispatcher_with, dispatcher_fetched, taken_with, snapshot_fetched}
-use Rattle.ssb_server.proofs.SnapshotLaws.{sound_without}
 use Rattle.ssb_server.proofs.following.follow.Goals as goal
 
 pub take_writer-writer-requires-clause-table : goal.take_writer-writer-requires-clause-table
@@ -48,6 +47,4 @@ returns g c = record {
   followed = snapshot_fetched c.args.token.now _ c.take_writer-writer.new.token c.carry_over-writer.new.token
       c.put_writer.new.token c.requires.free.writer c.take_writer-writer.ensures.taken
       c.carry_over-writer.ensures.fetched c.put_writer.ensures.put;
-  sound = sound_without c.carry_over-writer.new.token c.put_writer.new.token c.put_writer.ensures.put
-      c.carry_over-writer.ensures.sound;
 }

@@ -4,7 +4,6 @@ use Rattle.row_store.specs.History.{lines_after}
 use Rattle.history.specs.Tokens.{TokenRecord}
 use Rattle.ssb_server.specs.Turns.{Knows, StandsAt, Misses}
 use Rattle.ssb_server.proofs.SnapshotLaws.{dispatcher_with, dispatcher_fetched, taken_with, snapshot_fetched}
-use Rattle.ssb_server.proofs.SnapshotLaws.{sound_without}
 use Rattle.ssb_server.proofs.snapshot.snapshot.Goals as goal
 
 pub take_writer-writer-requires-clause-table : goal.take_writer-writer-requires-clause-table
@@ -55,8 +54,6 @@ returns g c = record {
   fetched = snapshot_fetched c.args.token.now _ c.take_writer-writer.new.token c.bring_up-writer.new.token
       c.put_writer.new.token c.requires.free.writer c.take_writer-writer.ensures.taken c.bring_up-writer.ensures.fetched
       c.put_writer.ensures.put;
-  sound = sound_without c.bring_up-writer.new.token c.put_writer.new.token c.put_writer.ensures.put
-      c.bring_up-writer.ensures.sound;
   few = subst (λ (t : TokenRecord). length (lines_after t.table.base t.seen) ≤ t.table.base.limits.lines)
       (sym c.put_writer.ensures.put) c.bring_up-writer.ensures.few;
   entered = subst (λ (t : TokenRecord). MatchResult c.bring_up-writer.result.1 (StandsAt t.table.base t.seen)

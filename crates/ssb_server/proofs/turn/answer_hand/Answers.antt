@@ -3,7 +3,7 @@ use Rattle.std.specs.Prelude.{IfOk}
 use Rattle.history.specs.Tokens.{TableRecord}
 use Rattle.ssb_server.specs.Turns.{answers_after, Knows}
 use Rattle.ssb_server.proofs.TurningLaws.{are_snapshot, copy_stands, copy_base, left, dispatcher_later, nothing_later}
-use Rattle.ssb_server.proofs.TurningLaws.{keeps_later, version_later, sound_finished, seen_finished, may_tell}
+use Rattle.ssb_server.proofs.TurningLaws.{keeps_later, version_later, seen_finished, may_tell}
 use Rattle.ssb_server.proofs.turn.answer_hand.Goals as goal
 
 pub answer_batch-scanned-requires-clause-snapshot : goal.answer_batch-scanned-requires-clause-snapshot
@@ -43,8 +43,6 @@ returns-in-Ok g c = record {
       c.finish-turn.new.token c.finish-turn.result c.finish-turn.ensures.finished
       (left c.snapshot.new.token.table.base c.snapshot.new.token.seen c.in-Ok.guard c.leave-reader.result
       c.in-Ok.ensures.entered c.leave-reader.ensures.base c.leave-reader.ensures.told);
-  sound = sound_finished c.snapshot.new.token c.finish-turn.new.token c.finish-turn.result c.finish-turn.ensures.finished
-      c.in-Ok.ensures.sound;
   empty = c.finish-turn.ensures.empty;
   hand = c.finish-turn.ensures.hand;
   found = c.finish-turn.ensures.found c.leave-reader.result;

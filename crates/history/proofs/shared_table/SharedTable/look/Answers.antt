@@ -18,6 +18,3 @@ returns-clause-saw g c = let saw = c.look-token-inside.ensures in let p = c.toke
     subst (λ t. Saw t (shown_token (passed p p.hand c.look-token-inside.new.seat c.look-token-inside.result))) c.token.view_is
     (saw_token p c.look-token-inside.new.seat c.look-token-inside.result p.seat.me.0.beside saw.0 saw.2.0 saw.2.2
     saw.3.begins saw.3.beside)
-
-pub returns-clause-sound : goal.returns-clause-sound
-returns-clause-sound g c = (invariant_of-token g c).sound

@@ -63,6 +63,3 @@ returns-clause-other g c = let saw = c.look-other-inside.ensures in let p = c.ot
     (saw_token p c.look-other-inside.new.seat c.look-other-inside.result p.seat.me.0.beside saw.0
     (saw.2.0 ∙ c.hear.ensures.other.0) (saw.2.2 ∙ ap (λ m. (looked m.0 saw.0, m.1)) c.hear.ensures.other.2)
     told.begins told.beside)
-
-pub returns-clause-sound : goal.returns-clause-sound
-returns-clause-sound g c = ((invariant_of-token g c).sound, (invariant_of-other g c).sound)

@@ -31,18 +31,17 @@ invariant_of-token g c = let may : MayPut (shown_token c.token.inside) c.args.ro
           c.len-length.ensures.count w.put_commit.ensures.2)
     ]
 
-pub returns-clause-put : goal.returns-clause-put
-returns-clause-put g c = let p = c.token.inside in elim c.if-length-token.branch [
-  | then-length-token w ↦ subst (λ q. Put c.args.token.now c.args.rows
-      (shown_token (passed q q.hand q.seat c.len-length.result))) (sym w.token-inside-is)
-      (subst (λ t. Put t c.args.rows (shown_token (passed p p.hand w.put_back.new.seat c.len-length.result))) c.token.view_is
-      (put_token p w.put_back.new.seat c.args.rows c.len-length.result _ w.put_back.ensures.0 w.put_back.ensures.2))
-  | else-length-token w ↦ subst (λ q. Put c.args.token.now c.args.rows
-      (shown_token (passed q q.hand q.seat c.len-length.result))) (sym w.token-inside-is)
-      (subst (λ t. Put t c.args.rows (shown_token (passed p p.hand w.put_commit.new.seat c.len-length.result))) c.token.view_is
-      (put_token p w.put_commit.new.seat c.args.rows c.len-length.result _ w.put_commit.ensures.0
-      w.put_commit.ensures.2))
-]
-
-pub returns-clause-sound : goal.returns-clause-sound
-returns-clause-sound g c = (invariant_of-token g c).sound
+pub returns : goal.returns
+returns g c = record {
+  put = let p = c.token.inside in elim c.if-length-token.branch [
+    | then-length-token w ↦ subst (λ q. Put c.args.token.now c.args.rows
+        (shown_token (passed q q.hand q.seat c.len-length.result))) (sym w.token-inside-is)
+        (subst (λ t. Put t c.args.rows (shown_token (passed p p.hand w.put_back.new.seat c.len-length.result))) c.token.view_is
+        (put_token p w.put_back.new.seat c.args.rows c.len-length.result _ w.put_back.ensures.0 w.put_back.ensures.2))
+    | else-length-token w ↦ subst (λ q. Put c.args.token.now c.args.rows
+        (shown_token (passed q q.hand q.seat c.len-length.result))) (sym w.token-inside-is)
+        (subst (λ t. Put t c.args.rows (shown_token (passed p p.hand w.put_commit.new.seat c.len-length.result))) c.token.view_is
+        (put_token p w.put_commit.new.seat c.args.rows c.len-length.result _ w.put_commit.ensures.0
+        w.put_commit.ensures.2))
+  ];
+}

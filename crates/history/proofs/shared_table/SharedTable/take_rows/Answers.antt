@@ -19,6 +19,3 @@ pub returns-clause-took : goal.returns-clause-took
 returns-clause-took g c = let took = c.take_rows-rows.ensures in let p = c.token.inside in
     subst (λ t. Took t (shown_token (passed p p.hand c.take_rows-rows.new.seat c.len.result))) c.token.view_is
     (took_token p c.take_rows-rows.new.seat took.0 c.len.result took.3 took.2.0 took.2.2)
-
-pub returns-clause-sound : goal.returns-clause-sound
-returns-clause-sound g c = (invariant_of-token g c).sound

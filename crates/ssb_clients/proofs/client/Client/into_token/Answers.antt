@@ -8,5 +8,4 @@ returns-clause-rest g c = subst IsResting c.self.view_is
       number = c.self.inside.number;
       who_is = c.self.invariant.who_is;
       rows = c.self.invariant.rows;
-      sound = c.self.invariant.sound;
     }

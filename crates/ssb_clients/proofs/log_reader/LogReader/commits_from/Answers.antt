@@ -16,4 +16,4 @@ copy_new-commits-requires-clause-taken g c =
 
 pub invariant_of-self : goal.invariant_of-self
 invariant_of-self g c = idle_after_fetch c.self.inside.number c.self.inside.token c.copy_new-commits.new.token
-    c.copy_new-commits.ensures.fetched c.copy_new-commits.ensures.sound c.self.invariant
+    c.copy_new-commits.ensures.fetched c.self.invariant

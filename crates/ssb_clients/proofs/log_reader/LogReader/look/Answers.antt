@@ -10,4 +10,4 @@ look-requires g c = record {
 
 pub invariant_of-self : goal.invariant_of-self
 invariant_of-self g c = idle_after_look c.self.inside.number c.self.inside.token c.look.new.token c.look.ensures.saw
-    c.look.ensures.sound c.self.invariant
+    c.self.invariant

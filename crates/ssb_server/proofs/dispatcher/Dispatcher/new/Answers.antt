@@ -5,7 +5,6 @@ pub invariant_of-result : goal.invariant_of-result
 invariant_of-result g c = record {
   who_is = search rules;
   free = c.requires.token.free;
-  sound = c.requires.token.sound;
   known = c.args.reader;
   reader_is = refl;
   knows = record {

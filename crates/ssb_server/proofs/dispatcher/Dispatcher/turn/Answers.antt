@@ -8,7 +8,6 @@ invariant_of-self g c = record {
       c.take_turn-reader.ensures.turned ∙ c.self.invariant.who_is;
   free = turned_free c.self.inside.token c.take_turn-reader.new.token c.take_turn-reader.result.1
       c.take_turn-reader.ensures.turned c.self.invariant.free;
-  sound = c.take_turn-reader.ensures.sound;
   known = c.take_turn-reader.result.0;
   reader_is = refl;
   knows = c.take_turn-reader.ensures.reader;
