@@ -13,7 +13,7 @@ use Rattle.serve_command.specs.declared.speakers.OnceLeft.{OnceLeft}
 use Rattle.serve_command.specs.declared.speakers.SessionEnd.TheVariants.{Last}
 use Rattle.ssb_script.proofs.RequestLaws.{nothing_is_unfinished}
 use Rattle.ssb_text.proofs.WrittenLaws.{appends_none}
-use Rattle.stream_sessions.specs.Conversation.{Converses, ConversesUntil}
+use Rattle.stream_sessions.specs.Conversation.{ConversesTo}
 use Rattle.stream_sessions.specs.Events.{Event, most_covered}
 use Rattle.stream_sessions.specs.Session.{Serves, Breaks}
 use Rattle.stream_sessions.specs.Speaking.{InSession, first_format, manner_of, speaking}
@@ -58,7 +58,10 @@ not_begun takes number client unread before = (
         breaks = (omega arith, inl refl, refl);
         told = refl;
       };
-      written = appends_none before;
+      written = (
+        record { part = []; rest = []; begins = refl; appends = appends_none before },
+        λ other. appends_none before,
+      );
     },
   ),
 )
@@ -70,7 +73,7 @@ pub nothing_streamed : (takes : Bool) (number : ℕ) (client : TokenRecord) (unr
 nothing_streamed takes number client unread before = record {
   ended = not_begun takes number client unread before;
   events = [];
-  conversed = (first_format, (false, record { more = []; behind = refl; is = (refl, refl, refl) }));
+  conversed = (first_format, (false, [], (refl, refl, refl), λ other. refl));
   told_is = refl;
 }
 
@@ -103,36 +106,19 @@ has_ended (Err error) takes number old new unread was rest before began after no
       same_then breaks)),
 )
 
--- and what went over it
-has_conversed : (outcome : Result Served SessionError) (takes : Bool) (number : ℕ) (old new : TokenRecord) (before after : List Event)
-    → before ≡ [] → OnOk outcome (InSession takes old new (λ first last. Converses true number first last before after []))
-    → IfErr outcome
-    (λ error. InSession takes old new (λ first last. ConversesUntil error.fault number first last before after []))
-    → HasConversed outcome takes number old new [] after
-has_conversed (Ok served) takes number old new before after none whole part =
-    subst (λ (es : List Event). InSession takes old new (λ first last. Converses true number first last es after [])) none
-    whole
-has_conversed (Err error) takes number old new before after none whole part =
-    subst
-    (λ (es : List Event). InSession takes old new (λ first last. ConversesUntil error.fault number first last es after []))
-    none part
-
--- a session over a wire that was made of a reader and a writer
+-- a session over a reader and a writer
 pub has_streamed : (outcome : Result Served SessionError) (takes : Bool) (number told : ℕ) (old new : TokenRecord)
-    (unread before after was rest began now : Option (List ℕ)) (start events : List Event) → was ≡ unread
-    → began ≡ before → start ≡ [] → after ≡ now
-    → IfOk outcome (λ served. InSession takes old new (λ first last. Serves served number first last was rest began now))
-    → IfErr outcome (λ error. InSession takes old new (λ first last. Breaks error number first last was rest began now))
-    → OnOk outcome (InSession takes old new (λ first last. Converses true number first last start events []))
-    → IfErr outcome
-    (λ error. InSession takes old new (λ first last. ConversesUntil error.fault number first last start events []))
+    (unread before after was rest now : Option (List ℕ)) (events : List Event) → was ≡ unread → after ≡ now
+    → IfOk outcome (λ served. InSession takes old new (λ first last. Serves served number first last was rest before now))
+    → IfErr outcome (λ error. InSession takes old new (λ first last. Breaks error number first last was rest before now))
+    → InSession takes old new (λ first last. ConversesTo outcome number first last events)
     → told ≡ most_covered events → HasStreamed number old new unread before after outcome told takes
-has_streamed outcome takes number told old new unread before after was rest began now start events same same_too none
-    same_then serves breaks whole part told_is = record {
-      ended = has_ended outcome takes number old new unread was rest before began after now same same_too (sym same_then)
+has_streamed outcome takes number told old new unread before after was rest now events same same_then serves breaks
+    conversed told_is = record {
+      ended = has_ended outcome takes number old new unread was rest before before after now same refl (sym same_then)
           serves breaks;
       events = events;
-      conversed = has_conversed outcome takes number old new start events none whole part;
+      conversed = conversed;
       told_is = told_is;
     }
 

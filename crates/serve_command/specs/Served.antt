@@ -71,7 +71,7 @@ pub record HasEndedAlone (outcome : Result Served SessionError) (takes : Bool) (
   pub met : IsMet journal server.table server.kept 1 client
   pub ended : HasEnded outcome takes 1 client closed unread before after
   pub events : List Event
-  pub conversed : HasConversed outcome takes 1 client closed [] events
+  pub conversed : HasConversed outcome takes 1 client closed events
   pub begins : IsPrefix closed.seen server.log
   pub made : closed.mine ≡ commits_of 1 server.log
   pub kept : AreKept server.log (most_covered events)

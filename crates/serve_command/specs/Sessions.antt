@@ -4,7 +4,7 @@ use Rattle.history.specs.Tokens.{TokenRecord}
 use Rattle.serve_command.specs.declared.speakers.OnceLeft.{OnceLeft}
 use Rattle.serve_command.specs.declared.speakers.PathLeft.{PathLeft}
 use Rattle.serve_command.specs.declared.speakers.SessionEnd.TheVariants.{Last}
-use Rattle.stream_sessions.specs.Conversation.{Converses, ConversesUntil}
+use Rattle.stream_sessions.specs.Conversation.{ConversesTo}
 use Rattle.stream_sessions.specs.Events.{Event, most_covered}
 use Rattle.stream_sessions.specs.Session.{Serves, Breaks}
 use Rattle.stream_sessions.specs.Speaking.{InSession}
@@ -25,12 +25,9 @@ HasEnded (Err error) takes number old new unread before after =
 
 -- what went over its wire is a conversation, to its end or until it broke; no reply is held any more, but where writing
 -- failed
-abbrev pub HasConversed : Result Served SessionError → Bool → ℕ → TokenRecord → TokenRecord → List Event → List Event
-    → Type 0
-HasConversed (Ok served) takes number old new before after =
-    InSession takes old new (λ first last. Converses true number first last before after [])
-HasConversed (Err error) takes number old new before after =
-    InSession takes old new (λ first last. ConversesUntil error.fault number first last before after [])
+abbrev pub HasConversed : Result Served SessionError → Bool → ℕ → TokenRecord → TokenRecord → List Event → Type 0
+HasConversed outcome takes number old new events =
+    InSession takes old new (λ first last. ConversesTo outcome number first last events)
 
 -- a session over ends that were opened for it: how it ended, whether it took refreshes, what its input had, the known
 -- bytes of its output before and after, and what went over its wire, the newest first
@@ -45,7 +42,7 @@ pub record SessionRecord : Type 0 where
 -- it took the client of this number from old to new
 pub record IsSession (number : ℕ) (old new : TokenRecord) (session : SessionRecord) : Type 0 where
   pub ended : HasEnded session.outcome session.takes_refreshes number old new session.unread session.before session.after
-  pub conversed : HasConversed session.outcome session.takes_refreshes number old new [] session.events
+  pub conversed : HasConversed session.outcome session.takes_refreshes number old new session.events
 
 -- sessions of one client, the newest first: each found the client as the one before it left it
 abbrev pub AreSessions : ℕ → TokenRecord → List SessionRecord → TokenRecord → Type 0
@@ -90,7 +87,7 @@ pub record HasStreamed (number : ℕ) (old new : TokenRecord) (unread before aft
     (outcome : Result Served SessionError) (told : ℕ) (takes : Bool) : Type 0 where
   pub ended : HasEnded outcome takes number old new unread before after
   pub events : List Event
-  pub conversed : HasConversed outcome takes number old new [] events
+  pub conversed : HasConversed outcome takes number old new events
   pub told_is : told ≡ most_covered events
 
 -- a session told of so many commits at most, took refreshes or did not, and what follows it: nothing does where it was

@@ -37,6 +37,8 @@ fn remake_one<W: Wait + Drop, R: Wait>(
     match client.refresh(rt, server, refresh) {
         Ok(_) => {},
         Err(RefreshError::Refused { at, action, cause }) if at == number - 1 => {
+            // What it is refused behind is legal.
+            client.soundness();
             return Err(JournaledFault::Replay(ReplayFault::Refused {
                 number,
                 action,

@@ -68,8 +68,9 @@ impl<'a, W: Wait + Drop, K: LogStart> LogSource for ServerLog<'a, W, K> {
         taken: u64,
     ) -> Result<Vec<Commit>, AllocError> {
         let commits = self.reader.commits_from(rt, self.server, taken);
-        // For the proof: the log is no longer than a number of 64 bits tells.
+        // For the proof: the log is no longer than a number of 64 bits tells, and has commits of the table's clients.
         let _count = self.reader.seen();
+        self.reader.soundness();
         commits
     }
 }

@@ -18,8 +18,8 @@ use std::sync::Wait;
 use std::time::{Clock, Duration};
 use std::{fmt, io, thread};
 use stream_sessions::{
-    Acknowledges, Ending, Evidence, Served, Service, SessionError, SessionFault, Speaker, Speaks,
-    Wire, serve_session,
+    Acknowledges, Ending, Evidence, Served, Service, SessionError, SessionFault, SessionLeft,
+    Speaker, Speaks, serve_session,
 };
 
 // How many bytes of a client's requests are read at once.
@@ -83,7 +83,6 @@ fn speak_over<
             };
         }
     };
-    let mut wire: Wire<I, O, Y> = Wire::new(input, output);
     let service = Service {
         rt,
         alloc,
@@ -91,8 +90,12 @@ fn speak_over<
         server,
     };
     server.figures().session_begins();
-    let ended = serve_session(&service, client, &mut wire, took_refreshes);
+    let left: SessionLeft<I, O, Y> = serve_session(&service, client, input, output, took_refreshes);
     server.figures().session_ends();
+    let SessionLeft {
+        wire,
+        outcome: ended,
+    } = left;
     let told = wire.told();
     let output = wire.into_output();
     StreamLeft {

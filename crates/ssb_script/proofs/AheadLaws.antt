@@ -1,5 +1,5 @@
 -- Laws of requests that are at hand, and of many of them that are read together.
-use Rattle.std.proofs.Common.{◌≡◌, ◌≢◌, ◌≤◌, ◌+◌, ℕ, List, [], ◌∷◌, ◌++◌, length, take, drop, refl, sym, ap, subst, ◌∙◌}
+use Rattle.std.proofs.Common.{◌≡◌, ◌≤◌, ◌+◌, ℕ, List, [], ◌∷◌, ◌++◌, length, take, drop, refl, sym, ap, subst, ◌∙◌}
 use Rattle.std.proofs.Common.{append_assoc, append-nil, length-append, arith}
 use Rattle.std.specs.List.{AllByRecursion, AllZip, concat, flat_map}
 use Rattle.std.proofs.lemmas.List.{take-append-drop}
@@ -131,17 +131,6 @@ ask_in_turn count text wanted plain spells counted = λ requests joined each man
 
 pub ask_nothing : (bytes : List ℕ) → AskFirst bytes []
 ask_nothing bytes = record { requests = []; more = bytes; joined = refl; each = tt; ask = tt }
-
--- the first bytes, so many of them, were read together
-pub ask_first : (bytes text : List ℕ) (count size : ℕ) (asked : List RequestRecord) → StandFirst count size bytes
-    → text ≡ take size bytes → AskInTurn count text asked → AskFirst bytes asked
-ask_first bytes text count size asked first is in_turn = record {
-  requests = first.requests;
-  more = drop size bytes;
-  joined = sym (take-append-drop size bytes) ∙ ap (λ t. t ++ drop size bytes) first.front;
-  each = first.each;
-  ask = in_turn first.requests (is ∙ first.front) first.each first.many;
-}
 
 -- the first of them
 pub asks_first : (bytes : List ℕ) (one : RequestRecord) (asked : List RequestRecord) → AskFirst bytes (one ∷ asked)

@@ -10,7 +10,6 @@ use Rattle.ssb_questions.specs.declared.value.Value.{Value}
 use Rattle.ssb_text.specs.Records.{GivesNext, HasGiven, HasRecords}
 use Rattle.ssb_text.specs.declared.error.LineFault.{LineFault}
 use Rattle.ssb_text.specs.declared.error.LineFault.TheVariants as row
-use Rattle.ssb_text.specs.declared.records.ReadError.TheVariants as read
 use Rattle.ssb_script.specs.Lines.{ScriptLine, is_query, key_of, line_after, line_of, line_or_bad, line_or_refusal}
 use Rattle.ssb_script.specs.Lines.{question_at, word_of}
 use Rattle.ssb_script.specs.Lines as line

@@ -1,37 +1,27 @@
 -- From the things that a request asks to the answer of it.
-use Rattle.std.proofs.Common.{◌≡◌, ℕ, List, [], ◌∷◌, ◌++◌, take, length, Some, true, false, refl, sym, ap}
+use Rattle.std.proofs.Common.{◌≡◌, ℕ, List, [], ◌∷◌, ◌++◌, take, length, true, false, refl, sym, ap}
 use Rattle.std.proofs.Common.{◌∙◌, ◌⊎◌, ◌||◌, Bool, not, map, subst, inl, inr, append_assoc, append-nil}
 use Rattle.std.specs.List.{list_any}
 use Rattle.std.proofs.Math.Seq.{take-append_seam}
 use Rattle.std.proofs.lemmas.List.Concat.{flat_map-append}
 use Rattle.history.specs.Members.{number_of}
 use Rattle.history.specs.Tokens.{TokenRecord}
-use Rattle.ssb_formats.specs.ReplyTexts.{format_shown, replies_shown, reply_shown}
+use Rattle.ssb_formats.specs.ReplyTexts.{replies_shown, reply_shown}
 use Rattle.ssb_formats.specs.declared.reply_format.ReplyFormat.{ReplyFormat}
 use Rattle.ssb_report.specs.Replies.{Reply}
 use Rattle.ssb_script.specs.Requests.{RequestRecord, request_of}
-use Rattle.ssb_script.specs.Scripts.{SpellsScript, IsScriptFault, most_records}
+use Rattle.ssb_script.specs.Scripts.{SpellsScript, most_records}
 use Rattle.ssb_script.specs.declared.request.Request.{Request}
-use Rattle.ssb_script.specs.declared.error.ScriptError.{ScriptError}
-use Rattle.ssb_text.specs.Written.{AppendsPart}
-use Rattle.stream_sessions.specs.Answers.{BreaksOff, HasFault, is_of_text}
-use Rattle.stream_sessions.specs.FaultLine.{fault_line, read_only_line}
-use Rattle.stream_sessions.specs.FormatRequest.{NamesFormat, NamesNone}
+use Rattle.stream_sessions.specs.Answers.{AddsAnswer, AddsNothing, BreaksOff}
+use Rattle.stream_sessions.specs.FaultLine.{read_only_line}
 use Rattle.stream_sessions.specs.Replying.{LacksReply}
 use Rattle.stream_sessions.specs.Served.{AreServed, IsServed}
-use Rattle.stream_sessions.specs.Speaking.{IsTaken, has_refresh, is_refresh, speaking}
-use Rattle.stream_sessions.specs.Steps.{AddsAnswer, AddsNothing}
+use Rattle.stream_sessions.specs.Speaking.{IsTaken, SpeakingRecord, has_refresh, is_refresh, speaking}
 use Rattle.stream_sessions.specs.declared.manner.Manner.{Manner}
 use Rattle.stream_sessions.proofs.RequestLaws.{served_more}
 
 no_is : false ≡ true → ⊥
 no_is e = cc
-
--- what was served to a client of a number was served to the client of the same number
-pub numbered_served : (one number : ℕ) (old new : TokenRecord) (request : RequestRecord) (reply : Reply)
-    → one ≡ number → IsServed one old request reply new → IsServed number old request reply new
-numbered_served one number old new request reply same is =
-    subst (λ n. IsServed n old request reply new) same is
 
 -- one thing more was served, to the same client
 pub served_next : (old mid new : TokenRecord) (front : List RequestRecord) (given : List Reply) (one : RequestRecord)
@@ -127,39 +117,6 @@ adds_nothing request old mid new manner asked front rest one given start so_far 
       added = cut_off start (replies_shown manner.format given) so_far written after lacks.part is lacks.added cut;
     }
 
--- what is told of a request is its first fault
-pub fault_of : (request : List ℕ) (fault : ScriptError) → IsScriptFault most_records request fault
-    → is_of_text fault ≡ true → HasFault request fault
-fault_of request fault is told = elim is [
-  | inl read ↦ absurd (no_is (sym (ap is_of_text read) ∙ told))
-  | inr others ↦ elim others [
-    | inl memory ↦ absurd (no_is (sym (ap is_of_text memory) ∙ told))
-    | inr of_text ↦ of_text
-  ]
-]
-
--- a fault that was told, a format that is the client's from here on, and one for whose line there was no memory
-pub adds_line : (number : ℕ) (request : List ℕ) (client : TokenRecord) (manner : Manner) (fault : ScriptError)
-    (before after : List ℕ)
-    → HasFault request fault → NamesNone request → after ≡ before ++ fault_line manner.format fault
-    → AddsAnswer number request (speaking client manner) (speaking client manner) before after
-adds_line number request client manner fault before after has other added = record {
-  text = fault_line manner.format fault;
-  answered = inr (inl (record { fault = fault; has = has; other = other; line = refl; unchanged = refl }));
-  added = added;
-}
-
-pub adds_format : (number : ℕ) (request : List ℕ) (client : TokenRecord) (manner : Manner) (named : ReplyFormat)
-    (before after : List ℕ)
-    → NamesFormat request named → after ≡ before ++ format_shown named
-    → AddsAnswer number request (speaking client manner) (speaking client (record manner { format = named })) before
-    after
-adds_format number request client manner named before after names added = record {
-  text = format_shown named;
-  answered = inr (inr (inl (record { names = names; told = refl; unchanged = refl; keeps = refl })));
-  added = added;
-}
-
 -- that the session takes no refreshes was told
 pub adds_read_only : (number : ℕ) (request : List ℕ) (asked : List RequestRecord) (client : TokenRecord)
     (manner : Manner) (before after : List ℕ)
@@ -179,19 +136,17 @@ adds_read_only number request asked client manner before after spelled has none 
   added = added;
 }
 
-pub adds_no_line : (number : ℕ) (request : List ℕ) (client : TokenRecord) (manner : Manner)
-    (text before written after : List ℕ) (count : ℕ)
-    → count ≡ length before → AppendsPart (Some before) (Some written) text → after ≡ take count written
-    → AddsNothing number request (speaking client manner) (speaking client manner) before after
-adds_no_line number request client manner text before written after count many part cut = record {
-  broken = inl refl;
-  added = cut ∙ ap (λ (n : ℕ). take n written) many ∙ ap (take (length before)) part.appends
-      ∙ take-append_seam before part.part;
-}
+pub not_both : (b : Bool) → b ≡ true → b ≡ false → ⊥
+not_both b one other = no_is (sym other ∙ one)
 
 pub not_false : (b : Bool) → not b ≡ false → b ≡ true
 not_false true is = refl
 not_false false is = absurd (no_is (sym is))
+
+-- one request, which is no refresh
+pub one_taken : (client : SpeakingRecord) (request : RequestRecord) → is_refresh request ≡ false
+    → IsTaken client (request ∷ [])
+one_taken client request none = inr (ap (λ b. b || false) none)
 
 -- whether there is a refresh among what is asked
 pub has_refresh_of : (requests : List Request)

@@ -5,7 +5,7 @@ use Rattle.std.specs.List.{concat}
 use Rattle.ssb_script.proofs.RequestLaws.{concat-push}
 use Rattle.stream_sessions.specs.Conversation.{AddsReply, IsConversation}
 use Rattle.stream_sessions.specs.Events.{Event, Looks, Takes, Passes}
-use Rattle.stream_sessions.specs.Exchange.{HasReplies, HasRepliesToLast, TellsReplies, passed}
+use Rattle.stream_sessions.specs.Exchange.{HasReplies, HasRepliesToLast, TellsReplies, passed, texts_taken}
 use Rattle.stream_sessions.specs.FaultLine.{too_long_line}
 use Rattle.stream_sessions.specs.Speaking.{SpeakingRecord}
 use Rattle.stream_sessions.proofs.SessionLaws.{answered_push, each_push}
@@ -18,44 +18,31 @@ behind given was text kept is = ap (λ t. given ++ t) is ∙ sym (append_assoc g
 moved : (given text held : List ℕ) → held ≡ [] → (given ++ text) ++ held ≡ given ++ text
 moved given text held none = ap (λ t. (given ++ text) ++ t) none ∙ append-nil (given ++ text)
 
-tells : (events : List Event) (number : ℕ) (old now : SpeakingRecord) (held : List ℕ)
+pub tells : (events : List Event) (number : ℕ) (old now : SpeakingRecord) (held : List ℕ)
     → IsConversation false number old events now held → HasReplies number old now events held
 tells [] number old now held c = record {
-  requests = [];
   each = tt;
-  took = refl;
   replies = [];
   answered = c.1;
   told = c.2;
 }
 tells (Looks at_hand ∷ earlier) number old now held c =
     let so = tells earlier number old now held c.1 in
-    record {
-      requests = so.requests;
-      each = so.each;
-      took = so.took;
-      replies = so.replies;
-      answered = so.answered;
-      told = so.told;
-    }
+    record { each = so.each; replies = so.replies; answered = so.answered; told = so.told }
 tells (Takes bytes ∷ earlier) number old now held c =
     let adds = c.4.1 in
     let so = tells earlier number old c.0 c.1 c.2 in
     record {
-      requests = so.requests ++ bytes ∷ [];
-      each = each_push so.requests bytes so.each c.4.0;
-      took = ap (λ t. t ++ bytes) so.took ∙ sym (concat-push so.requests bytes);
+      each = each_push (texts_taken earlier) bytes so.each c.4.0;
       replies = so.replies ++ adds.text ∷ [];
-      answered = answered_push number old c.0 now so.requests so.replies bytes adds.text so.answered adds.answered;
+      answered = answered_push number old c.0 now (texts_taken earlier) so.replies bytes adds.text so.answered adds.answered;
       told = behind (passed earlier) c.1 adds.text held adds.added ∙ ap (λ t. t ++ adds.text) so.told
           ∙ sym (concat-push so.replies adds.text);
     }
 tells (Passes text covered ∷ earlier) number old now held c =
     let so = tells earlier number old now text c.0 in
     record {
-      requests = so.requests;
       each = so.each;
-      took = so.took;
       replies = so.replies;
       answered = so.answered;
       told = moved (passed earlier) text held c.2 ∙ so.told;
@@ -98,10 +85,10 @@ tells_to_last (Looks at_hand ∷ earlier) number old now held c = absurd (not_en
 tells_to_last (Takes bytes ∷ earlier) number old now held c =
     let so = tells earlier number old c.0 c.1 c.2 in
     record {
-      requests = so.requests;
+      requests = texts_taken earlier;
       each = so.each;
       last = bytes;
-      took = ap (λ t. t ++ bytes) so.took;
+      took = refl;
       replies = so.replies;
       between = c.0;
       answered = so.answered;

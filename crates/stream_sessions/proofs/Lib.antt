@@ -3,10 +3,9 @@ pub mod MomentLaws
 mod FormatLaws
 mod FaultTextLaws
 mod AnswerLaws
-mod StepLaws
 mod SessionLaws
 mod SpeakingLaws
-mod ConversationLaws
+mod CourseLaws
 mod EndLaws
 mod ReadingLaws
 mod ExchangeLaws

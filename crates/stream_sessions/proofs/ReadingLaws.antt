@@ -1,17 +1,17 @@
 -- Whether a session takes refreshes stays, and one that takes none commits nothing.
-use Rattle.std.proofs.Common.{◌≡◌, ◌∙◌, ◌||◌, ℕ, Bool, true, false, List, [], ◌∷◌, ◌++◌, inl, inr, refl, sym, ap}
+use Rattle.std.proofs.Common.{◌≡◌, ◌∙◌, ◌||◌, ℕ, Bool, true, false, List, [], ◌∷◌, ◌++◌, inl, inr, refl, sym, ap, Result, Ok, Err}
 use Rattle.std.proofs.lemmas.List.Folds.{list_any-append}
 use Rattle.history.specs.Tokens.{TokenRecord}
 use Rattle.ssb_report.specs.Replies.{Reply, Refreshed, Answered, Aborted}
 use Rattle.ssb_script.specs.Requests.{RequestRecord, Refresh, Ask, Abort}
 use Rattle.stream_sessions.specs.Answers.{BreaksOff, IsAnswered}
-use Rattle.stream_sessions.specs.Conversation.{AddsReply, Converses, ConversesUntil, IsConversation}
+use Rattle.stream_sessions.specs.Conversation.{AddsReply, ConversesTo, IsConversation}
 use Rattle.stream_sessions.specs.Events.{Event, Looks, Takes, Passes}
 use Rattle.stream_sessions.specs.ReadingOnly.{CommitsNothing}
 use Rattle.stream_sessions.specs.Served.{AreServed, IsServed}
+use Rattle.stream_sessions.specs.declared.outcome.Served.{Served}
+use Rattle.stream_sessions.specs.declared.outcome.SessionError.{SessionError}
 use Rattle.stream_sessions.specs.Speaking.{IsTaken, SpeakingRecord, has_refresh, is_refresh}
-use Rattle.stream_sessions.specs.declared.outcome.SessionFault.{SessionFault}
-use Rattle.stream_sessions.proofs.ConversationLaws.{in_part}
 
 not_both : true ≡ false → ⊥
 not_both e = cc
@@ -114,20 +114,16 @@ conversation_stays (Takes bytes ∷ earlier) ended number old now held c =
 conversation_stays (Passes text covered ∷ earlier) ended number old now held c =
     conversation_stays earlier ended number old now text c.0
 
+converses_stays : (result : Result Served SessionError) (number : ℕ) (old now : SpeakingRecord) (events : List Event)
+    → ConversesTo result number old now events → Stays old now
+converses_stays (Ok served) number old now events c = conversation_stays events true number old now [] c
+converses_stays (Err error) number old now events c = conversation_stays events c.0 number old now c.1 c.2
+
 -- it takes refreshes to its end as it did when it began
-pub takes_stays : (ended : Bool) (number : ℕ) (old now : SpeakingRecord) (before after : List Event) (held : List ℕ)
-    → Converses ended number old now before after held → now.takes_refreshes ≡ old.takes_refreshes
-takes_stays ended number old now before after held c =
-    (conversation_stays c.more ended number old now held c.is).takes
+pub takes_stays : (result : Result Served SessionError) (number : ℕ) (old now : SpeakingRecord) (events : List Event)
+    → ConversesTo result number old now events → now.takes_refreshes ≡ old.takes_refreshes
+takes_stays result number old now events c = (converses_stays result number old now events c).takes
 
-pub until_takes_stays : (why : SessionFault) (number : ℕ) (old now : SpeakingRecord) (before after : List Event)
-    (held : List ℕ)
-    → ConversesUntil why number old now before after held → now.takes_refreshes ≡ old.takes_refreshes
-until_takes_stays why number old now before after held c =
-    let part = in_part why number old now before after held c in
-    takes_stays part.1.0 number old now before after part.0 part.1.1
-
-pub commits_nothing : (before after : List Event) → CommitsNothing before after
-commits_nothing before after number old new session =
-    let part = session.1 in
-    (conversation_stays part.1.1.more part.1.0 number _ _ part.0 part.1.1.is).mine refl
+pub commits_nothing : (events : List Event) → CommitsNothing events
+commits_nothing events result number old new session =
+    (converses_stays result number _ _ events session.1).mine refl

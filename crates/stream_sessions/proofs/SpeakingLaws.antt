@@ -1,43 +1,60 @@
 -- A session that took a client from one token to another, whatever its last format is.
-use Rattle.std.proofs.Common.{◌≡◌, Bool, Result, Ok, Err, subst}
-use Rattle.std.specs.Prelude.{IfErr, IfOk, MatchResult, OnOk}
+use Rattle.std.proofs.Common.{◌≡◌, ◌∙◌, ℕ, Bool, List, [], Result, Ok, Err, ap, subst, sym}
+use Rattle.std.specs.Prelude.{IfErr, IfOk}
+use Rattle.history.specs.Members.{number_of}
 use Rattle.history.specs.Tokens.{TokenRecord}
-use Rattle.stream_sessions.specs.Speaking.{InSession, SpeakingRecord, first_format, manner_of, speaking}
+use Rattle.stream_sessions.specs.Conversation.{ConversesTo}
+use Rattle.stream_sessions.specs.Course.{CourseRecord, IsLeft, number_in}
+use Rattle.stream_sessions.specs.Events.{WireRecord}
+use Rattle.stream_sessions.specs.OneRequest.{AreAlike}
+use Rattle.stream_sessions.specs.Session.{Breaks, Serves}
+use Rattle.stream_sessions.specs.Speaking.{InSession, first_format, manner_of, speaking}
 use Rattle.stream_sessions.specs.declared.manner.Manner.{Manner}
+use Rattle.stream_sessions.specs.declared.outcome.Served.{Served}
+use Rattle.stream_sessions.specs.declared.outcome.SessionError.{SessionError}
+use Rattle.stream_sessions.proofs.ReadingLaws.{takes_stays}
+
+-- what is said of a session that was left
+pub record IsLeftSession (result : Result Served SessionError) (takes : Bool) (old new : TokenRecord) (wire after : WireRecord) :
+    Type 0 where
+  pub served : IfOk result (λ served. InSession takes old new (λ first last. Serves served (number_of old.who) first last
+      wire.unread after.unread wire.written after.written))
+  pub broken : IfErr result (λ error. InSession takes old new (λ first last. Breaks error (number_of old.who) first last
+      wire.unread after.unread wire.written after.written))
+  pub conversed : InSession takes old new (λ first last. ConversesTo result (number_of old.who) first last after.events)
+  pub same : AreAlike old new
+
+-- a course with these parts
+abbrev at : TokenRecord → Manner → WireRecord → List ℕ → CourseRecord
+at client manner wire held = record { client = speaking client manner; wire = wire; held = held }
+
+left_session : (result : Result Served SessionError) (old new : TokenRecord) (wire after : WireRecord) (manner : Manner)
+    (held : List ℕ)
+    → IsLeft result (at old (manner_of manner.takes_refreshes first_format) wire []) (at new manner after held)
+    → IsLeftSession result manner.takes_refreshes old new wire after
+left_session (Ok served) old new wire after manner held left =
+    record { served = (manner.format, left.1); broken = tt; conversed = (manner.format, left.2); same = left.0 }
+left_session (Err error) old new wire after manner held left =
+    record { served = tt; broken = (manner.format, left.1); conversed = (manner.format, left.2); same = left.0 }
 
 -- it takes refreshes to its end as it did when it began
-pub in_session : (old new : TokenRecord) (takes : Bool) (last : Manner)
-    (Took : SpeakingRecord → SpeakingRecord → Type 0)
-    → Took (speaking old (manner_of takes first_format)) (speaking new last) → last.takes_refreshes ≡ takes
-    → InSession takes old new Took
-in_session old new takes last Took holds stays = (
-  last.format,
-  subst
-      (λ (t : Bool). Took (speaking old (manner_of takes first_format)) (speaking new (manner_of t last.format)))
-      stays holds,
-)
+left_stays : (result : Result Served SessionError) (first last : CourseRecord) → IsLeft result first last
+    → last.client.takes_refreshes ≡ first.client.takes_refreshes
+left_stays (Ok served) first last left = takes_stays (Ok served) (number_in first) first.client last.client _ left.2
+left_stays (Err error) first last left = takes_stays (Err error) (number_in first) first.client last.client _ left.2
 
-pub session_ok : {T E : Type 0} (result : Result T E) (old new : TokenRecord) (takes : Bool) (last : Manner)
-    (P : T → SpeakingRecord → SpeakingRecord → Type 0) (Q : E → SpeakingRecord → SpeakingRecord → Type 0)
-    → MatchResult result (λ value. P value (speaking old (manner_of takes first_format)) (speaking new last))
-    (λ error. Q error (speaking old (manner_of takes first_format)) (speaking new last))
-    → last.takes_refreshes ≡ takes → IfOk result (λ value. InSession takes old new (P value))
-session_ok (Ok value) old new takes last P Q holds stays = in_session old new takes last (P value) holds stays
-session_ok (Err error) old new takes last P Q holds stays = tt
-
-pub session_err : {T E : Type 0} (result : Result T E) (old new : TokenRecord) (takes : Bool) (last : Manner)
-    (P : T → SpeakingRecord → SpeakingRecord → Type 0) (Q : E → SpeakingRecord → SpeakingRecord → Type 0)
-    → MatchResult result (λ value. P value (speaking old (manner_of takes first_format)) (speaking new last))
-    (λ error. Q error (speaking old (manner_of takes first_format)) (speaking new last))
-    → last.takes_refreshes ≡ takes → IfErr result (λ error. InSession takes old new (Q error))
-session_err (Ok value) old new takes last P Q holds stays = tt
-session_err (Err error) old new takes last P Q holds stays = in_session old new takes last (Q error) holds stays
-
--- of success alone
-pub session_on : {T E : Type 0} (result : Result T E) (old new : TokenRecord) (takes : Bool) (last : Manner)
-    (P : SpeakingRecord → SpeakingRecord → Type 0) (Q : E → SpeakingRecord → SpeakingRecord → Type 0)
-    → MatchResult result (λ _. P (speaking old (manner_of takes first_format)) (speaking new last))
-    (λ error. Q error (speaking old (manner_of takes first_format)) (speaking new last))
-    → last.takes_refreshes ≡ takes → OnOk result (InSession takes old new P)
-session_on (Ok value) old new takes last P Q holds stays = in_session old new takes last P holds stays
-session_on (Err error) old new takes last P Q holds stays = tt
+-- the same of a session as it was made
+pub begun_session : (result : Result Served SessionError) (takes : Bool) (old new : TokenRecord)
+    (was wire after : WireRecord) (first manner : Manner) (none held : List ℕ)
+    → was ≡ wire → first ≡ manner_of takes first_format → none ≡ []
+    → IsLeft result (at old first was none) (at new manner after held) → IsLeftSession result takes old new wire after
+begun_session result takes old new was wire after first manner none held same begins empty left =
+    let last = at new manner after held in
+    let stays = left_stays result (at old first was none) last left ∙ ap (λ (m : Manner). m.takes_refreshes) begins in
+    let is : at old first was none ≡ at old (manner_of manner.takes_refreshes first_format) wire [] =
+    ap (λ m. at old m was none) (begins ∙ ap (λ t. manner_of t first_format) (sym stays))
+    ∙ ap (λ w. at old (manner_of manner.takes_refreshes first_format) w none) same
+    ∙ ap (at old (manner_of manner.takes_refreshes first_format) wire) empty in
+    subst (λ (t : Bool). IsLeftSession result t old new wire after) stays
+    (left_session result old new wire after manner held
+    (subst (λ (course : CourseRecord). IsLeft result course last) is left))

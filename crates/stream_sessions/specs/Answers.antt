@@ -87,3 +87,14 @@ pub record IsServedInPart (number : ℕ) (request : List ℕ) (old new : Speakin
 
 abbrev pub BreaksOff : ℕ → List ℕ → SpeakingRecord → SpeakingRecord → Type 0
 BreaksOff number request old new = (new ≡ old) ⊎ IsServedInPart number request old new
+
+-- a request was answered, and the reply added to those that are held
+pub record AddsAnswer (number : ℕ) (request : List ℕ) (old new : SpeakingRecord) (before after : List ℕ) : Type 0 where
+  pub text : List ℕ
+  pub answered : IsAnswered number request old new text
+  pub added : after ≡ before ++ text
+
+-- a request was not answered for want of memory, and nothing was added
+pub record AddsNothing (number : ℕ) (request : List ℕ) (old new : SpeakingRecord) (before after : List ℕ) : Type 0 where
+  pub broken : BreaksOff number request old new
+  pub added : after ≡ before

@@ -1,14 +1,13 @@
 -- What goes over the wire of a session, in order.
-use Rattle.std.specs.Prelude.{◌≡◌, ◌≤◌, ◌<◌, ℕ, Bool, true, false, List, [], ◌∷◌, ◌++◌, ◌⊎◌, length, Result}
-use Rattle.std.specs.Prelude.{MatchResult}
+use Rattle.std.specs.Prelude.{◌≡◌, ◌≤◌, ◌<◌, ℕ, Bool, true, false, List, [], ◌∷◌, ◌++◌, ◌⊎◌, length, Result, Ok, Err}
 use Rattle.ssb_script.specs.Cutting.{IsRequest}
-use Rattle.stream_sessions.specs.Events.{Event, Looks, Takes, Passes, WireRecord}
+use Rattle.stream_sessions.specs.Answers.{AddsAnswer, AddsNothing}
+use Rattle.stream_sessions.specs.Events.{Event, Looks, Takes, Passes}
 use Rattle.stream_sessions.specs.FaultLine.{too_long_line}
 use Rattle.stream_sessions.specs.Speaking.{SpeakingRecord}
-use Rattle.stream_sessions.specs.Steps.{AddsAnswer, AddsNothing, is_last}
-use Rattle.stream_sessions.specs.declared.outcome.SessionFault.{SessionFault}
+use Rattle.stream_sessions.specs.declared.outcome.Served.{Served}
+use Rattle.stream_sessions.specs.declared.outcome.SessionError.{SessionError}
 use Rattle.stream_sessions.specs.declared.outcome.SessionFault.TheVariants as fault
-use Rattle.stream_sessions.specs.declared.step.Step.{Step}
 
 -- so many bytes of replies are held at most before one more is added, less one: 64 KiB
 abbrev pub most_held : ℕ
@@ -36,45 +35,10 @@ IsConversation ended number old (Takes bytes ∷ earlier) now held =
 IsConversation ended number old (Passes text covered ∷ earlier) now held =
     IsConversation ended number old earlier now text × (length now.token.seen ≤ covered) × (held ≡ [])
 
--- what went over the wire meanwhile is a conversation
-pub record Converses (ended : Bool) (number : ℕ) (old now : SpeakingRecord) (before after : List Event)
-    (held : List ℕ) : Type 0 where
-  pub more : List Event
-  pub behind : after ≡ more ++ before
-  pub is : IsConversation ended number old more now held
-
--- the same, whether or not the last bytes were taken
-abbrev pub ConversesSoFar : ℕ → SpeakingRecord → SpeakingRecord → List Event → List Event → List ℕ → Type 0
-ConversesSoFar number old now before after held = (ended : Bool) × Converses ended number old now before after held
-
--- the same of a session that broke: what it did not pass on, it still held
-abbrev pub ConversesInPart : ℕ → SpeakingRecord → SpeakingRecord → List Event → List Event → Type 0
-ConversesInPart number old now before after = (held : List ℕ) × ConversesSoFar number old now before after held
-
--- where it broke: what could not be written is held no more
-abbrev pub ConversesUntil : SessionFault → ℕ → SpeakingRecord → SpeakingRecord → List Event → List Event → List ℕ
-    → Type 0
-ConversesUntil fault.Read number old now before after held = ConversesSoFar number old now before after held
-ConversesUntil fault.Write number old now before after held = ConversesInPart number old now before after
-ConversesUntil fault.OutOfMemory number old now before after held = ConversesSoFar number old now before after held
-
--- a conversation, whatever it was until then, goes on so
-abbrev pub GoesOn : Bool → Bool → ℕ → SpeakingRecord → SpeakingRecord → List Event → List Event → List ℕ → List ℕ
-    → Type 0
-GoesOn was ended number old new before after held kept =
-    (first : SpeakingRecord) (start : List Event) → Converses was number first old start before held
-    → Converses ended number first new start after kept
-
--- it breaks so
-abbrev pub GoesUntil : SessionFault → Bool → ℕ → SpeakingRecord → SpeakingRecord → List Event → List Event → List ℕ
-    → List ℕ → Type 0
-GoesUntil why was number old new before after held kept =
-    (first : SpeakingRecord) (start : List Event) → Converses was number first old start before held
-    → ConversesUntil why number first new start after kept
-
--- a conversation in which nothing was the last goes on with a step, or breaks where the step failed
-abbrev pub GoesOnOrUntil : Result Step SessionFault → ℕ → SpeakingRecord → SpeakingRecord → WireRecord → WireRecord
-    → List ℕ → List ℕ → Type 0
-GoesOnOrUntil result number old new wire after held kept =
-    MatchResult result (λ step. GoesOn false (is_last step) number old new wire.events after.events held kept)
-    (λ why. GoesUntil why false number old new wire.events after.events held kept)
+-- what went over the wire of a session that ended so: a conversation to its end, in which nothing is held any more; or one
+-- until it broke, in which nothing is held but what could not be written
+abbrev pub ConversesTo : Result Served SessionError → ℕ → SpeakingRecord → SpeakingRecord → List Event → Type 0
+ConversesTo (Ok served) number old now events = IsConversation true number old events now []
+ConversesTo (Err error) number old now events =
+    (ended : Bool) × (held : List ℕ) × IsConversation ended number old events now held
+    × ((error.fault ≡ fault.Write → ⊥) → held ≡ [])

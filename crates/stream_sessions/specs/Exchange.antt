@@ -7,12 +7,12 @@ use Rattle.stream_sessions.specs.Conversation.{AddsReply, IsConversation}
 use Rattle.stream_sessions.specs.Events.{Event, Looks, Takes, Passes}
 use Rattle.stream_sessions.specs.Speaking.{SpeakingRecord}
 
--- all bytes that were taken
-abbrev pub taken : List Event → List ℕ
-taken [] = []
-taken (Looks at_hand ∷ earlier) = taken earlier
-taken (Takes bytes ∷ earlier) = taken earlier ++ bytes
-taken (Passes text covered ∷ earlier) = taken earlier
+-- all that was taken, one after another
+abbrev pub texts_taken : List Event → List (List ℕ)
+texts_taken [] = []
+texts_taken (Looks at_hand ∷ earlier) = texts_taken earlier
+texts_taken (Takes bytes ∷ earlier) = texts_taken earlier ++ bytes ∷ []
+texts_taken (Passes text covered ∷ earlier) = texts_taken earlier
 
 -- all texts that were passed on
 abbrev pub passed : List Event → List ℕ
@@ -23,11 +23,9 @@ passed (Passes text covered ∷ earlier) = passed earlier ++ text
 
 -- what was taken is requests, each of which was answered; what was passed on, and then what is held, is their replies
 pub record HasReplies (number : ℕ) (old now : SpeakingRecord) (events : List Event) (held : List ℕ) : Type 0 where
-  pub requests : List (List ℕ)
-  pub each : AllByRecursion IsRequest requests
-  pub took : taken events ≡ concat requests
+  pub each : AllByRecursion IsRequest (texts_taken events)
   pub replies : List (List ℕ)
-  pub answered : AreAnswered number old requests replies now
+  pub answered : AreAnswered number old (texts_taken events) replies now
   pub told : passed events ++ held ≡ concat replies
 
 -- the same, and then what comes of the last bytes that were taken
@@ -35,7 +33,7 @@ pub record HasRepliesToLast (number : ℕ) (old now : SpeakingRecord) (events : 
   pub requests : List (List ℕ)
   pub each : AllByRecursion IsRequest requests
   pub last : List ℕ
-  pub took : taken events ≡ concat requests ++ last
+  pub took : texts_taken events ≡ requests ++ last ∷ []
   pub replies : List (List ℕ)
   pub between : SpeakingRecord
   pub answered : AreAnswered number old requests replies between

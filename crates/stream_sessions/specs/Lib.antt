@@ -10,8 +10,9 @@ pub mod Replying
 pub mod Events
 pub mod Answers
 pub mod Session
-pub mod Steps
+pub mod Ahead
 pub mod Conversation
 pub mod Exchange
+pub mod Course
 pub mod WholeScripts
 pub mod ReadingOnly

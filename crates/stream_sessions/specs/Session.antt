@@ -100,9 +100,8 @@ pub record IsBroken (error : SessionError) (number : ℕ) (old new : SpeakingRec
 
 -- what was written then: all of it, or a part, where writing itself failed
 abbrev pub IsWritten : SessionFault → Option (List ℕ) → Option (List ℕ) → List ℕ → Type 0
-IsWritten fault.Read before after text = Appends before after text
-IsWritten fault.Write before after text = AppendsPart before after text
-IsWritten fault.OutOfMemory before after text = Appends before after text
+IsWritten why before after text =
+    AppendsPart before after text × ((why ≡ fault.Write → ⊥) → Appends before after text)
 
 pub record Breaks (error : SessionError) (number : ℕ) (old new : SpeakingRecord)
     (unread left before after : Option (List ℕ)) : Type 0 where

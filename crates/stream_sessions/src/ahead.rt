@@ -2,9 +2,9 @@
 
 ghost use Rattle.std.specs.Prelude.{◌≡◌, []};
 ghost use Rattle.ssb_script.specs.Ahead.{AskFirst};
-ghost use Rattle.stream_sessions.specs.Steps.{TakesFirst, asked_ahead};
+ghost use Rattle.stream_sessions.specs.Ahead.{StandsNext, TakesFirst, asked_ahead, is_at_hand};
 
-use ssb_script::{AtHand, Request, read_together, requests_at_hand};
+use ssb_script::{AtHand, Request, read_together, request_length, requests_at_hand};
 use std::alloc::Global;
 use std::vec::IntoIter;
 
@@ -20,10 +20,30 @@ pub(crate) struct Ahead {
     alone: usize,
 }
 
+/// What a session takes next.
+#[derive(Drop)]
+pub(crate) enum Coming {
+    /// A request at hand, of so many bytes, which was read before its turn.
+    Read(Request, usize),
+    /// A request at hand, of so many bytes, which is to be read alone.
+    Whole(usize),
+    /// No request stands whole at hand: the session may have to wait for it.
+    Awaited,
+}
+
+impl Coming {
+    /// Whether a request stands whole at hand.
+    pub(crate) fn is_at_hand(&self) -> bool
+        ensures { result ≡ is_at_hand self.now }
+    {
+        !matches!(self, Coming::Awaited)
+    }
+}
+
 /// The requests of a session that are still to be served: those that were read ahead, and room for one that is read alone.
 #[derive(Drop)]
 pub(crate) struct Requests {
-    pub(crate) ahead: Ahead,
+    ahead: Ahead,
     pub(crate) alone: Vec<u8>,
 }
 
@@ -35,6 +55,21 @@ impl Requests {
         Requests {
             ahead: Ahead::new(alloc),
             alone: Vec::new(alloc),
+        }
+    }
+
+    /// What comes next, where these bytes are at hand. Where several requests stand whole there, they are read together,
+    /// each before its turn.
+    pub(crate) fn next(&mut self, alloc: Global, at_hand: &[u8]) -> Coming
+        requires { AskFirst at_hand.now (asked_ahead self.old.ahead) }
+        ensures { StandsNext result at_hand.now (asked_ahead self.new.ahead) }
+    {
+        self.ahead.look(alloc, at_hand);
+        match (self.ahead.next(), request_length(at_hand)) {
+            (Some(request), Some(size)) => Coming::Read(request, size),
+            (Some(_), None) => unreachable!(),
+            (None, Some(size)) => Coming::Whole(size),
+            (None, None) => Coming::Awaited,
         }
     }
 }

@@ -3,11 +3,10 @@
 ghost use Rattle.std.specs.Prelude.{◌≡◌, true, false, List, ℕ, [], ◌∷◌, MatchResult};
 ghost use Rattle.std.specs.List.{list_any};
 ghost use Rattle.std.specs.Option.{is_some};
-ghost use Rattle.history.specs.Tokens.{IsSound, TokenRecord};
+ghost use Rattle.history.specs.Tokens.{TokenRecord};
 ghost use Rattle.history.specs.Members.{number_of};
 ghost use Rattle.stream_sessions.specs.OneRequest.{AreAlike};
-ghost use Rattle.stream_sessions.specs.Steps.{AddsAnswer, AddsNothing};
-ghost use Rattle.stream_sessions.specs.Answers.{HasFault, is_of_text};
+ghost use Rattle.stream_sessions.specs.Answers.{AddsAnswer, AddsNothing, HasFault, is_of_text};
 ghost use Rattle.stream_sessions.specs.FormatRequest.{NamesFormat, NamesNone};
 ghost use Rattle.stream_sessions.specs.Replying.{LacksReply, RepliesTo};
 ghost use Rattle.stream_sessions.specs.Speaking.{IsTaken, has_refresh, is_refresh, speaking};
@@ -42,7 +41,6 @@ fn add_reply<W: Follower + Drop, R: Wait, K>(
         (λ _. LacksReply (number_of client.old.who) client.old client.new (request_of request) replies.old.items
         replies.new.items) }
     ensures same { AreAlike client.old client.new }
-    ensures sound { IsSound client.old → IsSound client.new }
 {
     let number = client.number();
     let Ok(reply) = reply_to(service, client, number, request) else {
@@ -71,7 +69,6 @@ fn report<W: Follower + Drop, R: Wait, K>(
         (λ _. AddsNothing (number_of client.old.who) request (speaking client.old manner) (speaking client.new manner)
         replies.old.items replies.new.items) }
     ensures same { AreAlike client.old client.new }
-    ensures sound { IsSound client.old → IsSound client.new }
 {
     let before = replies.len();
     let mut requests = script.requests.into_iter();
@@ -87,13 +84,18 @@ fn report<W: Follower + Drop, R: Wait, K>(
     Ok(())
 }
 
+// Whether a request is a refresh.
+fn is_refresh(request: &Request) -> bool
+    ensures { result ≡ is_refresh (request_of request.now) }
+{
+    matches!(request, Request::Refresh(_))
+}
+
 // Whether one of these requests is a refresh.
 fn any_is_refresh(requests: &[Request]) -> bool
     ensures { result ≡ list_any (λ request. is_refresh (request_of request)) requests.now }
 {
-    requests
-        .iter()
-        .any(|request| matches!(request, Request::Refresh(_)))
+    requests.iter().any(|request| is_refresh(request))
 }
 
 // Whether there is a refresh among all that a script asks.
@@ -140,7 +142,6 @@ fn report_taken<W: Follower + Drop, R: Wait, K>(
         (λ _. AddsNothing (number_of client.old.who) request (speaking client.old manner) (speaking client.new manner)
         replies.old.items replies.new.items) }
     ensures same { AreAlike client.old client.new }
-    ensures sound { IsSound client.old → IsSound client.new }
 {
     if manner.takes_refreshes || !has_refresh(&script) {
         report(service, client, manner, script, replies)
@@ -255,7 +256,6 @@ pub(crate) fn answer<W: Follower + Drop, R: Wait, K>(
         (λ _. AddsNothing (number_of client.old.who) request.now (speaking client.old manner.old)
         (speaking client.new manner.new) replies.old.items replies.new.items) }
     ensures same { AreAlike client.old client.new }
-    ensures sound { IsSound client.old → IsSound client.new }
 {
     match read_script(service.alloc, request, MOST_RECORDS) {
         Ok(script) => report_taken(service, client, *manner, script, replies),
@@ -280,11 +280,16 @@ pub(crate) fn answer_read<W: Follower + Drop, R: Wait, K>(
         (λ _. AddsNothing (number_of client.old.who) text (speaking client.old manner) (speaking client.new manner)
         replies.old.items replies.new.items) }
     ensures same { AreAlike client.old client.new }
-    ensures sound { IsSound client.old → IsSound client.new }
 {
-    let mut requests = Vec::new(service.alloc);
-    if requests.push(request).is_err() {
-        return Err(AllocError);
+    if !manner.takes_refreshes && is_refresh(&request) {
+        return refuse_refresh(service.alloc, manner, replies);
     }
-    report_taken(service, client, manner, Script { requests }, replies)
+    let before = replies.len();
+    match add_reply(service, client, manner.format, request, replies) {
+        Ok(()) => Ok(()),
+        Err(_) => {
+            replies.truncate(before);
+            Err(AllocError)
+        }
+    }
 }

@@ -20,7 +20,7 @@ pub fn replies_of_script()
 
 /// A session that takes no refreshes has committed nothing of its client when it ends, however it ends.
 pub fn commits_nothing()
-    ensures { (before after : List Event) → CommitsNothing before after }
+    ensures { (events : List Event) → CommitsNothing events }
 {}
 
 /// What was told in a conversation is the replies to the requests that were taken, one after another, whatever is known of

@@ -33,8 +33,7 @@
 //!
 //! ```text
 //! serve_requests(&service, &mut client, script, &mut report, &mut told, &mut NoMeter)?;
-//! let mut wire = Wire::new(input, output);
-//! let served = serve_session(&service, &mut client, &mut wire, true)?;
+//! let SessionLeft { wire, outcome } = serve_session(&service, &mut client, input, output, true);
 //! ```
 #![tactic(auto)]
 
@@ -66,6 +65,6 @@ pub use reply::Reply;
 pub use requests::{serve_request, serve_requests};
 pub use serve_error::{ServeError, ServeStop};
 pub use service::Service;
-pub use session::serve_session;
+pub use session::{SessionLeft, serve_session};
 pub use speaks::{Speaker, Speaks};
 pub use wire::{NotPassed, Wire};

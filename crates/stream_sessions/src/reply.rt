@@ -1,7 +1,6 @@
 //! The reply to one request of a client.
 ghost use Rattle.std.specs.Prelude.{◌≡◌, false, OnErr, IfOk};
 ghost use Rattle.std.specs.Option.{is_some};
-ghost use Rattle.history.specs.Tokens.{IsSound};
 ghost use Rattle.history.specs.Members.{number_of};
 ghost use Rattle.history_core.specs.declared.event.Who.TheVariants.{Client as IsNumbered};
 ghost use Rattle.ssb_formats.specs.Formats.{Shows};
@@ -79,12 +78,13 @@ fn answers_to<W: Follower + Drop, R: Wait, K>(
     ensures answered { IfOk result (λ answers. IsAnswered client.old (questions_in asking) answers.items client.new) }
     ensures refused { OnErr result (client.new ≡ client.old) }
     ensures same { AreAlike client.old client.new }
-    ensures sound { IsSound client.old → IsSound client.new }
 {
     let questions = asking.into_questions(service.alloc)?;
     let mut answers = Vec::with_capacity(service.alloc, questions.len())?;
     client.ask(service.server, questions);
+    client.soundness();
     let response = client.await_answer(service.rt, service.server);
+    client.soundness();
     response.put_answers(&mut answers);
     Ok(answers)
 }
@@ -104,11 +104,11 @@ pub(crate) fn reply_to<W: Follower + Drop, R: Wait, K>(
         client.new) }
     ensures refused { OnErr result (client.new ≡ client.old) }
     ensures same { AreAlike client.old client.new }
-    ensures sound { IsSound client.old → IsSound client.new }
 {
     match request {
         Request::Refresh(refresh) => {
             let result = client.refresh(service.rt, service.server, refresh);
+            client.soundness();
             Ok(Reply::Refreshed(result))
         }
         Request::Ask(asking) => {

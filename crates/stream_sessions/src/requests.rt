@@ -1,7 +1,6 @@
 //! The requests of a script, served one after another.
 ghost use Rattle.std.specs.Prelude.{◌≡◌, false, OnOk, IfErr};
 ghost use Rattle.std.specs.Option.{is_some, option_map};
-ghost use Rattle.history.specs.Tokens.{IsSound};
 ghost use Rattle.history.specs.Members.{number_of};
 ghost use Rattle.ssb_script.specs.Requests.{request_of, requests_of};
 ghost use Rattle.stream_sessions.specs.OneRequest.{AreAlike, ServesOne, StopsIn};
@@ -39,7 +38,6 @@ pub fn serve_request<W: Follower + Drop, R: Wait, K, O: Write, M: Meter>(
         (request_of request) (option_map (λ kept. kept.items) told.old) (option_map (λ kept. kept.items) told.new)
         (O.contents writer.old) (O.contents writer.new)) }
     ensures same { AreAlike client.old client.new }
-    ensures sound { IsSound client.old → IsSound client.new }
 {
     let number = client.number();
     let kind = kind_of(&request);
@@ -85,7 +83,6 @@ pub fn serve_requests<W: Follower + Drop, R: Wait, K, O: Write, M: Meter>(
         (requests_of script) (option_map (λ kept. kept.items) told.old) (option_map (λ kept. kept.items) told.new)
         (O.contents writer.old) (O.contents writer.new)) }
     ensures same { AreAlike client.old client.new }
-    ensures sound { IsSound client.old → IsSound client.new }
 {
     let mut requests = script.requests.into_iter();
     let mut done = 0;

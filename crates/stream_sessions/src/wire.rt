@@ -51,7 +51,7 @@ impl<I: Read + Drop, O: Write + Drop, E> Model for Wire<I, O, E> {
 
 impl<I: Read + Drop, O: Write + Drop, E: Evidence> Wire<I, O, E> {
     /// A wire that nothing went over.
-    pub fn new(input: BufReader<I>, output: O) -> Wire<I, O, E>
+    pub(crate) fn new(input: BufReader<I>, output: O) -> Wire<I, O, E>
         ensures { result ≡ record {
           at_hand = reader_buffer input;
           unread = reader_remaining I.remaining input;

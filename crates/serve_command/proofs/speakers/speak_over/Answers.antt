@@ -1,7 +1,5 @@
-use Rattle.std.proofs.Common.{◌∙◌, ap}
 use Rattle.serve_command.proofs.SessionLaws.{fresh_reader, has_streamed, nothing_streamed}
 use Rattle.stream_sessions.proofs.RequestLaws.{alike_itself}
-use Rattle.stream_sessions.specs.Events.{WireRecord}
 use Rattle.serve_command.proofs.speakers.speak_over.Goals as goal
 
 pub returns-in-Err-clause-same : goal.returns-in-Err-clause-same
@@ -12,11 +10,7 @@ returns-in-Err-clause-streamed g c = nothing_streamed _ _ _ _ _
 
 pub returns-clause-streamed : goal.returns-clause-streamed
 returns-clause-streamed g c =
-    has_streamed _ _ _ _ _ _ _ _ _ _ _ _ _ _ _
-    (ap (λ (wire : WireRecord). wire.unread) c.new-wire.ensures
-    ∙ fresh_reader g.I.Read.remaining c.in-Ok.input c.args.ends.input c.in-Ok.ensures.inner c.in-Ok.ensures.empty
-    c.in-Ok.ensures.capacity)
-    (ap (λ (wire : WireRecord). wire.written) c.new-wire.ensures)
-    (ap (λ (wire : WireRecord). wire.events) c.new-wire.ensures) c.into_output-output.ensures
-    c.serve_session-ended.ensures.served c.serve_session-ended.ensures.broken
-    c.serve_session-ended.ensures.conversed c.serve_session-ended.ensures.conversed_until c.told-told.ensures
+    has_streamed _ _ _ _ _ _ _ _ _ _ _ _ _
+    (fresh_reader g.I.Read.remaining c.in-Ok.input c.args.ends.input c.in-Ok.ensures.inner c.in-Ok.ensures.empty
+    c.in-Ok.ensures.capacity) c.into_output-output.ensures c.serve_session-left.ensures.served
+    c.serve_session-left.ensures.broken c.serve_session-left.ensures.conversed c.told-told.ensures

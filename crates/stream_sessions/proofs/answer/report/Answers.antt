@@ -16,7 +16,6 @@ loop-request-init g c = (
   refl,
   sym (append-nil c.args.replies.now.items),
   alike_itself _ c.requires.quiet,
-  λ sound. sound,
 )
 
 pub loop-request-preserved : goal.loop-request-preserved
@@ -34,7 +33,6 @@ loop-request-preserved g c =
       shown_next c.args.manner.format inv.1 next.reply c.args.replies.now.items c.loop-request.replies.items
           c.add_reply.new.replies.items inv.4 next.added,
       alike_both _ _ _ inv.5 c.add_reply.ensures.same,
-      λ sound. c.add_reply.ensures.sound (inv.6 sound),
     )
 
 pub returns-in-Err-clause-answered : goal.returns-in-Err-clause-answered

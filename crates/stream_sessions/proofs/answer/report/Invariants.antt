@@ -1,7 +1,6 @@
 use Rattle.std.proofs.Common.{◌≡◌, List, ◌++◌, length, map}
 use Rattle.std.specs.Vec.Iter.{into_iter_items}
 use Rattle.history.specs.Members.{number_of}
-use Rattle.history.specs.Tokens.{IsSound}
 use Rattle.ssb_formats.specs.ReplyTexts.{replies_shown}
 use Rattle.ssb_report.specs.Replies.{Reply}
 use Rattle.ssb_script.specs.Requests.{RequestRecord, request_of, requests_of}
@@ -18,7 +17,6 @@ invariant-loop-request g l =
     × AreServed (number_of l.fn.client.who) l.fn.client front given l.client
     × (l.replies.items ≡ l.fn.replies.items ++ replies_shown l.manner.format given)
     × AreAlike l.fn.client l.client
-    × (IsSound l.fn.client → IsSound l.client)
 
 abbrev pub decreases-loop-request : goal.decreases-loop-request
 decreases-loop-request g l = length (into_iter_items l.requests)

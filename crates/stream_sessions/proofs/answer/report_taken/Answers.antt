@@ -1,8 +1,7 @@
 use Rattle.std.proofs.Common.{◌∙◌, sym}
 use Rattle.history.specs.Members.{number_of}
 use Rattle.ssb_script.specs.Requests.{requests_of}
-use Rattle.stream_sessions.proofs.AnswerLaws.{not_false}
-use Rattle.stream_sessions.proofs.StepLaws.{not_both}
+use Rattle.stream_sessions.proofs.AnswerLaws.{not_both, not_false}
 use Rattle.stream_sessions.proofs.answer.report_taken.Goals as goal
 use Rattle.stream_sessions.proofs.answer.report_taken.Goals.{then-manner, else-manner}
 

@@ -23,4 +23,4 @@ returns-clause-answered g c =
     c.in_ok-answers.ensures.items in
     subst (λ (questions : Questions). IsAnswered c.args.client.now questions c.put_answers.new.answers.items
     c.await_answer-response.new.self) c.in_ok-questions.ensures (answered _ _ _ _ _ _ c.ask.ensures.asked
-    c.ask.ensures.sound c.await_answer-response.ensures.polled c.await_answer-response.ensures.sound are)
+    c.soundness.ensures c.await_answer-response.ensures.polled c.soundness-2.ensures are)

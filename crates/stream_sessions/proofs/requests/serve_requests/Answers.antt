@@ -13,7 +13,6 @@ loop-request-init g c = (
   refl,
   serves_none _ _ _ _,
   alike_itself _ c.requires.quiet,
-  λ sound. sound,
 )
 
 pub overflow_add-done : goal.overflow_add-done
@@ -46,7 +45,6 @@ loop-request-preserved g c =
       omega (arith, length-append inv.0 (request ∷ []), inv.2),
       serves_more_still _ _ _ inv.0 request _ _ _ _ _ _ inv.3 inv.4.who c.in-Ok.ensures.served,
       alike_both _ _ _ inv.4 c.serve_request.ensures.same,
-      λ sound. c.serve_request.ensures.sound (inv.5 sound),
     )
 
 pub returns-in-Err-clause-ended : goal.returns-in-Err-clause-ended

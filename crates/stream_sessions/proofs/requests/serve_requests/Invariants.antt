@@ -4,7 +4,6 @@ use Rattle.std.specs.Vec.Iter.{into_iter_items}
 use Rattle.ssb_script.specs.Requests.{RequestRecord, request_of, requests_of}
 use Rattle.stream_sessions.specs.Served.{Serves}
 use Rattle.stream_sessions.specs.OneRequest.{AreAlike}
-use Rattle.history.specs.Tokens.{IsSound}
 use Rattle.history.specs.Members.{number_of}
 use Rattle.stream_sessions.proofs.requests.serve_requests.Given as goal
 
@@ -17,7 +16,6 @@ invariant-loop-request g l =
     × Serves (number_of l.fn.client.who) l.fn.client l.client front (option_map (λ kept. kept.items) l.fn.told)
     (option_map (λ kept. kept.items) l.told) (g.O.Write.contents l.fn.writer) (g.O.Write.contents l.writer)
     × AreAlike l.fn.client l.client
-    × (IsSound l.fn.client → IsSound l.client)
 
 abbrev pub decreases-loop-request : goal.decreases-loop-request
 decreases-loop-request g l = length (into_iter_items l.requests)

@@ -17,4 +17,4 @@ returns-clause-clients g c =
     clients_of (λ commits. commits.items) c.commits_from-commits.result c.commits_from-commits.new.self.table.clients
     c.args.taken c.commits_from-commits.new.self.seen
     (few_clients c.args.self.now.server.now c.commits_from-commits.new.self table c.args.self.now.few)
-    c.commits_from-commits.ensures.sound.named c.commits_from-commits.ensures.commits
+    c.soundness.ensures.named c.commits_from-commits.ensures.commits
