@@ -6,3 +6,6 @@ pub mod CodingLaws
 pub mod LoadingLaws
 pub mod PositionLaws
 pub mod ColumnLaws
+pub mod ZoneLaws
+pub mod GoneLaws
+pub mod LaidLaws

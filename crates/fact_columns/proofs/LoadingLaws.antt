@@ -1,20 +1,17 @@
 -- The loaded lines in their places.
-use Rattle.std.proofs.Common.{◌≡◌, ℕ, ◌<◌, true, cond, List, [], ◌∷◌, length, map, get_or, Option, Some, zero, suc, sym}
-use Rattle.std.proofs.Common.{refl, ap, ◌∙◌, subst, arith}
+use Rattle.std.proofs.Common.{◌≡◌, ℕ, ◌<◌, true, cond, List, [], ◌∷◌, length, map, get_or, Some, zero, suc, sym}
+use Rattle.std.proofs.Common.{refl, ap, ◌∙◌, arith}
 use Rattle.std.specs.List.{All, filter}
 use Rattle.std.proofs.lemmas.Option.{cond_some}
-use Rattle.std.proofs.lemmas.List.{length-map}
 use Rattle.ssb_base.specs.Base.{Dimensions}
 use Rattle.ssb_schema.specs.declared.fact.Fact.{Fact}
 use Rattle.ssb_schema.specs.declared.line.LineFields.{LineFields}
-use Rattle.ssb_schema.specs.Facts.{fact_of, facts_of}
+use Rattle.ssb_schema.specs.Facts.{facts_of}
 use Rattle.fact_columns.specs.declared.place.Place.{Place}
 use Rattle.fact_columns.specs.Places.{fact_at, is_live, live_facts}
-use Rattle.fact_columns.specs.declared.span.Span.{Span}
-use Rattle.fact_columns.specs.Spans.{live_at, live_count, Covers, Spanned}
+use Rattle.fact_columns.specs.Spans.{live_at, live_count}
 use Rattle.fact_columns.specs.Coded.{AreCodesOf}
-use Rattle.fact_columns.proofs.PlaceLaws.{live_within}
-use Rattle.fact_columns.proofs.CodingLaws.{some_row, codes_length}
+use Rattle.fact_columns.proofs.CodingLaws.{codes_length}
 
 all_live : (places : List Place) → All (λ place. is_live place ≡ true) places → filter is_live places ≡ places
 all_live [] lives = refl
@@ -33,12 +30,12 @@ pub loaded_count : (dimensions : Dimensions) (facts : List Fact) (places : List 
 loaded_count dimensions facts places codes = ap length (all_live places codes.lives)
     ∙ codes_length dimensions facts places codes
 
-live_read : (places : List Place) (i : ℕ) (place d : Place) → live_at places i ≡ Some place → get_or places i d ≡ place
+pub live_read : (places : List Place) (i : ℕ) (place d : Place) → live_at places i ≡ Some place → get_or places i d ≡ place
 live_read [] i place d live = absurd (cc)
 live_read (first ∷ places) zero place d live = (cond_some (is_live first) first place live).1
 live_read (first ∷ places) (suc i) place d live = live_read places i place d live
 
-order_read : (dimensions : Dimensions) (lines : List LineFields) (places : List Place) (i : ℕ) (line : LineFields)
+pub order_read : (dimensions : Dimensions) (lines : List LineFields) (places : List Place) (i : ℕ) (line : LineFields)
     (place : Place) → map (fact_at dimensions) places ≡ facts_of lines → i < length places
     → (get_or lines i line).order_key ≡ (get_or places i place).order
 order_read dimensions lines [] i line place same within = absurd (omega (arith, within))
@@ -53,22 +50,3 @@ order_read dimensions (own ∷ lines) (first ∷ places) (suc i) line place same
   where
     rest : {a b : Fact} {xs ys : List Fact} → a ∷ xs ≡ b ∷ ys → xs ≡ ys
     rest e = cc
-
--- where the spans cover each line at its index, they do so at its place
-pub spanned_loaded : (spans : ℕ → Option Span) (dimensions : Dimensions) (lines : List LineFields) (places : List Place)
-    → AreCodesOf dimensions (facts_of lines) places
-    → ((i : ℕ) (line : LineFields) → i < length lines → Covers (spans (get_or lines i line).order_key) i)
-    → Spanned spans places
-spanned_loaded spans dimensions lines places codes covers i place live =
-    let within : i < length places = live_within places i place live in
-    let among : i < length lines = omega (
-      arith,
-      within,
-      codes_length dimensions (facts_of lines) places codes,
-      length-map lines fact_of,
-    ) in
-    let line : LineFields = some_row lines (omega (arith, among)) in
-    let key : (get_or lines i line).order_key ≡ place.order =
-    order_read dimensions lines places i line place codes.read within
-    ∙ ap (λ (p : Place). p.order) (live_read places i place place live) in
-    subst (λ k. Covers (spans k) i) key (covers i line among)

@@ -7,7 +7,7 @@ use Rattle.std.specs.FinMap as finite
 use Rattle.std.proofs.lemmas.List.{map-append, get_or_default, take_more}
 use Rattle.std.proofs.lemmas.List.Sums.{fold-append}
 use Rattle.std.proofs.lemmas.List.Elements.{filter-append}
-use Rattle.std.proofs.lemmas.Bool.{eqb-true, eq-eqb}
+use Rattle.std.proofs.lemmas.Bool.{eqb-true, eq-eqb, le-ltb}
 use Rattle.std.proofs.lemmas.Option.{same_Some, cond_some}
 use Rattle.std.specs.Option.{option_map, option_eq}
 use Rattle.ssb_base.specs.Base.{Dimensions}
@@ -17,9 +17,10 @@ use Rattle.row_store.specs.State.{Counts, with_fact, fact_counts, counts_after_a
 use Rattle.fact_columns.specs.declared.place.Place.{Place}
 use Rattle.fact_columns.specs.Places.{is_live, freed, fact_at, live_facts}
 use Rattle.fact_columns.specs.Classed.{IsPlaceOf}
-use Rattle.fact_columns.specs.Spans.{if_live, live_at, live_count, kept, is_of_other, Covers, Spanned}
+use Rattle.fact_columns.specs.Spans.{if_live, live_at, live_count, kept, is_of_other, Reaches, ReachesBy, Spanned, place_of}
 use Rattle.fact_columns.specs.Coded.{counts_at, with_places}
 use Rattle.fact_columns.specs.declared.span.Span.{Span}
+use Rattle.fact_columns.specs.declared.span.Spans.{Spans}
 use Rattle.fact_columns.specs.declared.scanned_line.ScannedLine.{ScannedLine}
 use Rattle.fact_columns.specs.Watching.{IsOneMore, live_places, live_lines, scanned_line}
 use Rattle.row_store.proofs.FactCountLaws.{counted_last}
@@ -294,15 +295,15 @@ kept_some test (Some first) line is = let both = cond_some (test first) first li
     (ap Some both.1, ap test (sym both.1) ∙ both.0)
 
 -- the span of a withdrawn order is not asked for
-pub spanned_withdrawn : (f g : ℕ → Option Span) (places later : List Place) (key : ℕ)
-    → ((order i : ℕ) → (order ≡ key → ⊥) → Covers (f order) i → Covers (g order) i)
+pub spanned_withdrawn : (f g : Spans) (places later : List Place) (key : ℕ)
+    → ((order i : ℕ) → (order ≡ key → ⊥) → Reaches f order i → Reaches g order i)
     → ((place : ℕ) → live_at later place ≡ kept (is_of_other key) (live_at places place)) → Spanned f places
     → Spanned g later
 spanned_withdrawn f g places later key grows gone each other found is = grind (arith, kept_some, eq-eqb)
 
-pub covered : (f : ℕ → Option Span) (places : List Place) (key : ℕ) → Spanned f places → (place : ℕ) (line : Place)
-    → live_at places place ≡ Some line → line.order ≡ key → Covers (f key) place
-covered f places key each place line is same = subst (λ k. Covers (f k) place) same (each place line is)
+pub covered : (f : Spans) (places : List Place) (key : ℕ) → Spanned f places → (place : ℕ) (line : Place)
+    → live_at places place ≡ Some line → line.order ≡ key → Reaches f key place
+covered f places key each place line is same = subst (λ k. Reaches f k place) same (each place line is)
 
 pub within_freed : (dimensions : Dimensions) (place : Place) → IsPlaceOf dimensions place
     → IsPlaceOf dimensions (freed place)
@@ -314,13 +315,13 @@ order zero (suc n) = inl (omega arith)
 order (suc m) (suc n) = ⊎_elim (λ l. inl (omega (arith, l))) (λ l. inr (omega (arith, l))) (order m n)
 
 -- so many places from the first on have lines of one order, and its span covers them
-pub spanned_put : (f g : ℕ → Option Span) (places later : List Place) (first key : ℕ) (lines : List Place)
+pub spanned_put : (f g : Spans) (places later : List Place) (first key : ℕ) (lines : List Place)
     → ((i : ℕ) (other : Place) → i < length lines → live_at later (first + i) ≡ Some (get_or lines i other))
     → All (λ line. line.order ≡ key) lines
     → ((place : ℕ) → place < first → live_at later place ≡ live_at places place)
     → ((place : ℕ) → first + length lines ≤ place → live_at later place ≡ live_at places place)
-    → ((place : ℕ) → first ≤ place → place < first + length lines → Covers (g key) place)
-    → ((order place : ℕ) → Covers (f order) place → Covers (g order) place) → Spanned f places → Spanned g later
+    → ((place : ℕ) → first ≤ place → place < first + length lines → Reaches g key place)
+    → ((order place : ℕ) → Reaches f order place → Reaches g order place) → Spanned f places → Spanned g later
 spanned_put f g places later first key lines mine alike below above own grows each place found is =
     ⊎_elim
     (λ lt. grows found.order place (each place found (sym (below place lt) ∙ is)))
@@ -332,7 +333,7 @@ spanned_put f g places later first key lines mine alike below above own grows ea
     let line : get_or lines i found ≡ found = same_Some _ found
     (sym (mine i found inside) ∙ ap (live_at later) here ∙ is) in
     let same : found.order ≡ key = sym (ap (λ (p : Place). p.order) line) ∙ alike i found inside in
-    subst (λ k. Covers (g k) place) (sym same) (own place from within))
+    subst (λ k. Reaches g k place) (sym same) (own place from within))
     (λ past. grows found.order place (each place found (sym (above place past) ∙ is)))
     (order place (first + length lines)))
     (order place first)
@@ -355,15 +356,6 @@ with_more dimensions counts before after lines i d within so_far now =
     (fold-append step counts (take i lines) (get_or lines i d ∷ []))
     ∙ ap (fold step counts) (sym (take_more lines i d within))
 
--- one place more is looked at
-pub gone_more : (key place : ℕ) (before mid later : List Place)
-    → ((k : ℕ) → k < place → live_at mid k ≡ kept (is_of_other key) (live_at before k))
-    → ((k : ℕ) → place ≤ k → live_at mid k ≡ live_at before k)
-    → live_at later place ≡ kept (is_of_other key) (live_at mid place)
-    → ((k : ℕ) → k ≢ place → live_at later k ≡ live_at mid k)
-    → (k : ℕ) → k < place + 1 → live_at later k ≡ kept (is_of_other key) (live_at before k)
-gone_more key place before mid later done left here others k lt = grind (arith, ⊎_elim, order)
-
 pub is_of_key : (key : ℕ) (o : Option Place) → option_eq eqb (option_map (λ (line : Place). line.order) o)
     (Some key) ≡ true → option_map (λ (line : Place). line.order) o ≡ Some key
 is_of_key key None is = absurd (cc)
@@ -373,3 +365,32 @@ pub is_of_none : (key : ℕ) (o : Option Place) → option_eq eqb (option_map (�
     (Some key) ≡ false → (line : Place) → o ≡ Some line → line.order ≡ key → ⊥
 is_of_none key None is line at same = grind arith
 is_of_none key (Some own) is line at same = grind (arith, eq-eqb, same_Some)
+
+-- what a span reaches, read elsewhere
+pub reached : (span : Span) (loaded later : List ℕ) (place : ℕ) → later ≡ loaded → ReachesBy span loaded place
+    → ReachesBy span later place
+reached span loaded later place same h = subst (λ l. ReachesBy span l place) (sym same) h
+
+-- what has been left out stays out
+pub kept_twice : (test : Place → Bool) (o : Option Place) → kept test (kept test o) ≡ kept test o
+kept_twice test None = refl
+kept_twice test (Some line) = by_test (test line) refl where
+  by_test : (b : Bool) → test line ≡ b → kept test (cond (test line) (Some line) None) ≡ cond (test line) (Some line) None
+  by_test true is = rw is (ap (λ b. cond b (Some line) None) is)
+  by_test false is = rw is refl
+
+-- a line of another order stays
+pub stays_other : (key : ℕ) (line : Place) → eqb line.order key ≡ false → kept (is_of_other key) (Some line) ≡ Some line
+stays_other key line other = ap (λ b. cond (not b) (Some line) None) other
+
+-- behind the loaded lines a number is that of its own place
+pub lies_behind : (loaded : List ℕ) (number : ℕ) → length loaded ≤ number → place_of loaded number ≡ number
+lies_behind loaded number behind = ap (λ b. cond b (get_or loaded number 0) number)
+    (le-ltb number (length loaded) behind)
+
+-- spans that reach all that others do, over the same places
+pub spanned_on : (f g : Spans) (places later : List Place)
+    → ((order place : ℕ) → Reaches f order place → Reaches g order place) → later ≡ places → Spanned f places
+    → Spanned g later
+spanned_on f g places later reaches same h i place live =
+    reaches place.order i (h i place (subst (λ ps. live_at ps i ≡ Some place) same live))

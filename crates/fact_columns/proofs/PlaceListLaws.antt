@@ -9,7 +9,7 @@ use Rattle.std.proofs.lemmas.Grind.{same_number_lists}
 use Rattle.fact_columns.specs.declared.place.Place.{Place}
 use Rattle.fact_columns.specs.Places.{freed}
 use Rattle.fact_columns.specs.Columns.{Held, place_at, held, AreAlike}
-use Rattle.fact_columns.specs.declared.fact_table.FactTable.TheInside.{Inside}
+use Rattle.fact_columns.specs.declared.place_columns.PlaceColumns.TheInside.{Inside}
 use Rattle.std.specs.Vec.{vec_len}
 
 agree : {X : Type 0} (f g : ℕ → X) (a n : ℕ) → ((j : ℕ) → j < a + n → g j ≡ f j)

@@ -3,7 +3,7 @@ use Rattle.std.specs.Prelude.{◌≡◌, ℕ, ◌-◌, ◌≤◌, List, map, sli
 use Rattle.std.specs.List.{range_with_len}
 use Rattle.fact_columns.specs.declared.place.Place.{Place}
 use Rattle.scan_kernel.specs.declared.columns.LineColumns.{LineColumns}
-use Rattle.fact_columns.specs.declared.fact_table.FactTable.TheInside.{Inside}
+use Rattle.fact_columns.specs.declared.place_columns.PlaceColumns.TheInside.{Inside}
 
 -- the places, and for how many more there is memory
 pub record Held : Type 0 where

@@ -1,6 +1,5 @@
 -- What the columns keep, so that a withdrawal finds every line of an order.
-use Rattle.std.specs.Prelude.{◌≡◌, ◌<◌, ◌^◌, nat_eq, All, length}
-use Rattle.std.specs.HashMap.{get}
+use Rattle.std.specs.Prelude.{◌≡◌, ◌<◌, ◌≤◌, ◌^◌, All, length}
 use Rattle.fact_columns.specs.Places.{live_facts}
 use Rattle.fact_columns.specs.Classed.{IsPlaceOf}
 use Rattle.fact_columns.specs.Spans.{Spanned, live_count}
@@ -16,7 +15,8 @@ stored c = record {
 }
 
 pub record AreKept (c : Inside) : Type 0 where
-  pub spanned : Spanned (get nat_eq c.spans) c.table.places
+  pub spanned : Spanned c.spans c.table.places
+  pub behind : length c.spans.loaded.value ≤ length c.table.places
   pub counted : c.rows ≡ live_count c.table.places
   pub within : All (IsPlaceOf c.index.value.dimensions) c.table.places
   pub few : length c.table.places < 2 ^ 32

@@ -9,3 +9,8 @@ pub mod Kept
 pub mod Watching
 pub mod Laws
 pub mod Applied
+pub mod ZoneSets
+pub mod Zoned
+pub mod Tables
+pub mod Laid
+pub mod Loading

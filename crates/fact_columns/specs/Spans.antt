@@ -1,9 +1,11 @@
 -- Where the live lines of an order lie.
-use Rattle.std.specs.Prelude.{◌≡◌, ℕ, ◌+◌, ◌<◌, ◌≤◌, Bool, not, nat_eq, cond, List, length, filter, slice_get, Option}
-use Rattle.std.specs.Prelude.{Some, None}
+use Rattle.std.specs.Prelude.{◌≡◌, ℕ, ◌+◌, ◌<◌, ◌≤◌, Bool, not, nat_eq, nat_lt, cond, List, length, filter, slice_get}
+use Rattle.std.specs.Prelude.{Option, Some, None, slice_index}
+use Rattle.std.specs.HashMap.{get}
 use Rattle.fact_columns.specs.declared.place.Place.{Place}
 use Rattle.fact_columns.specs.Places.{is_live}
 use Rattle.fact_columns.specs.declared.span.Span.{Span}
+use Rattle.fact_columns.specs.declared.span.Spans.{Spans}
 
 -- what a place shows: its line where it is live
 abbrev pub if_live : Place → Option Place
@@ -30,14 +32,33 @@ kept test (Some place) = cond (test place) (Some place) None
 abbrev pub is_of_other : ℕ → Place → Bool
 is_of_other key place = not (nat_eq place.order key)
 
--- the span has the index
-abbrev pub Covers : Option Span → ℕ → Type 0
-Covers None i = ⊥
-Covers (Some span) i = (span.first ≤ i) × (i < span.end)
+-- the span has the number
+abbrev pub HasNumber : Span → ℕ → Type 0
+HasNumber span number = (span.first ≤ number) × (number < span.end)
 
--- each live line lies in the span of its order
-abbrev pub Spanned : (ℕ → Option Span) → List Place → Type 0
-Spanned spans places = (i : ℕ) (place : Place) → live_at places i ≡ Some place → Covers (spans place.order) i
+abbrev pub Covers : Option Span → ℕ → Type 0
+Covers None number = ⊥
+Covers (Some span) number = HasNumber span number
+
+-- the place of the line of a number: a loaded line is where it was laid, any other at its own number
+abbrev pub place_of : List ℕ → ℕ → ℕ
+place_of loaded number = cond (nat_lt number (length loaded)) (slice_index loaded number) number
+
+-- a number of the span is that of a line at the place
+pub record ReachesBy (span : Span) (loaded : List ℕ) (place : ℕ) : Type 0 where
+  pub number : ℕ
+  pub has : HasNumber span number
+  pub lies : place_of loaded number ≡ place
+
+-- a number of the order's span is that of a line at the place
+pub record Reaches (spans : Spans) (key place : ℕ) : Type 0 where
+  pub number : ℕ
+  pub covers : Covers (get nat_eq spans.by_key key) number
+  pub lies : place_of spans.loaded.value number ≡ place
+
+-- each live line is reached by the span of its order
+abbrev pub Spanned : Spans → List Place → Type 0
+Spanned spans places = (i : ℕ) (place : Place) → live_at places i ≡ Some place → Reaches spans place.order i
 
 -- nothing live stands at the indices from the first on, so many
 abbrev pub AreFree : List Place → ℕ → ℕ → Type 0

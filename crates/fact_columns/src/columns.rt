@@ -7,7 +7,7 @@ ghost use Rattle.ssb_schema.specs.declared.line.LineFields.{LineFields};
 ghost use Rattle.row_store.specs.History.{CommitRecord, lines_after};
 ghost use Rattle.row_store.specs.State.{StandsFor, state_of, state_after};
 ghost use Rattle.fact_columns.specs.declared.place.Place.{Place as PlainPlace};
-ghost use Rattle.fact_columns.specs.Coded.{AreCodesOf};
+ghost use Rattle.fact_columns.specs.Loading.{IsLoaded};
 ghost use Rattle.fact_columns.specs.Columns.{AreColumnsOf};
 ghost use Rattle.fact_columns.specs.Spans.{Covers};
 ghost use Rattle.fact_columns.specs.Stored.{Stored, IsRead, columns_state};
@@ -16,10 +16,10 @@ ghost use Rattle.fact_columns.specs.Watching.{FollowsOn};
 use crate::coding::coded_actions;
 use crate::fact_table::FactTable;
 use crate::hints::Hints;
-use crate::loading::{spans_of, table_of};
+use crate::loading::{Loaded, laid_lines, spans_of};
 use crate::orders::apply_actions;
 use crate::place::Place;
-use crate::span::Spans;
+use crate::span::{Spans, SpansByKey};
 use crate::watch::{Nobody, Watch};
 use dimension_index::DimIndex;
 use row_store::{Commit, Replica};
@@ -84,23 +84,25 @@ impl Columns {
         let base = index.base();
         base.soundness();
         let lines = base.lines();
-        let (table, spans) = thread::join(
+        let (laid, spans) = thread::join(
             rt,
-            || -> Result<FactTable, AllocError>
-                ensures { IfOk result (λ table. AreCodesOf index.value.dimensions (facts_of lines.entry.now) table.places) }
-            { table_of(rt, alloc, &index, lines) },
-            move || -> Result<Spans, AllocError>
+            || -> Result<Loaded, AllocError>
+                requires { length lines.now < 2 ^ 32 }
+                ensures { IfOk result (IsLoaded index.value.dimensions lines.entry.now) }
+            { laid_lines(rt, alloc, &index, lines) },
+            move || -> Result<SpansByKey, AllocError>
                 requires { length lines.now < 2 ^ 32 }
                 ensures { IfOk result (λ spans. (i : ℕ) (line : LineFields) → i < length lines.entry.now
                     → Covers (get nat_eq spans (slice_index_or lines.entry.now i line).order_key) i) }
             { spans_of(alloc, hashing, lines) },
         );
-        let table = table?;
-        let spans = spans?;
+        let Loaded { table, places } = laid?;
+        let by_key = spans?;
+        let loaded = Arc::new(alloc, places)?;
         let rows = lines.len();
         Ok(Columns {
             table,
-            spans,
+            spans: Spans { by_key, loaded },
             hints: Hints::new(alloc),
             rows,
             commits: 0,
@@ -220,8 +222,8 @@ impl Replica for Columns {
     {
         Ok(Columns {
             index: Arc::try_clone(&self.index)?,
-            table: self.table.copy()?,
-            spans: self.spans.clone()?,
+            table: self.table.copy(self.alloc)?,
+            spans: self.spans.copy()?,
             hints: self.hints.copy(self.alloc)?,
             rows: self.rows,
             commits: self.commits,

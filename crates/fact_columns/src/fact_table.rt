@@ -1,78 +1,60 @@
-//! The columns.
-ghost use Rattle.std.specs.Prelude.{◌≡◌, ◌+◌, ◌≤◌, ◌<◌, ◌++◌, [], ◌∷◌, length, set, slice_index_or, IfOk, OnErr, OnOk};
-ghost use Rattle.std.specs.Prelude.{ℕ, vec_len, vec_capacity};
+//! The fact table: its columns, and which chunks of places a question can leave out.
+ghost use Rattle.std.specs.Prelude.{◌≡◌, ◌+◌, ◌≤◌, ◌<◌, ◌++◌, [], ◌∷◌, length, set, slice_index_or, take, IfOk, OnErr, OnOk};
+ghost use Rattle.std.specs.Prelude.{ℕ};
 ghost use Rattle.fact_columns.specs.declared.place.Place.{Place as PlainPlace};
-ghost use Rattle.fact_columns.specs.Columns.{Held, AreColumnsOf};
+ghost use Rattle.fact_columns.specs.Columns.{AreColumnsOf};
 ghost use Rattle.fact_columns.specs.Places.{freed};
 ghost use Rattle.fact_columns.specs.Watching.{scanned_line};
+ghost use Rattle.fact_columns.specs.Zoned.{AreEmpty, AreZonesOfPlaces, CoverAll, KeepAll};
 
 use crate::place::Place;
+use crate::place_columns::PlaceColumns;
 use crate::scanned_line::ScannedLine;
+use crate::table_zones::TableZones;
 use scan_kernel::LineColumns;
 use std::alloc::{AllocError, Global};
 use std::marker::Model;
 
-/// The columns of the fact table, each as long as the others. Contracts see the places, and for how many more there is
-/// memory.
+/// The columns of the fact table and their zones. Contracts see the places, and for how many more there is memory.
 #[derive(Drop)]
 pub struct FactTable {
-    order: Vec<u64>,
-    customer: Vec<u32>,
-    supplier: Vec<u32>,
-    part: Vec<u32>,
-    date: Vec<u32>,
-    terms: Vec<u16>,
-    price: Vec<u32>,
-    revenue: Vec<u32>,
-    cost: Vec<u32>,
-    customer_class: Vec<u32>,
-    supplier_class: Vec<u32>,
-    part_class: Vec<u32>,
-    date_class: Vec<u32>,
-    // No column has memory for fewer.
-    capacity: usize,
+    columns: PlaceColumns,
+    zones: TableZones,
 }
 
 impl Model for FactTable {
-    ghost use Rattle.fact_columns.specs.Columns.{Held, held, AreAlike};
+    ghost use Rattle.fact_columns.specs.Columns.{Held};
+    ghost use Rattle.fact_columns.specs.Tables.{held_in, IsZoned};
 
     ghost Value = { Held };
 
-    ghost view = { held };
+    ghost view = { held_in };
 
-    ghost invariant = { AreAlike };
+    ghost invariant = { IsZoned };
 }
 
-// Puts elements behind those of a column, in the memory that was taken.
-fn extend<T: Copy>(column: &mut Vec<T>, with: &[T])
-    requires { vec_len column.old + length with.now ≤ vec_capacity column.old }
-    ensures items { column.new.items ≡ column.old.items ++ with.now }
-    ensures len { vec_len column.new ≡ vec_len column.old + length with.now }
-    ensures capacity { vec_capacity column.old ≤ vec_capacity column.new }
+// Puts the rows of all places from one on into the zones.
+fn mark_from(columns: &PlaceColumns, zones: &mut TableZones, from: usize)
+    requires within { from ≤ length columns.now.places }
+    requires before { AreZonesOfPlaces zones.old (take from columns.now.places) }
+    requires covered { CoverAll (length columns.now.places) zones.old }
+    ensures all { AreZonesOfPlaces zones.new columns.now.places }
+    ensures kept { KeepAll zones.old zones.new }
 {
-    let _within = column.extend_from_slice(with);
+    for at in from..columns.len() {
+        zones.mark(at, &columns.at(at));
+    }
 }
 
 impl FactTable {
-    /// A table without places.
-    pub fn new(alloc: Global) -> FactTable
+    /// A table without places, which takes over zones without chunks.
+    pub fn new(alloc: Global, zones: TableZones) -> FactTable
+        requires { AreEmpty zones }
         ensures { result ≡ record { places = []; room = 0 } }
     {
         FactTable {
-            order: Vec::new(alloc),
-            customer: Vec::new(alloc),
-            supplier: Vec::new(alloc),
-            part: Vec::new(alloc),
-            date: Vec::new(alloc),
-            terms: Vec::new(alloc),
-            price: Vec::new(alloc),
-            revenue: Vec::new(alloc),
-            cost: Vec::new(alloc),
-            customer_class: Vec::new(alloc),
-            supplier_class: Vec::new(alloc),
-            part_class: Vec::new(alloc),
-            date_class: Vec::new(alloc),
-            capacity: 0,
+            columns: PlaceColumns::new(alloc),
+            zones,
         }
     }
 
@@ -80,7 +62,7 @@ impl FactTable {
     pub fn len(&self) -> usize
         ensures { result ≡ length self.now.places }
     {
-        self.order.len()
+        self.columns.len()
     }
 
     /// Takes memory for so many places more, in every column.
@@ -89,21 +71,11 @@ impl FactTable {
         ensures room { OnOk result (count ≤ self.new.room) }
         ensures unchanged { OnErr result (self.new ≡ self.old) }
     {
-        self.order.reserve(count)?;
-        self.customer.reserve(count)?;
-        self.supplier.reserve(count)?;
-        self.part.reserve(count)?;
-        self.date.reserve(count)?;
-        self.terms.reserve(count)?;
-        self.price.reserve(count)?;
-        self.revenue.reserve(count)?;
-        self.cost.reserve(count)?;
-        self.customer_class.reserve(count)?;
-        self.supplier_class.reserve(count)?;
-        self.part_class.reserve(count)?;
-        self.date_class.reserve(count)?;
-        self.capacity = self.order.len() + count;
-        Ok(())
+        let Some(places) = self.columns.len().checked_add(count) else {
+            return Err(AllocError);
+        };
+        self.zones.cover(places)?;
+        self.columns.reserve(count)
     }
 
     /// What stands at a place.
@@ -112,21 +84,7 @@ impl FactTable {
         requires { place < length self.now.places }
         ensures { (other : PlainPlace) → result ≡ slice_index_or self.now.places place other }
     {
-        Place {
-            order: self.order[place],
-            customer: self.customer[place],
-            supplier: self.supplier[place],
-            part: self.part[place],
-            date: self.date[place],
-            terms: self.terms[place],
-            price: self.price[place],
-            revenue: self.revenue[place],
-            cost: self.cost[place],
-            customer_class: self.customer_class[place],
-            supplier_class: self.supplier_class[place],
-            part_class: self.part_class[place],
-            date_class: self.date_class[place],
-        }
+        self.columns.at(place)
     }
 
     /// The line at a place, as queries read it.
@@ -135,16 +93,7 @@ impl FactTable {
         requires { place < length self.now.places }
         ensures { (other : PlainPlace) → result ≡ scanned_line (slice_index_or self.now.places place other) }
     {
-        ScannedLine {
-            customer: self.customer_class[place],
-            supplier: self.supplier_class[place],
-            part: self.part_class[place],
-            date: self.date_class[place],
-            terms: self.terms[place],
-            price: self.price[place],
-            revenue: self.revenue[place],
-            cost: self.cost[place],
-        }
+        self.columns.scanned_line(place)
     }
 
     /// Writes over what stands at a place.
@@ -154,22 +103,11 @@ impl FactTable {
         ensures places { self.new.places ≡ set self.old.places place with }
         ensures room { self.new.room ≡ self.old.room }
     {
-        self.order[place] = with.order;
-        self.customer[place] = with.customer;
-        self.supplier[place] = with.supplier;
-        self.part[place] = with.part;
-        self.date[place] = with.date;
-        self.terms[place] = with.terms;
-        self.price[place] = with.price;
-        self.revenue[place] = with.revenue;
-        self.cost[place] = with.cost;
-        self.customer_class[place] = with.customer_class;
-        self.supplier_class[place] = with.supplier_class;
-        self.part_class[place] = with.part_class;
-        self.date_class[place] = with.date_class;
+        self.zones.mark(place, &with);
+        self.columns.write(place, with);
     }
 
-    /// Frees a place.
+    /// Frees a place. Its chunk keeps the rows of the line that goes: a zone may have more than its lines.
     #[inline(always)]
     pub fn free(&mut self, place: usize)
         requires { place < length self.old.places }
@@ -177,7 +115,7 @@ impl FactTable {
             (freed (slice_index_or self.old.places place other)) }
         ensures room { self.new.room ≡ self.old.room }
     {
-        self.terms[place] = 0;
+        self.columns.free(place);
     }
 
     /// Adds a place at the end, in the memory that was taken.
@@ -187,40 +125,22 @@ impl FactTable {
         ensures places { self.new.places ≡ self.old.places ++ with ∷ [] }
         ensures room { self.old.room ≡ self.new.room + 1 }
     {
-        self.order.push_reserved(with.order);
-        self.customer.push_reserved(with.customer);
-        self.supplier.push_reserved(with.supplier);
-        self.part.push_reserved(with.part);
-        self.date.push_reserved(with.date);
-        self.terms.push_reserved(with.terms);
-        self.price.push_reserved(with.price);
-        self.revenue.push_reserved(with.revenue);
-        self.cost.push_reserved(with.cost);
-        self.customer_class.push_reserved(with.customer_class);
-        self.supplier_class.push_reserved(with.supplier_class);
-        self.part_class.push_reserved(with.part_class);
-        self.date_class.push_reserved(with.date_class);
+        self.zones.mark(self.columns.len(), &with);
+        self.columns.push(with);
     }
 
-    /// Puts the places of another table behind those of this one.
-    pub fn append(&mut self, other: &FactTable) -> Result<(), AllocError>
+    /// Puts the places of columns behind those of this table.
+    pub fn append(&mut self, other: &PlaceColumns) -> Result<(), AllocError>
         ensures places { OnOk result (self.new.places ≡ self.old.places ++ other.now.places) }
         ensures unchanged { OnErr result (self.new ≡ self.old) }
     {
-        self.reserve(other.len())?;
-        extend(&mut self.order, other.order.as_slice());
-        extend(&mut self.customer, other.customer.as_slice());
-        extend(&mut self.supplier, other.supplier.as_slice());
-        extend(&mut self.part, other.part.as_slice());
-        extend(&mut self.date, other.date.as_slice());
-        extend(&mut self.terms, other.terms.as_slice());
-        extend(&mut self.price, other.price.as_slice());
-        extend(&mut self.revenue, other.revenue.as_slice());
-        extend(&mut self.cost, other.cost.as_slice());
-        extend(&mut self.customer_class, other.customer_class.as_slice());
-        extend(&mut self.supplier_class, other.supplier_class.as_slice());
-        extend(&mut self.part_class, other.part_class.as_slice());
-        extend(&mut self.date_class, other.date_class.as_slice());
+        let from = self.columns.len();
+        let Some(places) = from.checked_add(other.len()) else {
+            return Err(AllocError);
+        };
+        self.zones.cover(places)?;
+        self.columns.append(other)?;
+        mark_from(&self.columns, &mut self.zones, from);
         Ok(())
     }
 
@@ -228,38 +148,16 @@ impl FactTable {
     pub fn line_columns(&self) -> LineColumns<'_>
         ensures { AreColumnsOf self.now.places result }
     {
-        LineColumns {
-            customer: self.customer_class.as_slice(),
-            supplier: self.supplier_class.as_slice(),
-            part: self.part_class.as_slice(),
-            date: self.date_class.as_slice(),
-            terms: self.terms.as_slice(),
-            price: self.price.as_slice(),
-            revenue: self.revenue.as_slice(),
-            cost: self.cost.as_slice(),
-        }
+        self.columns.line_columns(&self.zones)
     }
 
     /// Another table of the same places.
-    pub fn copy(&self) -> Result<FactTable, AllocError>
+    pub fn copy(&self, alloc: Global) -> Result<FactTable, AllocError>
         ensures { IfOk result (λ copy. copy.places ≡ self.now.places) }
     {
-        let alloc = *self.order.allocator();
         Ok(FactTable {
-            order: self.order.to_vec(alloc)?,
-            customer: self.customer.to_vec(alloc)?,
-            supplier: self.supplier.to_vec(alloc)?,
-            part: self.part.to_vec(alloc)?,
-            date: self.date.to_vec(alloc)?,
-            terms: self.terms.to_vec(alloc)?,
-            price: self.price.to_vec(alloc)?,
-            revenue: self.revenue.to_vec(alloc)?,
-            cost: self.cost.to_vec(alloc)?,
-            customer_class: self.customer_class.to_vec(alloc)?,
-            supplier_class: self.supplier_class.to_vec(alloc)?,
-            part_class: self.part_class.to_vec(alloc)?,
-            date_class: self.date_class.to_vec(alloc)?,
-            capacity: self.order.len(),
+            columns: self.columns.copy()?,
+            zones: self.zones.copy(alloc)?,
         })
     }
 }

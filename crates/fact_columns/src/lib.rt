@@ -2,11 +2,14 @@
 //! date by absorbing commits.
 //!
 //! `Columns` is a `Replica`: it begins with the loaded lines of a base and takes commit after commit, accepted or not,
-//! all of it or nothing. In its `FactTable` a line is kept by position and code: its customer, supplier, part and date as
-//! positions in the lists of the dimensions, its quantity and discount as one code. Beside each position stands the row's
-//! class, a number that rows share which no query can tell apart: lines are read back by position and scanned by class.
-//! Each column is a `Vec` of its own, so that a scan reads only what it needs. A withdrawn line leaves its place free,
-//! with a quantity of 0, and a later line is written there.
+//! all of it or nothing. In its `FactTable` a line is kept by position and code: its customer, supplier, part and date
+//! as positions in the lists of the dimensions, its quantity and discount as one code. Beside each position stands the
+//! row's class, a number that rows share which no query can tell apart: lines are read back by position and scanned by
+//! class. Each column is a `Vec` of its own, so that a scan reads only what it needs. A withdrawn line leaves its place
+//! free, with a quantity of 0, and a later line is written there; but no added line is put among the loaded ones, which
+//! lie by regions and months (`clusters.rt`). An order's lines are found by its span of numbers, and a loaded line's
+//! place by its number. Beside the columns stand their zones (`TableZones`): which rows the lines of each chunk of
+//! places name, so that a scan leaves out chunks of which no question takes a line.
 //!
 //! ```text
 //!  commit ── lines in codes ──▶ free places of a hint, else the end ──▶ columns ── lines ──▶ the scan
@@ -31,6 +34,7 @@
 #![tactic(auto)]
 
 mod action;
+mod clusters;
 mod coding;
 mod columns;
 mod fact_table;
@@ -40,10 +44,13 @@ pub mod laws;
 mod loading;
 mod orders;
 mod place;
+mod place_columns;
 mod placing;
 mod scanned_line;
 mod span;
+mod table_zones;
 mod watch;
+mod zone_sets;
 
 pub use columns::Columns;
 pub use fact_table::FactTable;

@@ -7,12 +7,17 @@ ghost use Rattle.ssb_schema.specs.declared.line.LineFields.{LineFields};
 ghost use Rattle.ssb_schema.specs.Facts.{facts_of};
 ghost use Rattle.fact_columns.specs.Spans.{Covers};
 ghost use Rattle.fact_columns.specs.Coded.{AreCoded, AreCodesOf};
+ghost use Rattle.fact_columns.specs.Laid.{lines_at};
+ghost use Rattle.fact_columns.specs.Loading.{IsLoaded};
 
+use crate::clusters::{laid_out, places_of};
 use crate::coding::coded_pieces;
 use crate::fact_table::FactTable;
-use crate::span::{Span, Spans, widen};
+use crate::place_columns::PlaceColumns;
+use crate::span::{Span, SpansByKey, widen_by_key};
+use crate::table_zones::TableZones;
 use dimension_index::DimIndex;
-use ssb_schema::Line;
+use ssb_schema::{Items, Line};
 use std::alloc::{AllocError, Global};
 use std::collections::HashMap;
 use std::hash::RandomState;
@@ -33,10 +38,10 @@ fn batch_end(from: usize, len: usize) -> usize
     }
 }
 
-// Puts tables behind one another; an error at the first that could not be made.
+// Puts columns behind one another; an error at the first that could not be made.
 fn append_all(
     table: &mut FactTable,
-    pieces: &[Result<FactTable, AllocError>],
+    pieces: &[Result<PlaceColumns, AllocError>],
 ) -> Result<(), AllocError>
     ensures { OnOk result ((dimensions : Dimensions) (before : List PlainFact) (lines : List LineFields)
         → AreCodesOf dimensions before table.old.places → AreCoded dimensions lines pieces.now
@@ -51,25 +56,53 @@ fn append_all(
     Ok(())
 }
 
-/// A table of the lines, one behind another, coded by as many threads as there are processors.
-pub fn table_of(
+// A table of the lines of these numbers, one behind another, coded by as many threads as there are processors.
+fn table_of(
     rt: &(impl Threads + Sync),
     alloc: Global,
     index: &DimIndex,
     lines: &[Line],
+    numbers: &[u32],
 ) -> Result<FactTable, AllocError>
-    ensures { IfOk result (λ table. AreCodesOf index.now.dimensions (facts_of lines.now) table.places) }
+    ensures { IfOk result (λ table. AreCodesOf index.now.dimensions (facts_of (lines_at lines.now numbers.now))
+        table.places) }
 {
-    let mut table = FactTable::new(alloc);
-    table.reserve(lines.len())?;
+    let zones = TableZones::new(alloc, index)?;
+    let mut table = FactTable::new(alloc, zones);
+    table.reserve(numbers.len())?;
     let mut done = 0;
-    while done < lines.len() {
-        let end = batch_end(done, lines.len());
-        let pieces = coded_pieces(rt, alloc, index, &lines[done..end])?;
+    while done < numbers.len() {
+        let end = batch_end(done, numbers.len());
+        let pieces = coded_pieces(rt, alloc, index, lines, &numbers[done..end])?;
         append_all(&mut table, pieces.as_slice())?;
         done = end;
     }
     Ok(table)
+}
+
+/// Loaded lines in columns, and the place of each, by its number.
+#[derive(Drop)]
+pub struct Loaded {
+    pub table: FactTable,
+    pub places: Items<u32>,
+}
+
+/// The lines in columns: those that questions look at together lie together. By as many threads as there are processors.
+pub fn laid_lines(
+    rt: &(impl Threads + Sync),
+    alloc: Global,
+    index: &DimIndex,
+    lines: &[Line],
+) -> Result<Loaded, AllocError>
+    requires { length lines.now < 2 ^ 32 }
+    ensures { IfOk result (IsLoaded index.now.dimensions lines.now) }
+{
+    let numbers = laid_out(rt, alloc, index, lines)?;
+    let places = places_of(alloc, &numbers)?;
+    Ok(Loaded {
+        table: table_of(rt, alloc, index, lines, &numbers)?,
+        places: Items::from_vec(places),
+    })
 }
 
 // Behind the last of the adjacent lines of an order that begin at an index.
@@ -88,7 +121,7 @@ fn end_of_order(lines: &[Line], first: usize) -> usize
 }
 
 // Has the spans cover each line at its own index.
-fn span_all(spans: &mut Spans, lines: &[Line]) -> Result<(), AllocError>
+fn span_all(spans: &mut SpansByKey, lines: &[Line]) -> Result<(), AllocError>
     requires { length lines.now < 2 ^ 32 }
     ensures { OnOk result ((i : ℕ) (line : LineFields) → i < length lines.now
         → Covers (get nat_eq spans.new (slice_index_or lines.now i line).order_key) i) }
@@ -97,7 +130,7 @@ fn span_all(spans: &mut Spans, lines: &[Line]) -> Result<(), AllocError>
     while at < lines.len() {
         let end = end_of_order(lines, at);
         spans.reserve(1)?;
-        widen(
+        widen_by_key(
             spans,
             lines[at].order_key(),
             Span {
@@ -127,7 +160,11 @@ fn count_orders(lines: &[Line]) -> usize
 }
 
 /// Spans that cover each line at its own index. Keys are hashed with `hashing`.
-pub fn spans_of(alloc: Global, hashing: RandomState, lines: &[Line]) -> Result<Spans, AllocError>
+pub fn spans_of(
+    alloc: Global,
+    hashing: RandomState,
+    lines: &[Line],
+) -> Result<SpansByKey, AllocError>
     requires { length lines.now < 2 ^ 32 }
     ensures { IfOk result (λ spans. (i : ℕ) (line : LineFields) → i < length lines.now
         → Covers (get nat_eq spans (slice_index_or lines.now i line).order_key) i) }

@@ -1,6 +1,5 @@
 //! The live lines in their places, found by the key of their order.
-ghost use Rattle.std.specs.Prelude.{◌≡◌, ◌+◌, ◌<◌, ◌≤◌, ◌^◌, length, nat_eq};
-ghost use Rattle.std.specs.HashMap.{get};
+ghost use Rattle.std.specs.Prelude.{◌≡◌, ◌+◌, ◌<◌, ◌≤◌, ◌^◌, true, length};
 ghost use Rattle.fact_columns.specs.Spans.{AreFree, Spanned};
 ghost use Rattle.fact_columns.specs.Applied.{CanAdd, Added, Withdrawn, CanApply, Applied, CanApplyAll, AppliedAll};
 
@@ -24,6 +23,7 @@ fn put_order<W: Watch>(
 )
     requires can { CanAdd table.old spans.old key lines.now }
     requires within { first ≤ length table.old.places }
+    requires behind { length spans.old.loaded.value ≤ first }
     requires small { first + length lines.now < 2 ^ 32 }
     requires free { AreFree table.old.places first (length lines.now) }
     ensures { Added W.follows watch.old watch.new table.old table.new spans.old spans.new lines.now }
@@ -46,22 +46,35 @@ fn take_order<W: Watch>(
     watch: &mut W,
     key: u64,
 ) -> (Span, usize)
-    requires { Spanned (get nat_eq spans.old) table.old.places }
+    requires { Spanned spans.old table.old.places }
     ensures { Withdrawn W.follows watch.old watch.new table.old table.new spans.old spans.new key result.1 }
 {
     let span = take_span(spans, key);
-    let freed = free_order(table, watch, key, span);
+    let freed = free_order(table, spans, watch, key, span);
     (span, freed)
 }
 
-// Where so many lines may be put: at a hint whose places are free, else behind the last place.
-fn wanted(table: &FactTable, hints: &mut Hints, count: usize) -> usize
+// Whether so many lines may be put at a place.
+fn is_wanted(table: &FactTable, first: usize, loaded: usize, count: usize) -> bool
+    requires small { first < 2 ^ 32 }
+    ensures within { result ≡ true → first ≤ length table.now.places }
+    ensures behind { result ≡ true → loaded ≤ first }
+    ensures free { result ≡ true → AreFree table.now.places first count }
+{
+    count <= 7 && loaded <= first && are_free(table, first, count)
+}
+
+// Where so many lines may be put: at a hint whose places are free, else behind the last place. No line is put among the
+// loaded ones, so that those which questions look at together stay together.
+fn wanted(table: &FactTable, hints: &mut Hints, loaded: usize, count: usize) -> usize
+    requires behind { loaded ≤ length table.now.places }
     requires small { length table.now.places + count < 2 ^ 32 }
     ensures within { result ≤ length table.now.places }
+    ensures behind { loaded ≤ result }
     ensures free { AreFree table.now.places result count }
 {
     match hints.take(count) {
-        Some(first) if count <= 7 && are_free(table, first as usize, count) => first as usize,
+        Some(first) if is_wanted(table, first as usize, loaded, count) => first as usize,
         _ => table.len(),
     }
 }
@@ -78,7 +91,7 @@ fn add<W: Watch>(
     requires { CanAdd table.old spans.old key lines.now }
     ensures { Added W.follows watch.old watch.new table.old table.new spans.old spans.new lines.now }
 {
-    let first = wanted(table, hints, lines.len());
+    let first = wanted(table, hints, spans.loaded(), lines.len());
     put_order(table, spans, watch, first, key, lines);
 }
 
@@ -90,12 +103,14 @@ fn withdraw<W: Watch>(
     watch: &mut W,
     key: u64,
 ) -> usize
-    requires { Spanned (get nat_eq spans.old) table.old.places }
+    requires { Spanned spans.old table.old.places }
     ensures { Withdrawn W.follows watch.old watch.new table.old table.new spans.old spans.new key result }
 {
     let (span, freed) = take_order(table, spans, watch, key);
-    // Loaded lines of an order may lie apart, with those of others between them: such a span is not free.
-    if span.end.saturating_sub(span.first) as usize == freed {
+    // Places of loaded lines are never taken again, and where an order was added twice its span is not all free.
+    if span.first as usize >= spans.loaded()
+        && span.end.saturating_sub(span.first) as usize == freed
+    {
         hints.offer(span);
     }
     freed
@@ -138,7 +153,7 @@ pub fn apply_actions<W: Watch>(
     fresh: &[Place],
 ) -> usize
     requires { CanApplyAll table.old spans.old actions.now fresh.now }
-    ensures { AppliedAll W.follows watch.old watch.new table.old table.new spans.new actions.now fresh.now result }
+    ensures { AppliedAll W.follows watch.old watch.new table.old table.new spans.old spans.new actions.now fresh.now result }
 {
     let mut rest = fresh;
     let mut freed = 0;

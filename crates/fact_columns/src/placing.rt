@@ -6,13 +6,13 @@ ghost use Rattle.row_store.specs.State.{with_fact};
 ghost use Rattle.fact_columns.specs.declared.place.Place.{Place as PlainPlace};
 ghost use Rattle.fact_columns.specs.Places.{is_live, fact_at};
 ghost use Rattle.fact_columns.specs.Classed.{IsPlaceOf};
-ghost use Rattle.fact_columns.specs.Spans.{live_at, live_count, kept, is_of_other, AreFree};
+ghost use Rattle.fact_columns.specs.Spans.{live_at, live_count, kept, is_of_other, AreFree, ReachesBy};
 ghost use Rattle.fact_columns.specs.Coded.{counts_at, with_places};
 ghost use Rattle.fact_columns.specs.Watching.{IsOneMore, FollowsOn, live_places};
 
 use crate::fact_table::FactTable;
 use crate::place::Place;
-use crate::span::Span;
+use crate::span::{Span, Spans};
 use crate::watch::Watch;
 
 // The order key of the live line at a place; None where the place is free, or there is none.
@@ -121,10 +121,16 @@ fn free<W: Watch>(table: &mut FactTable, watch: &mut W, place: usize)
     table.free(place);
 }
 
-/// Frees the places of a span that hold live lines of an order, and answers how many they were.
-pub fn free_order<W: Watch>(table: &mut FactTable, watch: &mut W, key: u64, span: Span) -> usize
+/// Frees the places that a span's numbers have where they hold live lines of an order, and answers how many they were.
+pub fn free_order<W: Watch>(
+    table: &mut FactTable,
+    spans: &Spans,
+    watch: &mut W,
+    key: u64,
+    span: Span,
+) -> usize
     requires { (place : ℕ) (line : PlainPlace) → live_at table.old.places place ≡ Some line → line.order ≡ key
-        → (span.first ≤ place) × (place < span.end) }
+        → ReachesBy span spans.now.loaded.value place }
     ensures gone { (place : ℕ)
         → live_at table.new.places place ≡ kept (is_of_other key) (live_at table.old.places place) }
     ensures count { live_count table.old.places ≡ live_count table.new.places + result }
@@ -135,7 +141,8 @@ pub fn free_order<W: Watch>(table: &mut FactTable, watch: &mut W, key: u64, span
     ensures watched { FollowsOn W.follows watch.old watch.new table.old.places table.new.places }
 {
     let mut freed = 0;
-    for place in span.first as usize..span.end as usize {
+    for number in span.first as usize..span.end as usize {
+        let place = spans.place_of(number);
         if live_order(table, place) == Some(key) {
             free(table, watch, place);
             freed += 1;

@@ -16,3 +16,4 @@ pub mod PartLaws
 pub mod SparseLaws
 pub mod DealtLaws
 pub mod QuestionLaws
+pub mod WantedLaws

@@ -5,7 +5,9 @@ pub mod Dense
 pub mod Lines
 pub mod Scan
 pub mod SparseRows
+pub mod Zones
 pub mod Places
+pub mod Wanted
 pub mod Sums
 pub mod Totals
 pub mod Tables

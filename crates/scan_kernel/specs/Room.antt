@@ -9,10 +9,6 @@ use Rattle.scan_kernel.specs.declared.masks.Masks.{Masks}
 use Rattle.scan_kernel.specs.declared.range.Room.{Room}
 use Rattle.scan_kernel.specs.Places.{mask_at}
 
--- how many places a chunk has, if it is not the last
-abbrev pub chunk_size : ℕ
-chunk_size = 2048
-
 -- the places of a range that some question takes, each with its mask
 pub record AreFound (lines : LineColumns) (masks : Masks) (found : FoundPlaces) : Type 0 where
   pub within : found.to ≤ length lines.customer.now

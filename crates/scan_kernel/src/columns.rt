@@ -1,6 +1,8 @@
 //! The fact table and the groups as the scan reads them.
 ghost use Rattle.std.specs.Prelude.{◌≡◌, length};
+ghost use Rattle.scan_kernel.specs.Zones.{AreZonesOf};
 
+use crate::zones::Zones;
 use ssb_questions::Measure;
 
 /// The columns of the fact table that queries read, side by side: what stands at one index of each is of one place.
@@ -19,6 +21,11 @@ pub struct LineColumns<'a> {
     pub revenue: &'a [u32],
     /// LO_SUPPLYCOST.
     pub cost: &'a [u32],
+    /// Which customers lines name, chunk by chunk; likewise the next three.
+    pub customer_zones: Zones<'a>,
+    pub supplier_zones: Zones<'a>,
+    pub part_zones: Zones<'a>,
+    pub date_zones: Zones<'a>,
     pub ghost suppliers: { length supplier.now ≡ length customer.now },
     pub ghost parts: { length part.now ≡ length customer.now },
     pub ghost dates: { length date.now ≡ length customer.now },
@@ -26,6 +33,10 @@ pub struct LineColumns<'a> {
     pub ghost prices: { length price.now ≡ length customer.now },
     pub ghost revenues: { length revenue.now ≡ length customer.now },
     pub ghost costs: { length cost.now ≡ length customer.now },
+    pub ghost zoned_customers: { AreZonesOf customer_zones.codes.now customer_zones.sets.now customer.now },
+    pub ghost zoned_suppliers: { AreZonesOf supplier_zones.codes.now supplier_zones.sets.now supplier.now },
+    pub ghost zoned_parts: { AreZonesOf part_zones.codes.now part_zones.sets.now part.now },
+    pub ghost zoned_dates: { AreZonesOf date_zones.codes.now date_zones.sets.now date.now },
 }
 
 /// A column that lines are grouped by.

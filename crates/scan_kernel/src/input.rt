@@ -1,6 +1,10 @@
 //! What a scan goes over.
+ghost use Rattle.std.specs.Prelude.{length};
+ghost use Rattle.scan_kernel.specs.Wanted.{AreWanted};
+
 use crate::columns::{Grouping, LineColumns};
 use crate::masks::Masks;
+use crate::wanted::Wanted;
 
 /// The lines that a scan goes over, the masks of their rows, and what each question of the batch adds up.
 #[derive(Clone, Copy)]
@@ -8,4 +12,7 @@ pub struct ScanInput<'a> {
     pub lines: &'a LineColumns<'a>,
     pub masks: &'a Masks,
     pub groupings: &'a [Grouping<'a>],
+    /// Of each question the coarse codes of the rows that it takes.
+    pub wanted: &'a [Wanted],
+    pub ghost wants: { AreWanted lines.now masks.now (length groupings.now) wanted.now },
 }

@@ -6,7 +6,8 @@
 //! them, the crates above know.
 //!
 //! ```text
-//! chunk of places ─ search ─▶ places that some question takes, with their masks
+//! chunk of places ─ its zone shares no code with any question ─▶ left out
+//!                 ─ search ─▶ places that some question takes, with their masks
 //!                         ─ deal by the bits of the masks ─▶ the places of each question
 //!   for each question:      its places ─ number ─▶ their groups ─ add ─▶ its totals
 //! totals by group number    ─ groups that have lines ─▶ their values ─ sorted ─▶ rows
@@ -14,11 +15,12 @@
 //!
 //! The contracts: for each question and group the totals are the number of the lines that it takes there, and what they
 //! add to the measure and take away from it, modulo 2^64, also in several threads (`AreBatchTotals` in
-//! `specs/Totals.antt`); rows made from the counts and sums of any lines, by number, are the answer to the question
-//! over those lines (`AnswersAll` in `specs/Dense.antt`, from which the law `answers_lines` has `AnswersLines` of
-//! `specs/Scan.antt`; the answer is that of `ssb_answers`). Where a question has too many groups for a number each,
-//! `sparse_totals` walks over the places for it alone and keeps the sums of the groups that lines have
-//! (`specs/Sparse.antt`), and `answer_sparse` makes the rows of those (`specs/SparseRows.antt`).
+//! `specs/Totals.antt`); no question takes a line of a chunk that is left out (`IsLeftOut` in `specs/Wanted.antt`);
+//! rows made from the counts and sums of any lines, by number, are the answer to the question over those lines
+//! (`AnswersAll` in `specs/Dense.antt`, from which the law `answers_lines` has `AnswersLines` of `specs/Scan.antt`; the
+//! answer is that of `ssb_answers`). Where a question has too many groups for a number each, `sparse_totals` walks over
+//! the places for it alone and keeps the sums of the groups that lines have (`specs/Sparse.antt`), and `answer_sparse`
+//! makes the rows of those (`specs/SparseRows.antt`).
 //!
 //! ```text
 //! let totals = parallel_totals(rt, alloc, &lines, &masks, &groupings)?;
@@ -41,6 +43,8 @@ mod sparse;
 mod sparse_rows;
 mod taking;
 mod totals;
+mod wanted;
+mod zones;
 
 pub use columns::{GroupColumn, Grouping, LineColumns};
 pub use masks::{Masks, QUESTIONS_A_PASS};
@@ -49,3 +53,4 @@ pub use rows::answer_rows;
 pub use sparse::{GroupSums, SparseColumn, SparseGrouping, SparseTotals, sparse_totals};
 pub use sparse_rows::answer_sparse;
 pub use totals::Totals;
+pub use zones::{CHUNK, Zones, coarse_code, with_code};

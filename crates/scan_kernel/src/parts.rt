@@ -15,6 +15,7 @@ use crate::masks::Masks;
 use crate::range::{no_batch_totals, range_totals};
 use crate::taking::{Taken, part_count, take_in_threads};
 use crate::totals::Totals;
+use crate::wanted::all_wanted;
 use std::alloc::{AllocError, Global};
 use std::thread::Threads;
 
@@ -108,10 +109,12 @@ pub fn parallel_totals(
         (range_with_len 0 (length lines.now.customer.now)) v.items) }
 {
     let places = lines.customer.len();
+    let wanted = all_wanted(alloc, lines, masks, groupings.len())?;
     let input = ScanInput {
         lines,
         masks,
         groupings,
+        wanted: &wanted,
     };
     let takers = take_in_threads(rt, alloc, input)?;
     let Taken { parts, totals } = join_taken(alloc, input, &takers)?;

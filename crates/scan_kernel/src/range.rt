@@ -1,8 +1,9 @@
 //! The totals of a batch over a range of places, in one thread.
-ghost use Rattle.std.specs.Prelude.{◌≡◌, ℕ, ◌<◌, ◌≤◌, ◌-◌, ◌^◌, IfOk, length, replicate, vec_len, slice_index_or};
+ghost use Rattle.std.specs.Prelude.{◌≡◌, ℕ, ◌<◌, ◌≤◌, ◌+◌, ◌-◌, ◌*◌, ◌/◌, ◌^◌, IfOk, length, replicate, vec_len, slice_index_or};
 ghost use Rattle.std.specs.List.{range_with_len};
 ghost use Rattle.scan_kernel.specs.Dealt.{AreListsFor};
-ghost use Rattle.scan_kernel.specs.Room.{HasRoom, chunk_size};
+ghost use Rattle.scan_kernel.specs.Room.{HasRoom};
+ghost use Rattle.scan_kernel.specs.Zones.{chunk_size};
 ghost use Rattle.scan_kernel.specs.declared.columns.Grouping.{Grouping};
 ghost use Rattle.scan_kernel.specs.declared.totals.Totals.{Totals};
 ghost use Rattle.scan_kernel.specs.Totals.{CanScan, HaveSizes, AddsBatch, AreBatchTotals, AreZeros};
@@ -13,10 +14,9 @@ use crate::input::ScanInput;
 use crate::masks::QUESTIONS_A_PASS;
 use crate::search::search;
 use crate::totals::Totals;
+use crate::wanted::may_take;
+use crate::zones::CHUNK;
 use std::alloc::{AllocError, Global};
-
-/// How many places are searched at a time: what is found of them stays in the nearest cache.
-pub const CHUNK: usize = 2048;
 
 /// What is found of a chunk.
 #[derive(Drop)]
@@ -26,8 +26,14 @@ pub struct Room {
     dealt: Dealt,
 }
 
-/// Adds the places of one chunk to the totals of each question.
-fn add_chunk(input: ScanInput<'_>, from: usize, to: usize, room: &mut Room, totals: &mut [Totals])
+// Adds places of one chunk, some of which a question may take, to the totals of each question.
+fn add_places_of_chunk(
+    input: ScanInput<'_>,
+    from: usize,
+    to: usize,
+    room: &mut Room,
+    totals: &mut [Totals],
+)
     requires scan { CanScan input.lines.now input.masks.now input.groupings.now }
     requires within { to ≤ length input.lines.now.customer.now }
     requires order { from ≤ to }
@@ -62,6 +68,36 @@ fn add_chunk(input: ScanInput<'_>, from: usize, to: usize, room: &mut Room, tota
     );
 }
 
+// Adds places of one chunk to the totals of each question. A chunk that no question takes a line of is not looked at.
+fn add_chunk(input: ScanInput<'_>, from: usize, to: usize, room: &mut Room, totals: &mut [Totals])
+    requires scan { CanScan input.lines.now input.masks.now input.groupings.now }
+    requires within { to ≤ length input.lines.now.customer.now }
+    requires order { from ≤ to }
+    requires one { to ≤ (from / chunk_size + 1) * chunk_size }
+    requires room { HasRoom (to - from) room.old }
+    requires sizes { HaveSizes input.groupings.now totals.old }
+    ensures room { (count : ℕ) → HasRoom count room.old → HasRoom count room.new }
+    ensures sizes { HaveSizes input.entry.groupings.now totals.new }
+    ensures added { AddsBatch input.entry.lines.now input.entry.masks.now input.entry.groupings.now
+        (range_with_len from (to - from)) totals.old totals.new }
+{
+    if may_take(input, from / CHUNK) {
+        add_places_of_chunk(input, from, to, room, totals);
+    }
+}
+
+// The end of the places up to `to` that are of the chunk of the place `at`.
+fn chunk_end(at: usize, to: usize) -> usize
+    requires order { at < to }
+    requires small { to ≤ 2 ^ 32 }
+    ensures on { at < result }
+    ensures within { result ≤ to }
+    ensures few { result ≤ at + chunk_size }
+    ensures one { result ≤ (at / chunk_size + 1) * chunk_size }
+{
+    ((at / CHUNK + 1) * CHUNK).min(to)
+}
+
 /// Adds the places of a range to the totals of each question, chunk by chunk.
 pub fn add_range(
     input: ScanInput<'_>,
@@ -82,7 +118,7 @@ pub fn add_range(
 {
     let mut at = from;
     while at < to {
-        let end = if to - at > CHUNK { at + CHUNK } else { to };
+        let end = chunk_end(at, to);
         add_chunk(input, at, end, room, totals);
         at = end;
     }

@@ -1,13 +1,15 @@
 //! The parts that the places are divided into, and threads that take one after another and add it up.
 ghost use Rattle.std.specs.Prelude.{◌≡◌, ◌≤◌, ◌+◌, ◌/◌, ◌^◌, All, IfOk, length};
 ghost use Rattle.scan_kernel.specs.Parts.{bound, part_places, part_size};
-ghost use Rattle.scan_kernel.specs.Room.{HasRoom, chunk_size};
+ghost use Rattle.scan_kernel.specs.Room.{HasRoom};
+ghost use Rattle.scan_kernel.specs.Zones.{chunk_size};
 ghost use Rattle.scan_kernel.specs.Taken.{IsOfParts, IsOfPartsOk};
 ghost use Rattle.scan_kernel.specs.Totals.{CanScan, HaveSizes, AddsBatch};
 
 use crate::input::ScanInput;
-use crate::range::{CHUNK, Room, add_range, no_batch_totals, room_for};
+use crate::range::{Room, add_range, no_batch_totals, room_for};
 use crate::totals::Totals;
+use crate::zones::CHUNK;
 use rayon::current_num_threads;
 use std::alloc::{AllocError, Global};
 use std::sync::atomic::{AtomicU32, Ordering};

@@ -1,19 +1,23 @@
-use Rattle.std.proofs.Common.{◌-◌, List, take, drop, subst, ap, arith}
-use Rattle.std.proofs.lemmas.List.{take_all}
+use Rattle.std.proofs.Common.{◌-◌, List, get_or, take, drop, subst, ap, arith}
+use Rattle.std.proofs.lemmas.List.{length-map, take_all}
 use Rattle.ssb_schema.specs.declared.fact.Fact.{Fact}
 use Rattle.ssb_schema.specs.Facts.{facts_of}
 use Rattle.fact_columns.specs.Coded.{AreCoded, AreCodesOf}
+use Rattle.fact_columns.specs.Laid.{lines_at, no_line}
 use Rattle.fact_columns.proofs.CodingLaws.{batch_facts}
+use Rattle.fact_columns.proofs.LaidLaws.{lines_between}
 use Rattle.fact_columns.proofs.loading.table_of.Goals as goal
 
 pub loop-done-preserved : goal.loop-done-preserved
 loop-done-preserved g c =
     let dimensions = c.args.index.now.dimensions in
-    let lines = c.args.lines.now in
+    let lines = lines_at c.args.lines.now c.args.numbers.now in
     let done = c.loop-done.done in
     let end = c.batch_end-end.ensures in
     let coded : AreCoded dimensions (take (c.batch_end-end.result - done) (drop done lines)) c.as_slice.result.now =
-    rw c.as_slice.ensures.value c.in_ok-pieces.ensures in
+    subst (λ l. AreCoded dimensions l c.as_slice.result.now)
+    (lines_between c.args.lines.now c.args.numbers.now done (c.batch_end-end.result - done))
+    (rw c.as_slice.ensures.value c.in_ok-pieces.ensures) in
     record {
       within = end.1;
       codes = subst (λ (f : List Fact). AreCodesOf dimensions f c.append_all.new.table.places)
@@ -24,5 +28,6 @@ loop-done-preserved g c =
 pub returns : goal.returns
 returns g c =
     subst (λ (f : List Fact). AreCodesOf c.args.index.now.dimensions f c.loop-done.table.places)
-    (ap facts_of (take_all c.loop-done.done c.args.lines.now (omega (arith, c.loop-done-test.false))))
+    (ap facts_of (take_all c.loop-done.done (lines_at c.args.lines.now c.args.numbers.now)
+    (omega (arith, c.loop-done-test.false, length-map c.args.numbers.now (λ n. get_or c.args.lines.now n no_line)))))
     c.loop-done.invariant.codes

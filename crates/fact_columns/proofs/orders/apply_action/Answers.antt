@@ -20,6 +20,7 @@ add-requires g c =
       own = λ k d within. codes_own c.requires.dimensions (added_by action) c.args.lines.now (key_of action)
           c.requires.coded c.requires.alike k d within ∙ ap key_of c.in-Add.is ∙ sym c.key.ensures;
       spanned = c.requires.spanned;
+      behind = c.requires.behind;
     }
 
 pub add-requires-in-Amend : goal.add-requires-in-Amend
@@ -33,6 +34,12 @@ add-requires-in-Amend g c =
       own = λ k d within. codes_own c.requires.dimensions (added_by action) c.args.lines.now (key_of action)
           c.requires.coded c.requires.alike k d within ∙ ap key_of c.in-Amend.is ∙ sym c.key-in-Amend-2.ensures;
       spanned = c.withdraw-freed.ensures.spanned;
+      behind = omega (
+        arith,
+        ap length c.withdraw-freed.ensures.loaded,
+        c.withdraw-freed.ensures.len,
+        c.requires.behind,
+      );
     }
 
 pub returns-in-Amend : goal.returns-in-Amend
@@ -52,6 +59,8 @@ returns-in-Amend g c = record {
   len = omega (arith, c.add-in-Amend.ensures.len, c.withdraw-freed.ensures.len);
   room = omega (arith, c.add-in-Amend.ensures.room, c.withdraw-freed.ensures.room);
   spare = omega (arith, c.add-in-Amend.ensures.spare, c.withdraw-freed.ensures.spare);
+  loaded = c.add-in-Amend.ensures.loaded ∙ c.withdraw-freed.ensures.loaded;
+  longer = omega (arith, c.add-in-Amend.ensures.longer, c.withdraw-freed.ensures.len);
 }
 
 pub returns-in-Withdraw : goal.returns-in-Withdraw
@@ -68,4 +77,6 @@ returns-in-Withdraw g c =
       len = omega (arith, c.withdraw.ensures.len);
       room = omega (arith, c.withdraw.ensures.room);
       spare = omega (arith, c.withdraw.ensures.spare);
+      loaded = c.withdraw.ensures.loaded;
+      longer = omega (arith, c.withdraw.ensures.len);
     }

@@ -27,6 +27,7 @@ apply_action-freed-requires g c =
       alike = subst (λ (lines : List LineFields). All (λ line. line.order_key ≡ key_of c.action-item.result) lines)
           c.added.ensures.lines c.added.ensures.alike;
       spanned = so_far.spanned;
+      behind = omega (arith, ap length so_far.loaded, so_far.longer, c.requires.behind);
     }
 
 pub overflow_add-freed : goal.overflow_add-freed
@@ -69,6 +70,8 @@ loop-action-preserved g c =
       left = λ dimensions fresh. All-same (IsPlaceOf dimensions) _ _ c.split_at.ensures.back
           (All-drop (IsPlaceOf dimensions) n c.loop-action.rest.now (so_far.left dimensions fresh));
       spanned = c.apply_action-freed.ensures.spanned;
+      loaded = c.apply_action-freed.ensures.loaded ∙ so_far.loaded;
+      longer = omega (arith, c.apply_action-freed.ensures.longer, so_far.longer);
       watched = λ base follows. c.apply_action-freed.ensures.watched base (so_far.watched base follows);
       count = omega (
         arith,

@@ -1,6 +1,6 @@
-use Rattle.std.proofs.Common.{◌≡◌, ◌+◌, ◌≤◌, length, fold, take, drop, flat_map, nat_eq}
+use Rattle.std.proofs.Common.{◌≡◌, ◌+◌, ◌≤◌, length, fold, take, drop, flat_map}
 use Rattle.std.specs.List.{All}
-use Rattle.std.specs.HashMap.{get, spare}
+use Rattle.std.specs.HashMap.{spare}
 use Rattle.ssb_base.specs.Base.{Dimensions}
 use Rattle.ssb_schema.specs.Facts.{facts_of}
 use Rattle.row_store.specs.Lines.{added_by}
@@ -21,10 +21,12 @@ invariant-loop-action g l = record {
   inside : (dimensions : Dimensions) → All (IsPlaceOf dimensions) l.fresh
       → All (IsPlaceOf dimensions) l.initial.table.places → All (IsPlaceOf dimensions) l.table.places;
   left : (dimensions : Dimensions) → All (IsPlaceOf dimensions) l.fresh → All (IsPlaceOf dimensions) l.rest;
-  spanned : Spanned (get nat_eq l.spans) l.table.places;
+  spanned : Spanned l.spans l.table.places;
+  loaded : l.spans.loaded.value ≡ l.initial.spans.loaded.value;
+  longer : length l.initial.table.places ≤ length l.table.places;
   count : live_count l.table.places + l.freed + length l.rest ≡ live_count l.initial.table.places + length l.fresh;
   room : length l.rest ≤ l.table.room;
   len : length l.table.places + length l.rest ≤ length l.initial.table.places + length l.fresh;
-  spare : length l.actions ≤ spare l.spans + l.action-index;
+  spare : length l.actions ≤ spare l.spans.by_key + l.action-index;
   watched : FollowsOn g.W.Watch.follows l.initial.watch l.watch l.initial.table.places l.table.places;
 }

@@ -2,17 +2,18 @@ use Rattle.std.proofs.Common.{arith, ◌≡◌, ◌∙◌, ℕ, Option, refl, sy
 use Rattle.std.specs.Option.{option_map, option_eq}
 use Rattle.fact_columns.specs.declared.place.Place.{Place}
 use Rattle.fact_columns.specs.Spans.{live_at, kept, is_of_other}
-use Rattle.fact_columns.proofs.PlaceLaws.{gone_more, goes, stays, is_of_key, is_of_none}
+use Rattle.fact_columns.proofs.GoneLaws.{all_gone, done_more, each_more}
+use Rattle.fact_columns.proofs.PlaceLaws.{goes, stays, is_of_key, is_of_none}
 use Rattle.fact_columns.proofs.placing.free_order.Goals as goal
 use Rattle.fact_columns.proofs.placing.free_order.Goals.{then-eq, else-eq}
 
-pub loop-place-preserved : goal.loop-place-preserved
-loop-place-preserved g c =
+pub loop-number-preserved : goal.loop-number-preserved
+loop-number-preserved g c =
     let key = c.args.key in
     let old = c.args.table.now.places in
-    let mid = c.loop-place.table.places in
-    let so_far = c.loop-place.invariant in
-    let place = c.loop-place.place in
+    let mid = c.loop-number.table.places in
+    let so_far = c.loop-number.invariant in
+    let place = c.place_of-place.result in
     let asked : option_eq eqb (option_map (λ (line : Place). line.order) (live_at mid place)) (Some key) ≡ c.eq.result =
     ap (λ (o : Option ℕ). option_eq eqb o (Some key)) (sym c.live_order.ensures) ∙ sym c.eq.ensures in
     elim c.if-eq.branch [
@@ -22,9 +23,9 @@ loop-place-preserved g c =
           w.free.ensures.here ∙ sym (goes key (live_at mid place)
           (is_of_key key (live_at mid place) (asked ∙ w.if-eq.true))) in
           rw (w.table-is, w.watch-is, w.freed-is) (record {
-            done = gone_more key place old mid later so_far.done so_far.left here w.free.ensures.others;
-            left = λ other le. w.free.ensures.others other (λ e. omega (arith, le, e))
-                ∙ so_far.left other (omega (arith, le));
+            done = done_more key place old mid later here w.free.ensures.others c.args.spans.now.loaded.value
+                c.args.span.first c.loop-number.number c.place_of-place.ensures so_far.each so_far.done;
+            each = each_more key place old mid later here w.free.ensures.others so_far.each;
             count = omega (arith, w.free.ensures.count, so_far.count);
             most = omega (arith, so_far.most);
             inside = λ dimensions all. w.free.ensures.inside dimensions (so_far.inside dimensions all);
@@ -36,8 +37,9 @@ loop-place-preserved g c =
           let here : live_at mid place ≡ kept (is_of_other key) (live_at mid place) =
           sym (stays key (live_at mid place) (is_of_none key (live_at mid place) (asked ∙ w.if-eq.false))) in
           rw (w.table-is, w.watch-is, w.freed-is) (record {
-            done = gone_more key place old mid mid so_far.done so_far.left here (λ k differ. refl);
-            left = λ other le. so_far.left other (omega (arith, le));
+            done = done_more key place old mid mid here (λ k differ. refl) c.args.spans.now.loaded.value
+                c.args.span.first c.loop-number.number c.place_of-place.ensures so_far.each so_far.done;
+            each = each_more key place old mid mid here (λ k differ. refl) so_far.each;
             count = so_far.count;
             most = omega (arith, so_far.most);
             inside = so_far.inside;
@@ -46,3 +48,9 @@ loop-place-preserved g c =
             watched = so_far.watched;
           })
     ]
+
+pub returns-clause-gone : goal.returns-clause-gone
+returns-clause-gone g c =
+    all_gone c.args.key c.args.span c.args.spans.now.loaded.value c.args.table.now.places c.loop-number.table.places
+    c.loop-number.number (omega (arith, c.loop-number-test.false)) c.loop-number.invariant.done
+    c.loop-number.invariant.each c.requires

@@ -7,7 +7,7 @@ use Rattle.scan_kernel.proofs.PartLaws.{all_parts, batch_rearranged}
 use Rattle.scan_kernel.proofs.parts.parallel_totals.Goals as goal
 
 pub join_taken-requires-clause-takers : goal.join_taken-requires-clause-takers
-join_taken-requires-clause-takers g c = rw c.deref.ensures.value c.in_ok-takers.ensures
+join_taken-requires-clause-takers g c = rw c.deref-2.ensures.value c.in_ok-takers.ensures
 
 pub returns-then-are_all : goal.returns-then-are_all
 returns-then-are_all g c =

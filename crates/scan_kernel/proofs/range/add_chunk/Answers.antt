@@ -1,15 +1,8 @@
-use Rattle.std.proofs.Common.{◌≤◌, length, length-take, take, arith}
-use Rattle.std.specs.Prelude.{vec_len}
-use Rattle.scan_kernel.proofs.DealtLaws.{lists_fewer}
+use Rattle.scan_kernel.proofs.WantedLaws.{left_out_adds}
 use Rattle.scan_kernel.proofs.range.add_chunk.Goals as goal
 
-pub add_found-requires-clause-room : goal.add_found-requires-clause-room
-add_found-requires-clause-room c =
-    let room = c.args.room.now in
-    let all = c.deref.result.now in
-    let found = length (take c.search-count.result all) in
-    let fewer : found ≤ vec_len room.places = omega (arith, length-take c.search-count.result all, c.deref.ensures.len) in
-    record {
-      lists = lists_fewer (vec_len room.places) found room.dealt.lists.items fewer c.requires.room.dealt.lists;
-      groups = omega (arith, fewer, c.requires.room.dealt.groups);
-    }
+pub returns-else-may_take-clause-added : goal.returns-else-may_take-clause-added
+returns-else-may_take-clause-added c =
+    let input = c.args.input in
+    left_out_adds input.lines.now input.masks.now input.groupings.now c.args.totals.now c.args.from c.args.to
+    c.requires.order c.requires.within c.requires.one (c.may_take.ensures c.if-may_take.false)

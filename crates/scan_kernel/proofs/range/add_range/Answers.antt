@@ -1,20 +1,17 @@
 use Rattle.std.proofs.Common.{◌≡◌, ℕ, ◌-◌, ◌≤◌, arith, subst}
 use Rattle.std.specs.List.{range_with_len}
-use Rattle.scan_kernel.specs.Room.{chunk_size}
+use Rattle.scan_kernel.specs.Zones.{chunk_size}
 use Rattle.scan_kernel.specs.Totals.{AddsBatch}
 use Rattle.scan_kernel.proofs.BatchLaws.{batch_none, batch_on}
 use Rattle.scan_kernel.proofs.range.add_range.Goals as goal
-use Rattle.scan_kernel.proofs.range.add_range.Goals.{then-to-at-gt-CHUNK, else-to-at-gt-CHUNK}
 
 pub loop-at-preserved : goal.loop-at-preserved
 loop-at-preserved c =
     let at = c.loop-at.at in
-    let end = c.if-to-at-gt-CHUNK.end in
+    let end = c.chunk_end-end.result in
     let old = c.loop-at.invariant in
-    let inside : end ≤ c.args.to = elim c.if-to-at-gt-CHUNK.branch
-    [ then-to-at-gt-CHUNK w ↦ omega arith | else-to-at-gt-CHUNK w ↦ omega arith ] in
-    let order : at ≤ end = elim c.if-to-at-gt-CHUNK.branch
-    [ then-to-at-gt-CHUNK w ↦ omega arith | else-to-at-gt-CHUNK w ↦ omega arith ] in
+    let inside : end ≤ c.args.to = c.chunk_end-end.ensures.within in
+    let order : at ≤ end = omega (arith, c.chunk_end-end.ensures.on) in
     record {
       order = omega (arith, old.order);
       within = inside;

@@ -1,6 +1,7 @@
 use Rattle.std.proofs.Common.{◌-◌, ◌≤◌}
 use Rattle.std.specs.List.{range_with_len}
-use Rattle.scan_kernel.specs.Room.{HasRoom, chunk_size}
+use Rattle.scan_kernel.specs.Room.{HasRoom}
+use Rattle.scan_kernel.specs.Zones.{chunk_size}
 use Rattle.scan_kernel.specs.Totals.{AddsBatch, HaveSizes}
 use Rattle.scan_kernel.proofs.range.add_range.Given as goal
 

@@ -1,6 +1,7 @@
 use Rattle.std.proofs.Common.{length}
 use Rattle.scan_kernel.specs.Parts.{places_of_parts}
-use Rattle.scan_kernel.specs.Room.{HasRoom, chunk_size}
+use Rattle.scan_kernel.specs.Room.{HasRoom}
+use Rattle.scan_kernel.specs.Zones.{chunk_size}
 use Rattle.scan_kernel.specs.Totals.{AreBatchTotals, HaveSizes}
 use Rattle.scan_kernel.proofs.taking.take_parts.Given as goal
 

@@ -1,14 +1,11 @@
-use Rattle.std.proofs.Common.{rules, ◌≡◌, ℕ, List, length, nat_eq, sym, ap, subst, ◌∙◌, arith}
+use Rattle.std.proofs.Common.{rules, ◌≡◌, List, Some, length, sym, ap, subst, ◌∙◌, arith}
 use Rattle.std.specs.List.{All}
-use Rattle.std.specs.Map.{lookup}
-use Rattle.std.proofs.lemmas.Map.Entries.{entries_from_clone}
 use Rattle.ssb_base.specs.Base.{Tables}
 use Rattle.fact_columns.specs.declared.place.Place.{Place}
 use Rattle.fact_columns.specs.Places.{live_facts}
 use Rattle.fact_columns.specs.Stored.{columns_state}
 use Rattle.fact_columns.specs.Classed.{IsPlaceOf}
-use Rattle.fact_columns.specs.declared.span.Span.{Span}
-use Rattle.fact_columns.specs.Spans.{Spanned, live_count}
+use Rattle.fact_columns.specs.Spans.{live_at, live_count}
 use Rattle.fact_columns.proofs.columns.ColumnsReplica.copy.Goals as goal
 
 pub invariant_of-result : goal.invariant_of-result
@@ -16,11 +13,15 @@ invariant_of-result c =
     let inside = c.self.inside in
     let places : c.in_ok-copy.field-0.places ≡ inside.table.places = search rules in
     let base : c.in_ok-try_clone.field-0.value ≡ inside.index.value = search rules in
-    let entries : c.in_ok-clone.field-0.entries ≡ inside.spans.entries =
-    entries_from_clone _ _ (λ x y s. s) (λ v w s. s) _ _ c.in_ok-clone.ensures.cases in
     record {
-      spanned = subst (λ (p : List Place × List (ℕ × Span)). Spanned (λ k. lookup (nat_eq k) p.1) p.0)
-          (λ i. (sym places i, sym entries i)) c.self.invariant.spanned;
+      spanned = λ i place live. c.in_ok-copy-2.ensures.reaches place.order i
+          (c.self.invariant.spanned i place (subst (λ ps. live_at ps i ≡ Some place) places live));
+      behind = omega (
+        arith,
+        ap length c.in_ok-copy-2.ensures.loaded,
+        ap length places,
+        c.self.invariant.behind,
+      );
       counted = c.self.invariant.counted ∙ ap live_count (sym places);
       within = subst (λ (p : List Place × Tables). All (IsPlaceOf p.1.dimensions) p.0) (λ i. (sym places i, sym base i))
           c.self.invariant.within;

@@ -1,7 +1,7 @@
 use Rattle.std.proofs.Common.{arith, ap, ◌<◌, ◌∙◌, vec_len}
 use Rattle.fact_columns.specs.Watching.{scanned_line}
 use Rattle.fact_columns.proofs.PlaceListLaws.{long, alike_long, element, read_at}
-use Rattle.fact_columns.proofs.fact_table.FactTable.scanned_line.Goals as goal
+use Rattle.fact_columns.proofs.place_columns.PlaceColumns.scanned_line.Goals as goal
 
 pub index-requires : goal.index-requires
 index-requires c =

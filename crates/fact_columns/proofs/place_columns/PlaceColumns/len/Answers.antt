@@ -1,6 +1,6 @@
 use Rattle.std.proofs.Common.{rules}
 use Rattle.fact_columns.proofs.PlaceListLaws.{long}
-use Rattle.fact_columns.proofs.fact_table.FactTable.len.Goals as goal
+use Rattle.fact_columns.proofs.place_columns.PlaceColumns.len.Goals as goal
 
 pub returns : goal.returns
 returns c =

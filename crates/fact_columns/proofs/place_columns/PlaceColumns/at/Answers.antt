@@ -1,6 +1,6 @@
 use Rattle.std.proofs.Common.{arith, ◌<◌, ◌∙◌, vec_len}
 use Rattle.fact_columns.proofs.PlaceListLaws.{long, alike_long, element, read_at}
-use Rattle.fact_columns.proofs.fact_table.FactTable.at.Goals as goal
+use Rattle.fact_columns.proofs.place_columns.PlaceColumns.at.Goals as goal
 
 pub index-requires : goal.index-requires
 index-requires c =
