@@ -134,16 +134,20 @@ fn over_tables<'a>(
     with_tables(alloc, command, data_argument(alloc))
 }
 
-// The name of a query, which is not given where all are asked, or those of a board.
-fn name_argument<'a>(alloc: Global) -> Result<Arg<'a>, AllocError> {
-    Arg::new(alloc, "name")
+// The name of a query, which is not given where all are asked, those of a board, or a statement.
+fn name_argument<'a>(alloc: Global, explains: bool) -> Result<Arg<'a>, AllocError> {
+    let name = Arg::new(alloc, "name")
         .value_name("NAME")
         .help("The query, for example Q4.1, or star")
         .action(ArgAction::Set)
         .required_unless_present("all")?
         .required_unless_present("board")?
         .conflicts_with("all")?
-        .conflicts_with("board")
+        .conflicts_with("board")?;
+    if explains {
+        return Ok(name);
+    }
+    name.required_unless_present("sql")?.conflicts_with("sql")
 }
 
 // The file of the questions that are asked, each under a title.
@@ -213,8 +217,24 @@ fn explain_argument<'a>(alloc: Global) -> Result<Arg<'a>, AllocError> {
     .conflicts_with("times")
 }
 
-// The system for whose SQL a question is explained.
-fn sql_argument<'a>(alloc: Global) -> Result<Arg<'a>, AllocError> {
+// A statement in the place of a question; the system for whose SQL a question is explained.
+fn sql_argument<'a>(alloc: Global, explains: bool) -> Result<Arg<'a>, AllocError> {
+    if explains {
+        return system_argument(alloc);
+    }
+    Arg::new(alloc, "sql")
+        .long("sql")
+        .value_name("TEXT")
+        .help(
+            "The rows of a statement of SQL in place of a question; with --explain SYSTEM in its place: sqlite, \
+             postgresql or clickhouse, in whose SQL the question is written",
+        )
+        .action(ArgAction::Set)
+        .conflicts_with("all")?
+        .conflicts_with("board")
+}
+
+fn system_argument<'a>(alloc: Global) -> Result<Arg<'a>, AllocError> {
     Arg::new(alloc, "sql")
         .long("sql")
         .value_name("SYSTEM")
@@ -225,8 +245,8 @@ fn sql_argument<'a>(alloc: Global) -> Result<Arg<'a>, AllocError> {
         .requires_arg("explain")
 }
 
-// The words of `query`.
-fn query_command<'a>(alloc: Global) -> Result<Command<'a>, AllocError> {
+// The words of `query`, where it explains a question or answers it.
+fn query_command<'a>(alloc: Global, explains: bool) -> Result<Command<'a>, AllocError> {
     let data = data_argument(alloc)
         .required(false)
         .required_unless_present("explain")?;
@@ -243,13 +263,13 @@ fn query_command<'a>(alloc: Global) -> Result<Command<'a>, AllocError> {
         .arg(format_argument(alloc))?
         .arg(width_argument(alloc))?
         .arg(explain_argument(alloc)?)?
-        .arg(sql_argument(alloc)?)?
+        .arg(sql_argument(alloc, explains)?)?
         .arg(times_argument(
             alloc,
             "Reports on standard error how many seconds each step took",
         ))?;
     with_telling(alloc, command)?
-        .arg(name_argument(alloc)?)?
+        .arg(name_argument(alloc, explains)?)?
         .arg(constants_argument(alloc))
 }
 
@@ -394,15 +414,15 @@ fn export_command<'a>(alloc: Global) -> Result<Command<'a>, AllocError> {
     with_telling(alloc, command)
 }
 
-/// All words of the program.
-pub fn command<'a>(alloc: Global) -> Result<Command<'a>, AllocError> {
+/// All words of the program, where a question is explained or not.
+pub fn command<'a>(alloc: Global, explains: bool) -> Result<Command<'a>, AllocError> {
     Command::new(alloc, "ssb_live")
         .version(VERSION)
         .about(
             "A warehouse of the Star Schema Benchmark. Without words: serves the script on standard input \
              over small built-in tables, and prints the report; at a terminal a live session over them",
         )
-        .subcommand(query_command(alloc)?)?
+        .subcommand(query_command(alloc, explains)?)?
         .subcommand(run_command(alloc)?)?
         .subcommand(serve_command(alloc)?)?
         .subcommand(audit_command(alloc)?)?

@@ -101,7 +101,9 @@ pub struct QueryWords<'a> {
     /// The file of the questions; none where the words have them.
     pub board: Option<&'a str>,
     pub format: FormatWord,
-    /// Empty where all are asked, or those of a board.
+    /// The text of a statement, in the place of a question.
+    pub sql: Option<&'a str>,
+    /// Empty where all are asked, those of a board, or a statement.
     pub name: &'a str,
     pub constants: Vec<&'a str>,
     pub times: bool,
@@ -261,7 +263,20 @@ fn check_width(alloc: Global, matches: &ArgMatches<'_>) -> Result<(), Notice> {
         return Ok(());
     }
     let told = "the argument '--width <N>' cannot be used without '--format bars'";
-    let fault = command(alloc)?.error(ErrorKind::ArgumentConflict, told)?;
+    let fault = command(alloc, false)?.error(ErrorKind::ArgumentConflict, told)?;
+    Err(Notice::from(fault))
+}
+
+// Looks whether a statement is to be drawn, which has several numbers a row.
+fn check_format(alloc: Global, matches: &ArgMatches<'_>) -> Result<(), Notice> {
+    let format = word_of(matches, "format");
+    if !matches.contains_id("sql") || (format != "bars" && format != "html") {
+        return Ok(());
+    }
+    let told = format!(in alloc;
+        "the argument '--sql <TEXT>' cannot be used with '--format {format}'"
+    )?;
+    let fault = command(alloc, false)?.error(ErrorKind::ArgumentConflict, told.as_str())?;
     Err(Notice::from(fault))
 }
 
@@ -277,7 +292,7 @@ fn delimiter_of(alloc: Global, matches: &ArgMatches<'_>) -> Result<Delimiter, No
                 "invalid value '{word}' for '--delimiter <C>': wanted is one character of ASCII that is no digit, \
                  letter, quote or end of a line, or tab"
             )?;
-            let fault = command(alloc)?.error(ErrorKind::InvalidValue, told.as_str())?;
+            let fault = command(alloc, false)?.error(ErrorKind::InvalidValue, told.as_str())?;
             Err(Notice::from(fault))
         }
     }
@@ -301,6 +316,7 @@ fn query_words<'a>(
         layout: layout_of(alloc, matches)?,
         all: matches.get_flag("all"),
         board: matches.get_str("board"),
+        sql: matches.get_str("sql"),
         format: format_of(matches, columns),
         name: word_of(matches, "name"),
         constants: words_of(alloc, matches, "constants")?,
@@ -339,6 +355,7 @@ fn query_job<'a>(
     if matches.get_flag("explain") {
         Ok(Job::Explain(explain_words(alloc, matches)?))
     } else {
+        check_format(alloc, matches)?;
         Ok(Job::Query(query_words(alloc, matches, columns)?))
     }
 }
@@ -400,7 +417,8 @@ pub fn job_of<'a>(
     words: &'a [String],
     columns: Option<&str>,
 ) -> Result<Job<'a>, Notice> {
-    let matched = command(alloc)?.try_get_matches_from(words)?;
+    let explains = words.iter().any(|word| word.as_str() == "--explain");
+    let matched = command(alloc, explains)?.try_get_matches_from(words)?;
     Ok(match matched.subcommand() {
         Some(("run", words)) => Job::Run(run_words(alloc, words)?),
         Some(("serve", words)) => Job::Serve(serve_words(alloc, words)?),

@@ -150,7 +150,7 @@ impl<'a> Reader<'a> {
     fn read_text(&mut self, section: Section<'a>, line: &str) -> Result<(), CaseLineFault> {
         match (section.part, self.case.commands.last_mut()) {
             (SectionKind::File(_), _) => append_to_last(&mut self.case.files, section, line)?,
-            (SectionKind::Command, Some(command)) => command.take_words(self.alloc, line)?,
+            (SectionKind::Command, Some(command)) => command.take_words(self.alloc, section, line)?,
             (SectionKind::Input, Some(command)) => section.append(&mut command.input, line)?,
             (SectionKind::Output, Some(command)) => section.append(&mut command.output, line)?,
             (SectionKind::Errors, Some(command)) => section.append(&mut command.errors, line)?,
@@ -210,29 +210,69 @@ impl Command {
     }
 
     // Takes the words of its one line: those in single quotes whole, the others parted by spaces.
-    fn take_words(&mut self, alloc: Global, line: &str) -> Result<(), CaseLineFault> {
+    fn take_words(
+        &mut self,
+        alloc: Global,
+        section: Section<'_>,
+        line: &str,
+    ) -> Result<(), CaseLineFault> {
         if !self.words.is_empty() {
             return Err(CaseLineFault::SecondLine);
         }
-        let mut is_quoted = true;
-        for piece in line.split('\'') {
-            is_quoted = !is_quoted;
-            if is_quoted {
-                self.words.push(String::from_str(alloc, piece)?)?;
-                continue;
-            }
-            for word in piece.split(' ') {
-                if !word.is_empty() {
-                    self.words.push(String::from_str(alloc, word)?)?;
-                }
-            }
-        }
-        if is_quoted {
-            return Err(CaseLineFault::OpenQuote);
+        for word in words_of(alloc, line)?.iter() {
+            self.words.push(section.word(alloc, word.as_str())?)?;
         }
         if self.words.is_empty() {
             return Err(CaseLineFault::NoWords);
         }
         Ok(())
     }
+}
+
+// Adds the words of a piece of a line that stands in no quotes.
+fn add_plain(alloc: Global, words: &mut Vec<String>, piece: &str) -> Result<(), AllocError> {
+    for word in piece.split(' ') {
+        if !word.is_empty() {
+            words.push(String::from_str(alloc, word)?)?;
+        }
+    }
+    Ok(())
+}
+
+// Adds what stands in quotes: to the last word, behind a quote, where it begins with a doubled one; else it is a word.
+fn add_quoted(
+    alloc: Global,
+    words: &mut Vec<String>,
+    is_doubled: bool,
+    piece: &str,
+) -> Result<(), AllocError> {
+    match words.last_mut() {
+        Some(last) if is_doubled => {
+            last.push_str("'")?;
+            last.push_str(piece)
+        }
+        _ => Ok(words.push(String::from_str(alloc, piece)?)?),
+    }
+}
+
+// The words of a line: those in single quotes whole, in which a quote is doubled, the others parted by spaces.
+fn words_of(alloc: Global, line: &str) -> Result<Vec<String>, CaseLineFault> {
+    let mut words = Vec::new(alloc);
+    let mut is_quoted = true;
+    // Whether a quoted word has just ended.
+    let mut has_ended = false;
+    for piece in line.split('\'') {
+        is_quoted = !is_quoted;
+        if is_quoted {
+            add_quoted(alloc, &mut words, has_ended, piece)?;
+            has_ended = true;
+        } else {
+            add_plain(alloc, &mut words, piece)?;
+            has_ended = has_ended && piece.is_empty();
+        }
+    }
+    if is_quoted {
+        return Err(CaseLineFault::OpenQuote);
+    }
+    Ok(words)
 }

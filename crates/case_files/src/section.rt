@@ -1,6 +1,7 @@
 //! The sections of a case: their headings, where they may stand, and the bytes that their lines spell.
 
 use crate::fault::CaseLineFault;
+use std::alloc::Global;
 
 /// What a section says.
 #[derive(Clone, Copy)]
@@ -112,6 +113,15 @@ impl Escape {
     }
 }
 
+// Appends the bytes that a line spells, and says how far an escape at its end is read.
+fn read_escapes(text: &mut Vec<u8>, line: &str) -> Result<Escape, CaseLineFault> {
+    let mut escape = Escape::Outside;
+    for byte in line.bytes() {
+        escape = escape.read(text, byte)?;
+    }
+    Ok(escape)
+}
+
 impl<'a> Section<'a> {
     /// The section that a heading begins, which is a line without its `== `.
     pub fn parse(heading: &'a str) -> Option<Section<'a>> {
@@ -130,7 +140,7 @@ impl<'a> Section<'a> {
             Some(("status", number)) if !is_escaped => SectionKind::Status(number.parse().ok()?),
             Some(_) => return None,
             None => match words {
-                "command" if !is_escaped => SectionKind::Command,
+                "command" => SectionKind::Command,
                 "input" => SectionKind::Input,
                 "output" => SectionKind::Output,
                 "errors" => SectionKind::Errors,
@@ -140,6 +150,21 @@ impl<'a> Section<'a> {
         Some(Section { part, is_escaped })
     }
 
+    /// The word that a word of the section's line spells.
+    pub fn word(self, alloc: Global, word: &str) -> Result<String, CaseLineFault> {
+        if !self.is_escaped {
+            return Ok(String::from_str(alloc, word)?);
+        }
+        let mut text = Vec::new(alloc);
+        match read_escapes(&mut text, word)? {
+            Escape::Outside => match String::from_utf8(text) {
+                Ok(word) => Ok(word),
+                Err(_) => Err(CaseLineFault::NoEscape),
+            },
+            _ => Err(CaseLineFault::CutOff),
+        }
+    }
+
     /// Appends the bytes that a line of the section spells.
     pub fn append(self, text: &mut Vec<u8>, line: &str) -> Result<(), CaseLineFault> {
         if !self.is_escaped {
@@ -147,11 +172,7 @@ impl<'a> Section<'a> {
             text.push(b'\n')?;
             return Ok(());
         }
-        let mut escape = Escape::Outside;
-        for byte in line.bytes() {
-            escape = escape.read(text, byte)?;
-        }
-        match escape {
+        match read_escapes(text, line)? {
             Escape::Outside => Ok(text.push(b'\n')?),
             // the lone backslash at the line's end
             Escape::Begun => Ok(()),

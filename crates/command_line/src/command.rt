@@ -18,7 +18,7 @@ use journal_file::{JournalFile, torn_path};
 use journal_opening::{JournalPath, ReadPath};
 use query_command::{
     QuestionWords, Settings, run_all, run_board, run_explain, run_explain_over, run_query,
-    standard_questions,
+    run_statement, standard_questions,
 };
 use run_command::{RunInput, RunSettings, demo, open_trace, run_scripts};
 use serve_command::{
@@ -123,6 +123,9 @@ where
     }
     if words.all {
         return Ok(run_all(rt, settings, tables, out, err));
+    }
+    if let Some(text) = words.sql {
+        return Ok(run_statement(rt, settings, tables, text, out, err));
     }
     let asked = QuestionWords {
         name: words.name,

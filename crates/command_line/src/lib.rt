@@ -1,4 +1,4 @@
-//! Does what the words of the program's command line ask for: one of the six jobs.
+//! Does what the words of the program's command line ask for.
 //!
 //! ```text
 //! system ── words ─▶ words ── run_command_line ─┬─ query, run or none, ──────▶ query_command, run_command,

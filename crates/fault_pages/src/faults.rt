@@ -13,6 +13,7 @@ use ssb_questions::{ConstantsFault, NoSuchQuery, Query};
 use ssb_schema::{C_CITY, SchemaFault, Table};
 use ssb_script::{QuestionsError, RequestError, ScriptError};
 use ssb_server::OpenFault;
+use ssb_sql::{Place, SqlFault};
 use ssb_text::LoadError;
 use std::alloc::{AllocError, Global};
 use std::fmt::Display;
@@ -113,6 +114,29 @@ impl ListsFaults for NoReports {
 
     fn next(&self) -> Option<NoReports> {
         None
+    }
+}
+
+const SQL_PLACE: Place = Place { line: 2, column: 4 };
+
+impl ListsFaults for SqlFault {
+    fn first() -> SqlFault {
+        SqlFault::BadToken(SQL_PLACE)
+    }
+
+    // Memory that ran out has no number.
+    fn next(&self) -> Option<SqlFault> {
+        match self {
+            SqlFault::BadToken(place) => Some(SqlFault::Unexpected(*place)),
+            SqlFault::Unexpected(place) => Some(SqlFault::NotSupported(*place)),
+            SqlFault::NotSupported(place) => Some(SqlFault::UnknownName(*place)),
+            SqlFault::UnknownName(place) => Some(SqlFault::NotJoined(*place)),
+            SqlFault::NotJoined(place) => Some(SqlFault::NotAGroup(*place)),
+            SqlFault::NotAGroup(place) => Some(SqlFault::BadValue(*place)),
+            SqlFault::BadValue(place) => Some(SqlFault::TooMany(*place)),
+            SqlFault::TooMany(place) => Some(SqlFault::SameHead(*place)),
+            SqlFault::SameHead(_) | SqlFault::OutOfMemory => None,
+        }
     }
 }
 
@@ -343,6 +367,7 @@ pub fn all_lines(alloc: Global) -> Result<Vec<String>, AllocError> {
     push_lines::<ConstantsFault>(alloc, &mut lines)?;
     push_lines::<BoardLineFault>(alloc, &mut lines)?;
     push_lines::<NoReports>(alloc, &mut lines)?;
+    push_lines::<SqlFault>(alloc, &mut lines)?;
     push_lines::<Cause>(alloc, &mut lines)?;
     push_lines::<OpenFault>(alloc, &mut lines)?;
     push_lines::<NotMetrics<&'static str>>(alloc, &mut lines)?;

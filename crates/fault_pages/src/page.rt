@@ -27,6 +27,7 @@ fn value_of(word: &str) -> &str {
         "SYSTEM" => "broken",
         "TABLE" => "customer",
         "ROW" => "2",
+        "LINE" => "2",
         "COLUMN" => "C_CITY",
         "N" => "3",
         "FAULT" => "11 FieldTooLong C_CITY",

@@ -3,3 +3,4 @@ pub mod Reported
 pub mod Sizes
 pub mod Explained
 pub mod Board
+pub mod Statement

@@ -27,9 +27,11 @@ mod explain;
 mod opening;
 mod query;
 mod sizes;
+mod statement;
 mod stopwatch;
 
 pub use asked::{QuestionWords, standard_questions};
 pub use board::{BoardFault, BoardLineFault, NoReports};
 pub use explain::{run_explain, run_explain_over};
 pub use query::{Settings, run_all, run_board, run_query};
+pub use statement::{NoStatement, run_statement};

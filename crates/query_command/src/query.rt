@@ -43,7 +43,7 @@ pub struct Settings {
 }
 
 // The answers to the questions over the base that the tables spell.
-fn answers<R: Threads + Sync + Clock + AllocGlobal, I: Read + Drop>(
+pub(crate) fn answers<R: Threads + Sync + Clock + AllocGlobal, I: Read + Drop>(
     rt: &R,
     hashing: RandomState,
     tables: TableFiles<I>,
@@ -62,7 +62,7 @@ fn answers<R: Threads + Sync + Clock + AllocGlobal, I: Read + Drop>(
     Ok(answers)
 }
 
-fn fault_of(fault: FormatFault) -> Fault
+pub(crate) fn fault_of(fault: FormatFault) -> Fault
     ensures { status_of result ≡ 4 }
 {
     match fault {
@@ -72,7 +72,7 @@ fn fault_of(fault: FormatFault) -> Fault
 }
 
 // Has a writer hand on what it holds.
-fn hand_on<W: Write>(out: &mut W) -> Result<(), Fault>
+pub(crate) fn hand_on<W: Write>(out: &mut W) -> Result<(), Fault>
     ensures kept { Keeps (W.contents out.old) (W.contents out.new) }
     ensures fault { IfErr result (λ fault. status_of fault ≡ 4) }
 {
@@ -144,7 +144,7 @@ fn report<R: Threads + Sync + Clock + AllocGlobal, I: Read + Drop, W: Write>(
 }
 
 // Tells the times where they are asked for.
-fn tell_times<E: Write>(watch: &Stopwatch, times: bool, err: &mut E)
+pub(crate) fn tell_times<E: Write>(watch: &Stopwatch, times: bool, err: &mut E)
     ensures { times ≡ false → err.new ≡ err.old }
 {
     if !times {

@@ -13,14 +13,18 @@ use Rattle.ssb_answers.specs.declared.answer.Answer.TheVariants.{Rows, Unserved}
 use Rattle.ssb_answers.specs.declared.answer.ResultRow.{ResultRow}
 use Rattle.ssb_formats.specs.JsonText.{answer_members, list_data, row_data, sum_data, text_data, value_data}
 use Rattle.ssb_formats.specs.ReplyJson.{answer_data, refreshed_members}
+use Rattle.ssb_formats.specs.StatementText as statement
+use Rattle.ssb_formats.specs.StatementText.{cell_data}
 use Rattle.ssb_questions.specs.Query.{sum_first}
 use Rattle.ssb_questions.specs.declared.query.Query.{Query}
 use Rattle.ssb_questions.specs.declared.value.Value.{Value}
-use Rattle.ssb_questions.specs.declared.value.Value.TheVariants.{Text, Number}
+use Rattle.ssb_questions.specs.declared.value.Value.TheVariants as printed
+use Rattle.ssb_statements.specs.declared.cell.Cell.{Cell}
+use Rattle.ssb_statements.specs.declared.cell.Cell.TheVariants.{Plain, Number}
 
 value_exact : (value : Value) → has_float (value_data value) ≡ false
-value_exact (Text text) = refl
-value_exact (Number n) = refl
+value_exact (printed.Text text) = refl
+value_exact (printed.Number n) = refl
 
 sum_exact : (sum : Option ℤ) → has_float (sum_data sum) ≡ false
 sum_exact None = refl
@@ -49,6 +53,22 @@ row_exact query row = placed_exact (sum_first query) (sum_data row.sum) row.grou
 pub answer_exact : (answer : Answer) → members_have_float (answer_members answer) ≡ false
 answer_exact (Rows question at rows) = grind (arith, items_exact, value_exact, row_exact)
 answer_exact (Unserved question cause) = grind (arith, items_exact, value_exact)
+
+cell_exact : (cell : Cell) → has_float (cell_data cell) ≡ false
+cell_exact (Plain None) = refl
+cell_exact (Plain (Some value)) = value_exact value
+cell_exact (Number n) = sum_exact n
+
+cells_exact : (row : List Cell) → has_float (statement.row_data row) ≡ false
+cells_exact row = items_exact cell_data row cell_exact
+
+text_exact : (text : List ℕ) → has_float (text_data text) ≡ false
+text_exact text = refl
+
+pub statement_exact : (at : ℕ) (heads : List (List ℕ)) (rows : List (List Cell))
+    → members_have_float (statement.members at (statement.heads_data heads) (statement.rows_data rows)) ≡ false
+statement_exact at heads rows =
+    rw (items_exact text_data heads text_exact, items_exact statement.row_data rows cells_exact) refl
 
 pub titled_exact : (title : List ℕ) (answer : Answer)
     → members_have_float (put (codes "title") (text_data title) (answer_members answer)) ≡ false

@@ -14,6 +14,10 @@ abbrev pub csv_setup : WriterBuilder
 csv_setup = with_flexible default_writer true
 
 -- a record of the heads, and one for each row
+abbrev pub csv_records : List (List ℕ) → List (List (List ℕ)) → List ℕ
+csv_records heads rows = row_text csv_setup heads ++ flat_map (row_text csv_setup) rows
+
+-- those of an answer
 abbrev pub csv_text : Query → Plan → List ResultRow → List ℕ
 csv_text query plan rows =
     row_text csv_setup (heads_of query plan) ++ flat_map (λ row. row_text csv_setup (columns_of query row)) rows

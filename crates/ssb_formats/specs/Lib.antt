@@ -13,3 +13,4 @@ pub mod Titled
 pub mod ReplyFormats
 pub mod ReplyJson
 pub mod ReplyTexts
+pub mod StatementText

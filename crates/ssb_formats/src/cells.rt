@@ -13,7 +13,7 @@ use ssb_questions::{ConstantKind, Plan, Query, Value};
 use ssb_schema::{Column, Text};
 use std::alloc::{AllocError, Global};
 
-fn value_cell(alloc: Global, value: &Value) -> Result<Text, AllocError>
+pub(crate) fn value_cell(alloc: Global, value: &Value) -> Result<Text, AllocError>
     ensures { IfOk result (λ cell. cell ≡ value_text value.now) }
 {
     match value {

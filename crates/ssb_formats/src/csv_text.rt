@@ -4,13 +4,13 @@ ghost use Rattle.std.specs.Prelude.{◌≡◌, [], ◌∷◌, IfOk, OnOk};
 ghost use Rattle.std.specs.Io.KnownBytes.{Appends};
 ghost use Rattle.csv.specs.Records.{fields_of};
 ghost use Rattle.csv.specs.Writing.{row_text, text_written};
-ghost use Rattle.ssb_formats.specs.CsvText.{IsBetween, csv_setup, csv_text};
+ghost use Rattle.ssb_formats.specs.CsvText.{IsBetween, csv_records, csv_setup, csv_text};
 
 use crate::cells::{head_cells, row_cells};
 use csv::{ByteRecord, Writer, WriterBuilder};
 use ssb_answers::ResultRow;
 use ssb_questions::{Plan, Query};
-use ssb_schema::Text;
+use ssb_schema::{Items, Text};
 use std::alloc::{AllocError, Global};
 use std::io::Write;
 
@@ -61,6 +61,28 @@ pub(crate) fn csv_text(
     for row in rows {
         let cells = row_cells(alloc, query, row)?;
         write_cells(&mut writer, &mut record, cells.as_slice())?;
+    }
+    match writer.into_inner() {
+        Ok(text) => Ok(text),
+        Err(_) => Err(AllocError),
+    }
+}
+
+/// A record of the heads, and one for each row.
+pub(crate) fn csv_records(
+    alloc: Global,
+    heads: &[Text],
+    rows: &[Items<Text>],
+) -> Result<Vec<u8>, AllocError>
+    ensures { IfOk result (λ text. text.items ≡ csv_records heads.now rows.now) }
+{
+    let mut writer = WriterBuilder::new()
+        .flexible(true)
+        .from_writer(Vec::new(alloc));
+    let mut record = ByteRecord::new(alloc);
+    write_cells(&mut writer, &mut record, heads)?;
+    for row in rows {
+        write_cells(&mut writer, &mut record, row.as_slice())?;
     }
     match writer.into_inner() {
         Ok(text) => Ok(text),

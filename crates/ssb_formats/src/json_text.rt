@@ -15,7 +15,7 @@ use ssb_questions::{Query, Question, Value, question};
 use ssb_schema::Text;
 use std::alloc::{AllocError, Global};
 
-fn value_json(alloc: Global, value: &Value) -> Result<Json, AllocError>
+pub(crate) fn value_json(alloc: Global, value: &Value) -> Result<Json, AllocError>
     ensures { IfOk result (λ json. view json ≡ value_data value.now) }
 {
     match value {
@@ -24,7 +24,7 @@ fn value_json(alloc: Global, value: &Value) -> Result<Json, AllocError>
     }
 }
 
-fn sum_json(sum: Option<i64>) -> Json
+pub(crate) fn sum_json(sum: Option<i64>) -> Json
     ensures { view result ≡ sum_data sum }
 {
     match sum {
@@ -45,7 +45,7 @@ fn values_json(alloc: Global, values: &[Value]) -> Result<Vec<Json>, AllocError>
 }
 
 #[tactic(auto, using(crate::proofs::CellLaws::map_push))]
-fn texts_json(alloc: Global, texts: &[Text]) -> Result<Vec<Json>, AllocError>
+pub(crate) fn texts_json(alloc: Global, texts: &[Text]) -> Result<Vec<Json>, AllocError>
     ensures { IfOk result (λ list. map view list.items ≡ map text_data texts.now) }
 {
     let mut list = Vec::new(alloc);

@@ -32,7 +32,7 @@ fn push_cell(text: &mut Vec<u8>, cell: &str) -> Result<(), AllocError>
     text.extend_from_slice(b" |")
 }
 
-fn push_line(text: &mut Vec<u8>, cells: &[Text]) -> Result<(), AllocError>
+pub(crate) fn push_line(text: &mut Vec<u8>, cells: &[Text]) -> Result<(), AllocError>
     ensures { OnOk result (text.new.items ≡ text.old.items ++ line_text cells.now) }
 {
     text.push(b'|')?;
@@ -49,7 +49,7 @@ fn rule_cell(is_number: bool) -> &'static str
 }
 
 // The line under the heads.
-fn push_rule(text: &mut Vec<u8>, are_numbers: &[bool]) -> Result<(), AllocError>
+pub(crate) fn push_rule(text: &mut Vec<u8>, are_numbers: &[bool]) -> Result<(), AllocError>
     ensures { OnOk result (text.new.items ≡ text.old.items ++ rule_text are_numbers.now) }
 {
     text.push(b'|')?;

@@ -44,7 +44,7 @@ fn push_dashes(text: &mut Vec<u8>, alignments: &[Alignment]) -> Result<(), Alloc
     }
 }
 
-fn push_rule(text: &mut Vec<u8>, alignments: &[Alignment]) -> Result<(), AllocError>
+pub(crate) fn push_rule(text: &mut Vec<u8>, alignments: &[Alignment]) -> Result<(), AllocError>
     ensures { OnOk result (text.new.items ≡ text.old.items ++ rule_text alignments.now) }
 {
     push_dashes(text, alignments)?;

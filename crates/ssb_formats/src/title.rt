@@ -8,7 +8,7 @@ use ssb_questions::Query;
 use std::alloc::AllocError;
 
 // Adds how many rows there are.
-fn push_count(text: &mut Vec<u8>, count: usize) -> Result<(), AllocError>
+pub(crate) fn push_count(text: &mut Vec<u8>, count: usize) -> Result<(), AllocError>
     ensures { OnOk result (text.new.items ≡ text.old.items ++ count_text count) }
 {
     let word = if count == 1 { " row" } else { " rows" };
@@ -25,7 +25,7 @@ fn as_of() -> &'static str
 }
 
 // Adds after how many commits the rows are so.
-fn push_commit(text: &mut Vec<u8>, at: u64) -> Result<(), AllocError>
+pub(crate) fn push_commit(text: &mut Vec<u8>, at: u64) -> Result<(), AllocError>
     ensures { OnOk result (text.new.items ≡ text.old.items ++ commit_text at) }
 {
     text.extend_from_slice(as_of().as_bytes())?;

@@ -1,0 +1,6 @@
+use Rattle.std.proofs.Common.{◌≡◌, map, take}
+use Rattle.ssb_formats.specs.StatementText.{texts_of}
+use Rattle.ssb_formats.proofs.statement_text.all_texts.Given as goal
+
+abbrev pub invariant-loop-row : goal.invariant-loop-row
+invariant-loop-row l = l.all.items ≡ map texts_of (take l.row-index l.rows)

@@ -1,0 +1,3 @@
+mod OneLaws
+mod ReadLaws
+mod SayLaws

@@ -1,0 +1,12 @@
+-- What is true of reading.
+use Rattle.std.specs.Prelude.{◌≡◌, Ok}
+use Rattle.ssb_sql.specs.Reading.{read}
+use Rattle.ssb_sql.specs.Select.{Select, tokens_of, pieces_of}
+
+-- each statement of the shape is read, as what it says
+abbrev pub StatementsAreRead : Type 0
+StatementsAreRead = (statement : Select) → read (tokens_of statement) ≡ Ok (pieces_of statement)
+
+-- tokens mean one thing
+abbrev pub TokensMeanOneThing : Type 0
+TokensMeanOneThing = (a b : Select) → tokens_of a ≡ tokens_of b → pieces_of a ≡ pieces_of b

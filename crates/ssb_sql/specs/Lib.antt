@@ -1,0 +1,7 @@
+-- the grammar
+pub mod Step
+pub mod Reading
+pub mod Select
+-- what follows
+pub mod Laws
+pub mod Faults

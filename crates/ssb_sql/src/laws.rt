@@ -1,0 +1,14 @@
+//! What is true of reading, over the definitions in `specs/`.
+//!
+//! Each is the contract of a function that does nothing.
+ghost use Rattle.ssb_sql.specs.Laws.{StatementsAreRead, TokensMeanOneThing};
+
+/// Each statement of the shape is read, as what it says.
+pub fn statements_are_read()
+    ensures { StatementsAreRead }
+{}
+
+/// Statements of the same tokens say the same.
+pub fn tokens_mean_one_thing()
+    ensures { TokensMeanOneThing }
+{}

@@ -1,0 +1,139 @@
+//! The statement that a text spells.
+
+use crate::asking::questions_of;
+use crate::building::{Printed, groups_in, limit_in};
+use crate::checks::table_fault;
+use crate::conditions::{Condition, conditions, same_operand};
+use crate::fault::{Place, SqlFault};
+use crate::narrowed::narrow;
+use crate::piece::Piece;
+use crate::piece_fault::PieceFault;
+use crate::reading::{ReadFault, pieces};
+use crate::star_words::add_words;
+use crate::state::{InList, State};
+use crate::statement::Statement;
+use crate::step::step;
+use crate::tokens::Tokens;
+use ssb_questions::Value;
+use ssb_schema::Column;
+use std::alloc::Global;
+
+// A statement being read: its tokens, and what they say.
+#[derive(Drop)]
+struct Reading<'a> {
+    tokens: Tokens<'a>,
+    pieces: Vec<Piece<'a>>,
+}
+
+impl<'a> Reading<'a> {
+    fn of(alloc: Global, text: &'a str) -> Result<Reading<'a>, SqlFault> {
+        let tokens = Tokens::of(alloc, text)?;
+        match pieces(alloc, tokens.tokens.as_slice()) {
+            Ok(pieces) => Ok(Reading { tokens, pieces }),
+            Err(ReadFault::Unexpected(left)) => Err(tokens.unexpected(left)),
+            Err(ReadFault::OutOfMemory) => Err(SqlFault::OutOfMemory),
+        }
+    }
+
+    // The place of the token that says the piece of this number, from 0.
+    fn place(&self, piece: usize) -> Place {
+        let mut state = State::List(InList::Start);
+        let mut said = 0usize;
+        for (number, token) in self.tokens.tokens.iter().enumerate() {
+            let Some(taken) = step(state, *token) else {
+                break;
+            };
+            if taken.says.is_some() {
+                if said == piece {
+                    return self.tokens.place(number);
+                }
+                said = said.saturating_add(1);
+            }
+            state = taken.next;
+        }
+        self.tokens.place(self.tokens.tokens.len())
+    }
+
+    // The fault that a piece has.
+    fn fault(&self, fault: PieceFault) -> SqlFault {
+        match fault {
+            PieceFault::UnknownName(piece) => SqlFault::UnknownName(self.place(piece)),
+            PieceFault::NotJoined(piece) => SqlFault::NotJoined(self.place(piece)),
+            PieceFault::NotAGroup(piece) => SqlFault::NotAGroup(self.place(piece)),
+            PieceFault::BadValue(piece) => SqlFault::BadValue(self.place(piece)),
+            PieceFault::NotSupported(piece) => SqlFault::NotSupported(self.place(piece)),
+            PieceFault::TooMany(piece) => SqlFault::TooMany(self.place(piece)),
+            PieceFault::SameHead(piece) => SqlFault::SameHead(self.place(piece)),
+            PieceFault::OutOfMemory => SqlFault::OutOfMemory,
+        }
+    }
+}
+
+// The words of all conditions.
+fn words_of(alloc: Global, conditions: &[Condition]) -> Result<Vec<Value>, PieceFault> {
+    let mut words = Vec::new(alloc);
+    for (number, condition) in conditions.iter().enumerate() {
+        let operand = condition.operand;
+        let is_first = !conditions[..number]
+            .iter()
+            .any(|own| same_operand(own.operand, operand));
+        if is_first {
+            let left = narrow(alloc, conditions, operand)?;
+            add_words(alloc, operand, &left, condition.piece, &mut words)?;
+        }
+    }
+    Ok(words)
+}
+
+// The statement of these group columns and tests.
+fn parts_of(
+    alloc: Global,
+    pieces: &[Piece<'_>],
+    groups: Vec<Column>,
+    tests: &[Value],
+) -> Result<Statement, PieceFault> {
+    let printed = Printed::of(alloc, pieces, groups.as_slice())?;
+    let order = printed.order_in(alloc, pieces, groups.as_slice())?;
+    let last = pieces.len().saturating_sub(1);
+    let questions = questions_of(
+        alloc,
+        printed.measures.as_slice(),
+        groups.as_slice(),
+        tests,
+        last,
+    )?;
+    let Printed {
+        shown,
+        heads,
+        measures,
+    } = printed;
+    Ok(Statement {
+        measures,
+        questions,
+        groups,
+        shown,
+        heads,
+        order,
+        limit: limit_in(pieces),
+    })
+}
+
+// The statement that the pieces say. Of each operand the tests come once, in the order of its first condition.
+fn statement_in(alloc: Global, pieces: &[Piece<'_>]) -> Result<Statement, PieceFault> {
+    if let Some(fault) = table_fault(pieces) {
+        return Err(fault);
+    }
+    let conditions = conditions(alloc, pieces)?;
+    let tests = words_of(alloc, conditions.as_slice())?;
+    let groups = groups_in(alloc, pieces)?;
+    parts_of(alloc, pieces, groups, tests.as_slice())
+}
+
+/// The statement that a text spells.
+pub fn statement_of(alloc: Global, text: &str) -> Result<Statement, SqlFault> {
+    let reading = Reading::of(alloc, text)?;
+    match statement_in(alloc, reading.pieces.as_slice()) {
+        Ok(statement) => Ok(statement),
+        Err(fault) => Err(reading.fault(fault)),
+    }
+}

@@ -1,0 +1,45 @@
+//! A statement: what a report of several aggregates asks.
+
+use ssb_questions::{Measure, Question};
+use ssb_schema::{Column, Text};
+
+/// The most columns that a statement prints.
+pub const MOST_SHOWN: usize = 16;
+
+/// What is printed of a group.
+#[derive(Clone, Copy, Debug, PartialEq, Eq)]
+pub enum Shown {
+    /// The value of a group column, by its place from 0.
+    Group(usize),
+    /// The sum that the question at this place asks; NULL over no lines.
+    Sum(usize),
+    /// The number of lines that the question at this place asks; 0 over none.
+    Count(usize),
+}
+
+/// What rows stand by.
+#[derive(Clone, Copy, Debug, PartialEq, Eq)]
+pub struct SortKey {
+    pub shown: Shown,
+    /// From the greatest down.
+    pub descending: bool,
+}
+
+/// A statement.
+#[derive(Debug, Drop)]
+pub struct Statement {
+    /// What its questions sum, each once.
+    pub measures: Vec<Measure>,
+    /// Its questions: of each measure the lines that pass, by the group columns, in their order.
+    pub questions: Vec<Question>,
+    /// The group columns.
+    pub groups: Vec<Column>,
+    /// What is printed, column by column.
+    pub shown: Vec<Shown>,
+    /// The heads of what is printed, which are distinct.
+    pub heads: Vec<Text>,
+    /// What rows stand by, the first key first; rows that these do not tell apart stand by the group columns.
+    pub order: Vec<SortKey>,
+    /// How many rows are printed at most.
+    pub limit: Option<u32>,
+}

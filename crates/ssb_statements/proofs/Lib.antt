@@ -1,0 +1,4 @@
+mod FirstLaws
+mod OrderLaws
+mod SideLaws
+mod StarLaws

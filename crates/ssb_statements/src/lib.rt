@@ -1,0 +1,17 @@
+//! Statements: reports of several aggregates, whose rows are those of questions, put side by side.
+//!
+//! ```text
+//! statement ── a question for each sum, of one block ─▶ answers of one moment ── side by side, sorted, the first ─▶ rows
+//! ```
+//!
+//! The law ([`laws`]): what is put side by side is what the statement means (`specs/Statement.antt`): a row for each
+//! distinct group among the combinations, with all of its aggregates. The contract of [`arranged`] (`specs/Arranged`):
+//! the rows are these, each once, by the keys of the order, and the first of them where the statement says how many.
+#![tactic(auto)]
+
+mod arranging;
+mod cell;
+pub mod laws;
+
+pub use arranging::arranged;
+pub use cell::Cell;
