@@ -7,7 +7,7 @@ LIST = re.compile(r"\(((?:`\w+`(?:,\s+)?)+)([^()]*)\)")
 def check_clauses(checker, page):
     for part in checker.texts(page):
         check_clauses_after_colons(checker, page, part)
-        for found in LIST.finditer(part.text) if page.name in ("README.md", "docs/HEADLINE.md") else []:
+        for found in LIST.finditer(part.text) if page.name in ("README.md", "docs/HEADLINE.md", "docs/PROMISES.md") else []:
             clauses = re.findall(r"`(\w+)`", found.group(1))
             if found.group(2).lstrip().startswith(("/", "::")) or any(one[0].isupper() for one in clauses):
                 continue
@@ -74,10 +74,9 @@ def check_promises(checker, page):
         pairs = zip(laws, files) if len(laws) == len(files) else [(law, file) for law in laws for file in files]
         for law, file in pairs:
             check_stands_in(checker, page, line, law, file, [])
-    readme = checker.pages.get("README.md")
-    for at, call in calls_promised(readme) if readme else []:
+    for at, call in calls_promised(page):
         if call not in told:
-            checker.find(readme, at, f"docs/PROMISES.md does not say where {call} stands")
+            checker.find(page, at, f"no table says where {call} stands")
 
 
 def check_stands_in(checker, page, line, call, file, clauses):
@@ -109,10 +108,10 @@ def check_imported(checker, page, line, file, cell):
         checker.find(page, line, f"{file} does not use {first.group(1)}/specs/{first.group(2)}")
 
 
-def calls_promised(readme):
-    """Of README's promises the functions that are named with clauses, and their lines."""
-    for part in readme.parts:
-        if part.heading and part.heading.text == "What is promised" and re.match(r"\d+\. ", part.text):
+def calls_promised(page):
+    """Of the promises of PROMISES the functions that are named with clauses, and their lines."""
+    for part in page.parts:
+        if part.heading and part.heading.text == "The promises":
             for found in LIST.finditer(part.text):
                 for name in chain_before(part, found.start()):
                     yield part.line_at(found.start()), name.split("::")[-1]

@@ -2,6 +2,7 @@
 """How many places the columns have for the most lines that were live at once: a model of the rule of `fact_columns`.
 
 An order takes the last free span of its length, else of the next longer length, which is cut; else new places at the end.
+This is of added orders: the places of loaded lines are never taken again, so they come on top.
 
     bench/places.py [LINES]        # 30,000 live lines at most
 """
