@@ -36,7 +36,7 @@ fn take(columns: &mut Columns, commit: &Commit) -> Result<(), Fail> {
 }
 
 // The order keys and revenues of the live lines. They are sorted, since no contract says at which place a line lies.
-fn live_lines(alloc: Global, columns: &Columns) -> Result<Vec<(u64, u64)>, Fail> {
+fn live_lines(alloc: Global, columns: &Columns) -> Result<Vec<(u64, u32)>, Fail> {
     let mut lines = Vec::new(alloc);
     for place in 0..columns.places() {
         let line = columns.at(place);
