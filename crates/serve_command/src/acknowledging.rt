@@ -9,13 +9,14 @@ use std::sync::Wait;
 use std::sync::atomic::{AtomicBool, Ordering};
 use stream_sessions::{Acknowledges, Evidence, NotAcknowledged};
 
-/// The evidence that commits are on the disk: it is made of an [`OnDisk`] alone, and that of a journal that keeps them.
+/// The evidence that commits are on a disk of this type: it is made of an [`OnDisk`] alone, and that of a journal that
+/// keeps them.
 #[derive(Drop)]
-pub struct Durable {
-    on_disk: OnDisk,
+pub struct Durable<D> {
+    on_disk: OnDisk<D>,
 }
 
-impl Evidence for Durable {
+impl<D> Evidence for Durable<D> {
     ghost covers = { λ durable commits. commits ≤ durable.on_disk.commits };
 }
 
@@ -28,13 +29,13 @@ pub struct JournalAcknowledger<D: Disk + Drop, L: LogSource + Drop> {
     pub(crate) takes_refreshes: bool,
 }
 
-impl<D: Disk + Drop, L: LogSource + Drop> Acknowledges<Durable> for JournalAcknowledger<D, L> {
+impl<D: Disk + Drop, L: LogSource + Drop> Acknowledges<Durable<D>> for JournalAcknowledger<D, L> {
     fn acknowledge<R: Wait>(
         &self,
         rt: &R,
         alloc: Global,
         commits: u64,
-    ) -> Result<Durable, NotAcknowledged> {
+    ) -> Result<Durable<D>, NotAcknowledged> {
         match self.journal.reach(rt, alloc, commits) {
             Ok(on_disk) => Ok(Durable { on_disk }),
             Err(_) => {

@@ -109,7 +109,7 @@ where
     P::Kept: Drop,
     U: UnreadDisk + Drop,
     U::Whole: Send,
-    S: Speaks<R, Durable> + Drop + Send,
+    S: Speaks<R, Durable<U::Whole>> + Drop + Send,
     S::Left: Drop + Send,
     E: Print,
     requires unread { U.taken source.file ≡ [] }

@@ -228,7 +228,7 @@ where
     D: Disk + Drop + Send,
     W: Wait + Drop + Send,
     R: Wait + Threads + Sync + Clock,
-    S: Speaks<R, Durable> + Drop + Send,
+    S: Speaks<R, Durable<D>> + Drop + Send,
     S::Left: Drop + Send,
     K: LogStart + Send + Sync,
     requires clients { All (IsQuiet server.now) participants.clients.items }
@@ -386,7 +386,7 @@ where
     T::Kept: Drop,
     W: Wait + Drop + Send,
     R: Wait + Threads + Sync + Clock,
-    S: Speaks<R, Durable> + Drop + Send,
+    S: Speaks<R, Durable<D>> + Drop + Send,
     S::Left: Drop + Send,
     requires few { vec_len speakers ≤ most_clients }
     requires full { remade.server.clients ≡ most_clients }

@@ -215,7 +215,7 @@ where
     P: OpensJournal + KeepsTorn,
     P::Disk: Send,
     P::Kept: Drop,
-    S: Speaks<R, Durable> + Drop + Send,
+    S: Speaks<R, Durable<P::Disk>> + Drop + Send,
     S::Left: Drop + Send,
     E: Print,
     requires few { vec_len speakers ≤ most_clients }
@@ -283,7 +283,7 @@ where
     P::Disk: Send,
     P::Kept: Drop,
     I: Read + Drop,
-    S: Speaks<R, Nothing> + Speaks<R, Durable> + Drop + Send,
+    S: Speaks<R, Nothing> + Speaks<R, Durable<P::Disk>> + Drop + Send,
     S::Left: Drop + Send,
     E: Print,
     requires few { vec_len speakers ≤ most_clients }

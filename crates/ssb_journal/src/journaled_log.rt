@@ -153,7 +153,7 @@ impl<D: Disk + Drop, L: LogSource + Drop> JournaledLog<D, L> {
     }
 
     /// The evidence of the commits that it keeps.
-    pub fn on_disk(&self) -> OnDisk
+    pub fn on_disk(&self) -> OnDisk<D>
         ensures { result.commits ≡ self.now.count }
     {
         OnDisk::of(&self.journal, self.count)

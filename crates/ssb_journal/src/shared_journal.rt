@@ -21,11 +21,11 @@ pub struct JournalFailed {
 
 // Where the journal is.
 #[derive(Drop)]
-enum Whereabouts<J, F> {
+enum Whereabouts<D, J, F> {
     // Here, for the next who needs more commits on the disk.
     Here(J),
     // With one who appends. So many commits were on the disk before.
-    Away(OnDisk),
+    Away(OnDisk<D>),
     // It has failed, and this is left of it.
     Failed(JournalFailed, Option<F>),
     // It is not written any more: this is what the disk keeps.
@@ -34,9 +34,9 @@ enum Whereabouts<J, F> {
 
 // What is left to do for one who needs commits on the disk.
 #[derive(Drop)]
-enum JournalTurn<J> {
+enum JournalTurn<D, J> {
     // Nothing: they are.
-    Reached(OnDisk),
+    Reached(OnDisk<D>),
     // To append, for all.
     Append(J),
     // To wait for the one who appends.
@@ -46,7 +46,7 @@ enum JournalTurn<J> {
 }
 
 // The turn of one who needs so many commits of a journal that is not written any more.
-fn read_only_turn<D: Disk, L: LogSource, J>(left: &LeftLog<D, L>, commits: u64) -> JournalTurn<J>
+fn read_only_turn<D: Disk, L: LogSource, J>(left: &LeftLog<D, L>, commits: u64) -> JournalTurn<D, J>
     ensures enough { HasEnough commits result }
     ensures left { IsReadOnlyTurn left.now.count commits result }
 {
@@ -58,9 +58,9 @@ fn read_only_turn<D: Disk, L: LogSource, J>(left: &LeftLog<D, L>, commits: u64) 
     }
 }
 
-impl<D: Disk + Drop, L: LogSource + Drop> Whereabouts<JournaledLog<D, L>, LeftLog<D, L>> {
+impl<D: Disk + Drop, L: LogSource + Drop> Whereabouts<D, JournaledLog<D, L>, LeftLog<D, L>> {
     // The turn of one who needs so many commits. Who is to append takes the journal away.
-    fn turn(&mut self, commits: u64) -> JournalTurn<JournaledLog<D, L>>
+    fn turn(&mut self, commits: u64) -> JournalTurn<D, JournaledLog<D, L>>
         ensures { HasEnough commits result }
     {
         match mem::replace(
@@ -77,12 +77,13 @@ impl<D: Disk + Drop, L: LogSource + Drop> Whereabouts<JournaledLog<D, L>, LeftLo
                 JournalTurn::Append(log)
             },
             Whereabouts::Away(on_disk) => {
-                *self = Whereabouts::Away(on_disk);
-                if on_disk.commits() >= commits {
-                    JournalTurn::Reached(on_disk)
+                let turn = if on_disk.commits() >= commits {
+                    JournalTurn::Reached(on_disk.again())
                 } else {
                     JournalTurn::Wait
-                }
+                };
+                *self = Whereabouts::Away(on_disk);
+                turn
             },
             Whereabouts::Failed(failed, left) => {
                 *self = Whereabouts::Failed(failed, left);
@@ -101,7 +102,7 @@ impl<D: Disk + Drop, L: LogSource + Drop> Whereabouts<JournaledLog<D, L>, LeftLo
 /// meanwhile is the next group.
 #[derive(Drop)]
 pub struct SharedJournal<D: Disk + Drop, L: LogSource + Drop> {
-    place: Mutex<Whereabouts<JournaledLog<D, L>, LeftLog<D, L>>>,
+    place: Mutex<Whereabouts<D, JournaledLog<D, L>, LeftLog<D, L>>>,
     changed: Condvar,
 }
 
@@ -123,7 +124,7 @@ impl<D: Disk + Drop, L: LogSource + Drop> SharedJournal<D, L> {
     }
 
     // Puts the journal back, and wakes all who wait.
-    fn put_back<R: Wait>(&self, rt: &R, place: Whereabouts<JournaledLog<D, L>, LeftLog<D, L>>) {
+    fn put_back<R: Wait>(&self, rt: &R, place: Whereabouts<D, JournaledLog<D, L>, LeftLog<D, L>>) {
         *self.place.lock(rt) = place;
         self.changed.notify_all();
     }
@@ -135,7 +136,7 @@ impl<D: Disk + Drop, L: LogSource + Drop> SharedJournal<D, L> {
         alloc: Global,
         log: JournaledLog<D, L>,
         commits: u64,
-    ) -> Result<OnDisk, JournalFailed>
+    ) -> Result<OnDisk<D>, JournalFailed>
         ensures { IfOk result (λ on_disk. commits ≤ on_disk.commits) }
     {
         let log = match log.append_new(rt, alloc) {
@@ -161,7 +162,7 @@ impl<D: Disk + Drop, L: LogSource + Drop> SharedJournal<D, L> {
         rt: &R,
         alloc: Global,
         commits: u64,
-    ) -> Result<OnDisk, JournalFailed>
+    ) -> Result<OnDisk<D>, JournalFailed>
         ensures { IfOk result (λ on_disk. commits ≤ on_disk.commits) }
     {
         let mut place = self.place.lock(rt);
