@@ -3,3 +3,5 @@ mod GroupLaws
 pub mod MomentLaws
 mod StepLaws
 mod ReadingLaws
+mod PromiseLaws
+pub mod CallLaws

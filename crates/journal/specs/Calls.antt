@@ -1,8 +1,10 @@
 -- The calls on a file, the newest first: what they make of it, and what a crash leaves.
-use Rattle.std.specs.Prelude.{◌≡◌, ◌⊎◌, ◌+◌, ◌≤◌, ℕ, Bool, true, List, [], ◌∷◌, ◌++◌, length, take, drop, if◌then◌else◌}
+use Rattle.std.specs.Prelude.{◌≡◌, ◌⊎◌, ◌+◌, ◌≤◌, ℕ, Bool, true, ◌&&◌, nat_le, List, [], ◌∷◌, ◌++◌, length, take, drop}
+use Rattle.std.specs.Prelude.{if◌then◌else◌}
 use Rattle.std.proofs.Common.{inl, inr}
 use Rattle.std.proofs.Math.Nat.{not-suc-le_self}
 use Rattle.journal.specs.Disk.{Torn, Cut}
+use Rattle.journal.specs.Groups.{recovered}
 
 -- a call, and whether it succeeded
 pub data Call : Type 0 where
@@ -11,6 +13,8 @@ pub data Call : Type 0 where
   wrote : ℕ → List ℕ → Bool → Call
   trimmed : ℕ → Bool → Call
   synced : Bool → Call
+  -- what a read stands for was promised: nothing was done
+  promised : Call
 
 -- what a read returns
 abbrev pub seen_after : List Call → List ℕ
@@ -19,6 +23,7 @@ seen_after (opened bytes ∷ calls) = bytes
 seen_after (wrote at bytes ok ∷ calls) = if ok then take at (seen_after calls) ++ bytes ++ drop (at + length bytes) (seen_after calls) else seen_after calls
 seen_after (trimmed len ok ∷ calls) = if ok then take len (seen_after calls) else seen_after calls
 seen_after (synced ok ∷ calls) = seen_after calls
+seen_after (promised ∷ calls) = seen_after calls
 
 -- what a crash may leave
 abbrev pub left_after : List Call → List ℕ → Type 0
@@ -27,6 +32,7 @@ left_after (opened bytes ∷ calls) c = c ≡ bytes
 left_after (wrote at bytes ok ∷ calls) c = (d : List ℕ) × left_after calls d × Torn at (length bytes) d c
 left_after (trimmed len ok ∷ calls) c = (d : List ℕ) × left_after calls d × Cut len d c
 left_after (synced ok ∷ calls) c = left_after calls c × (ok ≡ true → c ≡ seen_after calls)
+left_after (promised ∷ calls) c = left_after calls c
 
 -- what a crash might have left since the moment t, in the course of a call or between two
 abbrev pub left_during : List Call → ℕ → List ℕ → Type 0
@@ -43,6 +49,31 @@ failures (opened bytes ∷ calls) = failures calls
 failures (wrote at bytes ok ∷ calls) = failure ok + failures calls
 failures (trimmed len ok ∷ calls) = failure ok + failures calls
 failures (synced ok ∷ calls) = failure ok + failures calls
+failures (promised ∷ calls) = failures calls
+
+-- the groups that were promised last; of a file that was just opened there are none
+abbrev pub promised_after : List Call → List (List ℕ)
+promised_after [] = []
+promised_after (opened bytes ∷ calls) = []
+promised_after (wrote at bytes ok ∷ calls) = promised_after calls
+promised_after (trimmed len ok ∷ calls) = promised_after calls
+promised_after (synced ok ∷ calls) = promised_after calls
+promised_after (promised ∷ calls) = recovered (seen_after calls)
+
+-- each write began within the file
+abbrev pub are_inside : List Call → Bool
+are_inside [] = true
+are_inside (opened bytes ∷ calls) = true
+are_inside (wrote at bytes ok ∷ calls) = nat_le at (length (seen_after calls)) && are_inside calls
+are_inside (trimmed len ok ∷ calls) = are_inside calls
+are_inside (synced ok ∷ calls) = are_inside calls
+are_inside (promised ∷ calls) = are_inside calls
+
+-- whatever a crash leaves after calls that began within the file begins with these groups
+abbrev pub Keeps : List Call → List (List ℕ) → Type 0
+Keeps calls groups =
+    (are_inside calls ≡ true)
+    × ((file : List ℕ) → left_after calls file → take (length groups) (recovered file) ≡ groups)
 
 pub counts : (calls : List Call) (t : ℕ) (c : List ℕ) → t ≤ length calls → left_after calls c → left_during calls t c
 counts [] t c le now = now

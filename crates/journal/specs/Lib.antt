@@ -2,3 +2,4 @@ pub mod Calls
 pub mod Disk
 pub mod Groups
 pub mod Reading
+pub mod Promises

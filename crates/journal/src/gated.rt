@@ -35,11 +35,12 @@ pub fn behind_gate(alloc: Global, group: &[u8]) -> Result<Vec<u8>, AllocError>
 }
 
 impl<D: Disk> GatedFile<D> {
-    /// Adds a group. At `Ok` it is acknowledged: from then on each crash leaves a file that has it.
+    /// Adds a group. At `Ok` it is on the disk: from then on each crash leaves a file that has it.
     pub(crate) fn append(&mut self, alloc: Global, group: &[u8]) -> Result<(), DiskError>
         requires settled { IsSettled D.seen D.may_leave self.old }
         requires short { length group.now ≤ 2 ^ 49 }
 
+        ensures promised { D.promised self.new.disk ≡ D.promised self.old.disk }
         ensures acknowledged { OnOk result (IsSettled D.seen D.may_leave self.new
             × (recovered (D.seen self.new.disk) ≡ recovered (D.seen self.old.disk) ++ group.now ∷ [])) }
 
@@ -68,6 +69,7 @@ impl<D: Disk> GatedFile<D> {
 pub(crate) fn repair<D: Disk>(disk: &mut D, end: usize) -> Result<(), DiskError>
     requires end { end ≡ length (blocks (recovered (D.seen disk.old))) }
     requires durable { Only (D.seen disk.old) (D.may_leave disk.old) }
+    ensures promised { D.promised disk.new ≡ D.promised disk.old }
     ensures at_rest { OnOk result (D.seen disk.new ≡ at_rest (recovered (D.seen disk.old))) }
     ensures same { OnOk result (recovered (D.seen disk.new) ≡ recovered (D.seen disk.old)) }
     ensures durable { OnOk result (Only (D.seen disk.new) (D.may_leave disk.new)) }

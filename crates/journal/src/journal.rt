@@ -3,13 +3,15 @@ ghost use Rattle.std.specs.Prelude.{◌≡◌, ◌<◌, ◌≤◌, ◌^◌, ◌+
 ghost use Rattle.journal.specs.Disk.{Only, LeavesOnly};
 ghost use Rattle.journal.specs.Groups.{recovered, blocks, behind, at_rest, lists, AreTorn, IsSettled, IsBeforeOrAfter, IsMending, IsAppending};
 
+use crate::disk::promise_all;
 use crate::gated::{GatedFile, repair};
 use crate::torn::KeepsTorn;
 use crate::{Disk, DiskError};
 use std::alloc::Global;
 use std::marker::Model;
 
-/// A file that was read and is unchanged. To a contract it is its disk.
+/// A file that was read and is unchanged. All its groups are promised: they may have been told in an earlier run. To a
+/// contract it is its disk.
 #[derive(Drop)]
 pub struct Found<D: Disk> {
     disk: D,
@@ -22,10 +24,11 @@ impl<D: Disk> Model for Found<D> {
     ghost view = { λ found. found.disk };
 
     ghost invariant = { λ found. (found.end ≡ length (blocks (recovered (D.seen found.disk))))
-        × Only (D.seen found.disk) (D.may_leave found.disk) };
+        × Only (D.seen found.disk) (D.may_leave found.disk)
+        × (D.promised found.disk ≡ recovered (D.seen found.disk)) };
 }
 
-/// An open journal, all of it on the disk. To a contract it is its disk.
+/// An open journal, all of it on the disk and promised. To a contract it is its disk.
 #[derive(Drop)]
 pub struct Journal<D: Disk> {
     file: GatedFile<D>,
@@ -36,16 +39,19 @@ impl<D: Disk> Model for Journal<D> {
 
     ghost view = { λ journal. journal.file.disk };
 
-    ghost invariant = { λ journal. IsSettled D.seen D.may_leave journal.file };
+    ghost invariant = { λ journal. IsSettled D.seen D.may_leave journal.file
+        × (D.promised journal.file.disk ≡ recovered (D.seen journal.file.disk)) };
 }
 
 impl<D: Disk> Found<D> {
-    /// A file whose groups reach so far.
+    /// A file whose groups reach so far. They are promised.
     pub(crate) fn new(disk: D, end: usize) -> Found<D>
         requires end { end ≡ length (blocks (recovered (D.seen disk))) }
         requires durable { Only (D.seen disk) (D.may_leave disk) }
-        ensures { result ≡ disk }
+        ensures { D.seen result ≡ D.seen disk }
     {
+        let mut disk = disk;
+        promise_all(&mut disk);
         Found { disk, end }
     }
 
@@ -55,6 +61,7 @@ impl<D: Disk> Found<D> {
         requires kept { AreTorn (D.seen self) (T.bytes kept.now) }
         ensures at_rest { IfOk result (λ journal. D.seen journal ≡ at_rest (recovered (D.seen self))) }
         ensures same { IfOk result (λ journal. recovered (D.seen journal) ≡ recovered (D.seen self)) }
+        ensures promised_err { IfErr result (λ e. D.promised e.1 ≡ recovered (D.seen self)) }
         ensures any_moment { IfOk result (λ journal. LeavesOnly D.moment D.left_since self journal
             (λ c. recovered c ≡ recovered (D.seen self))) }
         ensures any_moment_err { IfErr result (λ e. LeavesOnly D.moment D.left_since self e.1
@@ -79,7 +86,9 @@ impl<D: Disk> Found<D> {
 
     /// The disk, which is as it was read.
     pub fn into_disk(self) -> D
-        ensures { result ≡ self }
+        ensures same { result ≡ self }
+        ensures durable { Only (D.seen result) (D.may_leave result) }
+        ensures promised { D.promised result ≡ recovered (D.seen result) }
     {
         let Found { disk, end: _ } = self;
         disk
@@ -87,12 +96,13 @@ impl<D: Disk> Found<D> {
 }
 
 impl<D: Disk> Journal<D> {
-    /// Adds a group. With the journal that comes back it is acknowledged: it is on the disk, and from then on each
-    /// crash leaves a file that has it. At `Err`, which hands the disk back, read the file again.
+    /// Adds a group. With the journal that comes back it is acknowledged: it is on the disk and promised, and from then
+    /// on each crash leaves a file that has it. At `Err`, which hands the disk back, read the file again.
     pub fn append(self, alloc: Global, group: &[u8]) -> Result<Journal<D>, (DiskError, D)>
         requires { length group.now ≤ 2 ^ 49 }
         ensures acknowledged { IfOk result (λ journal.
             recovered (D.seen journal) ≡ recovered (D.seen self) ++ group.now ∷ []) }
+        ensures promised_err { IfErr result (λ e. D.promised e.1 ≡ recovered (D.seen self)) }
         // A crash at any moment of the call leaves the groups from before it, with the new one whole or without.
         ensures any_moment { IfOk result (λ journal. LeavesOnly D.moment D.left_since self journal
             (IsBeforeOrAfter (recovered (D.seen self)) group.now)) }
@@ -109,7 +119,10 @@ impl<D: Disk> Journal<D> {
     {
         let Journal { mut file } = self;
         match file.append(alloc, group) {
-            Ok(()) => Ok(Journal { file }),
+            Ok(()) => {
+                promise_all(&mut file.disk);
+                Ok(Journal { file })
+            }
             Err(error) => {
                 let GatedFile { disk, size: _ } = file;
                 Err((error, disk))
@@ -117,10 +130,19 @@ impl<D: Disk> Journal<D> {
         }
     }
 
+    /// Its disk, which has promised all its groups.
+    pub fn disk(&self) -> &D
+        ensures same { result.now ≡ self.now }
+        ensures promised { D.promised result.now ≡ recovered (D.seen result.now) }
+    {
+        &self.file.disk
+    }
+
     /// The disk: a crash leaves it as it reads.
     pub fn into_disk(self) -> D
         ensures same { result ≡ self }
         ensures durable { Only (D.seen result) (D.may_leave result) }
+        ensures promised { D.promised result ≡ recovered (D.seen result) }
     {
         let Journal { file } = self;
         let GatedFile { disk, size: _ } = file;

@@ -21,6 +21,10 @@
 //! range of a write, and any length between. `specs/Groups` says what a file stands for; `specs/Calls` is a disk as
 //! the list of its calls, for those who make one.
 //!
+//! Groups that were read of a file, and those that were acknowledged, are promised ([`Disk::promise`]). A call that
+//! changes the file requires that no crash in the course of it breaks a promise (`specs/Promises`), so at no moment a
+//! crash leaves less than was promised until then, also in a run that is cut off or never ends.
+//!
 //! ```text
 //! let mut unread = UnreadJournal::new(alloc, file);
 //! while let Some(group) = unread.next_group(alloc)? {..}  // look at each before anything is written

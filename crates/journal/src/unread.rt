@@ -33,11 +33,12 @@ pub trait UnreadDisk {
         ensures known { holds self.new ≡ holds self.old }
         ensures cause { HasCause (faults self.old) (faults self.new) result };
 
-    /// The file, which is on the disk as it was read.
+    /// The file, which is on the disk as it was read. Nothing of it was promised.
     fn into_whole(self) -> Self::Whole
         requires { is_ended self }
         ensures seen { Self.Whole.seen result ≡ taken self }
-        ensures durable { Only (Self.Whole.seen result) (Self.Whole.may_leave result) };
+        ensures durable { Only (Self.Whole.seen result) (Self.Whole.may_leave result) }
+        ensures promised { Self.Whole.promised result ≡ [] };
 
     /// What is known of the file is so.
     ghost as_known: { (unread : Self) → IfSome (holds unread) (BeginsAsRead (taken unread) (is_ended unread)) };

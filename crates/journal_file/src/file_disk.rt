@@ -1,8 +1,9 @@
 //! Each method makes one call of the system, and then notes it with its answer.
 ghost use Rattle.std.specs.Prelude.{◌≡◌, ◌+◌, length, true, None, IfOk, IfErr};
-ghost use Rattle.journal.specs.Calls.{seen_after, left_after, left_during, failures, counts, only};
+ghost use Rattle.journal.specs.Calls.{seen_after, left_after, left_during, promised_after, failures, counts, only};
+ghost use Rattle.journal.proofs.CallLaws.{may_be_read, still_left};
 ghost use Rattle.journal_file.specs.Missing.{NamesMissing};
-ghost use Rattle.journal_file.specs.Parts.{bytes_of, calls_on};
+ghost use Rattle.journal_file.specs.Parts.{bytes_of, calls_on, KeepsPromises};
 ghost use Rattle.journal_file.specs.declared.file_disk.OpenError.TheVariants.{Io};
 
 use crate::no_journal::NoJournal;
@@ -94,6 +95,7 @@ pub struct FileDisk<O: Drop> {
     // What it held as it was opened, part by part, and the calls since. No memory holds them.
     first: GhostList<Vec<u8>>,
     transcript: Transcript,
+    ghost kept: { KeepsPromises first.items transcript.calls },
 }
 
 /// A file of the operating system that was opened, and is read part by part. After a read that fails, each further one
@@ -257,11 +259,23 @@ impl<O: OpenFile + JournalFile + Drop> Disk for FileDisk<O> {
 
     ghost left_since = { λ f. left_during (calls_on f.first.items f.transcript.calls) };
 
+    ghost promised = { λ f. promised_after (calls_on f.first.items f.transcript.calls) };
+
     ghost faults = { λ f. failures (calls_on f.first.items f.transcript.calls) };
 
     ghost counts_now = { λ f. counts (calls_on f.first.items f.transcript.calls) };
 
     ghost only_now = { λ f. only (calls_on f.first.items f.transcript.calls) };
+
+    ghost leaves = { λ f. may_be_read (calls_on f.first.items f.transcript.calls)
+        (promised_after (calls_on f.first.items f.transcript.calls)) f.kept };
+
+    ghost keeps = { λ f. still_left (calls_on f.first.items f.transcript.calls)
+        (promised_after (calls_on f.first.items f.transcript.calls)) f.kept };
+
+    fn promise(&mut self) {
+        self.transcript.promised();
+    }
 
     fn write_at(&mut self, at: usize, bytes: &[u8]) -> Result<(), DiskError> {
         if !self.is_failed && self.file.write_all_at(bytes, at as u64).is_ok() {

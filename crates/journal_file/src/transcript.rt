@@ -1,7 +1,7 @@
 //! The calls on a file, which only clauses read: no memory holds them.
 ghost use Rattle.std.specs.Prelude.{◌≡◌, List, [], ◌∷◌};
 ghost use Rattle.std.specs.Borrow.{ftrue};
-ghost use Rattle.journal.specs.Calls.{Call, wrote, trimmed, synced};
+ghost use Rattle.journal.specs.Calls.{Call, wrote, trimmed, synced, promised};
 
 use std::marker::{Model, PhantomData};
 
@@ -39,5 +39,10 @@ impl Transcript {
     /// The file was synced, or that failed.
     pub(crate) fn synced(&mut self, _done: bool)
         ensures { self.new.calls ≡ synced _done ∷ self.old.calls }
+    {}
+
+    /// What a read stands for was promised.
+    pub(crate) fn promised(&mut self)
+        ensures { self.new.calls ≡ promised ∷ self.old.calls }
     {}
 }

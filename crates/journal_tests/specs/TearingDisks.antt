@@ -1,5 +1,5 @@
 -- What a disk in memory shows.
-use Rattle.std.specs.Prelude.{ℕ, List}
+use Rattle.std.specs.Prelude.{◌≡◌, ℕ, List, []}
 use Rattle.journal.specs.Disk.{Only}
 use Rattle.journal.specs.Calls.{seen_after, left_after}
 use Rattle.journal_tests.specs.DiskCalls.{calls_of}
@@ -11,3 +11,7 @@ disk_bytes disk = seen_after (calls_of disk.first.items disk.calls)
 -- all of it is on the disk
 abbrev pub IsOnDisk : TearingDisk → Type 0
 IsOnDisk disk = Only (disk_bytes disk) (left_after (calls_of disk.first.items disk.calls))
+
+-- nothing of it was promised
+abbrev pub IsFresh : TearingDisk → Type 0
+IsFresh disk = disk.promised.items ≡ []

@@ -1,9 +1,11 @@
 //! A disk in memory that a crash may tear: it keeps its calls, so that what a crash leaves can be made of them.
-ghost use Rattle.std.specs.Prelude.{◌≡◌, ◌≤◌, length, take, drop, IfOk};
-ghost use Rattle.journal.specs.Calls.{seen_after, left_after, left_during, failures, counts, only};
-ghost use Rattle.journal_tests.specs.DiskCalls.{calls_of};
+ghost use Rattle.std.specs.Prelude.{◌≡◌, ◌≤◌, [], length, take, drop, IfOk};
+ghost use Rattle.journal.specs.Calls.{Keeps, seen_after, left_after, left_during, failures, counts, only};
+ghost use Rattle.journal.proofs.CallLaws.{may_be_read, still_left};
+ghost use Rattle.journal_tests.specs.DiskCalls.{calls_of, promised_in};
 
 use crate::tearing::{Dice, tear, write_over};
+use ghost_list::GhostList;
 use journal::{Disk, DiskError};
 use std::alloc::{AllocError, Global};
 use std::collections::LinkedList;
@@ -36,11 +38,14 @@ pub struct TearingDisk {
     calls: LinkedList<DiskCall>,
     /// The call before which there are so many is refused, and none after it.
     refused: Option<usize>,
+    // What a read returned when it was promised last. No memory holds it.
+    promised: GhostList<Vec<u8>>,
     ghost same: { bytes.items ≡ seen_after (calls_of first.items calls) },
+    ghost kept: { Keeps (calls_of first.items calls) (promised_in promised.items) },
 }
 
 impl TearingDisk {
-    ghost use Rattle.journal_tests.specs.TearingDisks.{disk_bytes, IsOnDisk};
+    ghost use Rattle.journal_tests.specs.TearingDisks.{disk_bytes, IsFresh, IsOnDisk};
 
     /// A file with these bytes, all of them on the disk. One call may be refused, the one before which there are so
     /// many.
@@ -51,6 +56,7 @@ impl TearingDisk {
     ) -> Result<TearingDisk, AllocError>
         ensures bytes { IfOk result (λ disk. disk_bytes disk ≡ bytes.now) }
         ensures durable { IfOk result IsOnDisk }
+        ensures fresh { IfOk result IsFresh }
     {
         Ok(TearingDisk {
             alloc,
@@ -58,6 +64,7 @@ impl TearingDisk {
             first: Vec::from_slice(alloc, bytes)?,
             calls: LinkedList::new(alloc),
             refused,
+            promised: GhostList::new(),
         })
     }
 
@@ -132,11 +139,23 @@ impl Disk for TearingDisk {
 
     ghost left_since = { λ d. left_during (calls_of d.first.items d.calls) };
 
+    ghost promised = { λ d. promised_in d.promised.items };
+
     ghost faults = { λ d. failures (calls_of d.first.items d.calls) };
 
     ghost counts_now = { λ d. counts (calls_of d.first.items d.calls) };
 
     ghost only_now = { λ d. only (calls_of d.first.items d.calls) };
+
+    ghost leaves = { λ d. may_be_read (calls_of d.first.items d.calls) (promised_in d.promised.items) d.kept };
+
+    ghost keeps = { λ d. still_left (calls_of d.first.items d.calls) (promised_in d.promised.items) d.kept };
+
+    fn promise(&mut self) {
+        let mut promised = GhostList::new();
+        promised.push(&self.bytes);
+        self.promised = promised;
+    }
 
     fn write_at(&mut self, at: usize, bytes: &[u8]) -> Result<(), DiskError> {
         if self.refuses() {

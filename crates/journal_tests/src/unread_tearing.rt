@@ -1,6 +1,6 @@
 //! A disk in memory before it is one: its file is read in small parts.
 ghost use Rattle.std.specs.Prelude.{◌≡◌, ◌≤◌, Some, length, take, true, IfOk};
-ghost use Rattle.journal_tests.specs.TearingDisks.{disk_bytes, IsOnDisk};
+ghost use Rattle.journal_tests.specs.TearingDisks.{disk_bytes, IsFresh, IsOnDisk};
 
 use crate::TearingDisk;
 use journal::{DiskError, UnreadDisk};
@@ -16,6 +16,7 @@ pub struct UnreadTearing {
     place: usize,
     is_ended: bool,
     ghost durable: { IsOnDisk disk },
+    ghost fresh: { IsFresh disk },
     ghost inside: { place ≤ length (disk_bytes disk) },
     ghost ended: { is_ended ≡ true → place ≡ length (disk_bytes disk) },
 }

@@ -4,11 +4,12 @@ use Rattle.std.proofs.Common.{sym, ◌∙◌, ap, subst, Result, Ok, Err, arith}
 use Rattle.std.specs.Prelude.{IfErr}
 use Rattle.std.proofs.lemmas.List.{length-append, length-take-le, take_all, take-append-drop, take-append-le}
 use Rattle.journal.specs.Disk.{LeavesOnly, Only}
+use Rattle.journal.specs.Groups.{recovered}
 use Rattle.journal.proofs.MomentLaws.{leaves, stays}
 use Rattle.row_store.specs.History.{CommitRecord, IsPrefix}
 use Rattle.ssb_journal.specs.declared.head.TableMark.{TableMark}
 use Rattle.ssb_journal.specs.Kept.{KeepsCommits, KeepsWithOrWithout}
-use Rattle.ssb_journal.specs.Counts.{Begun, IsLeft, KeepsBeginning, KeepsFirst, KeepsSince}
+use Rattle.ssb_journal.specs.Counts.{Begun, HaveFirst, IsLeft, KeepsBeginning, KeepsFirst, KeepsSince}
 
 -- a beginning of a log, with fewer commits at least
 beginning_of_fewer : (least count : ℕ) (log : List CommitRecord) (file : List ℕ) → least ≤ count → KeepsBeginning count log file → KeepsBeginning least log file
@@ -87,6 +88,20 @@ module _ {D : Type 0} (moment : D → ℕ) (left_since : D → ℕ → List ℕ 
     crash = λ file left. run.each file (counts_now new (moment old) file run.later left);
     written = λ is. cc;
   }
+
+-- the groups of a file that keeps the first commits of a log
+pub have_first : (count : ℕ) (log : List CommitRecord) (file : List ℕ) (groups : List (List ℕ)) → KeepsFirst count log file
+    → groups ≡ recovered file → HaveFirst count log groups
+have_first count log file groups first are =
+    let keeps = first.keeps in
+    record {
+      form = keeps.is_journal.0;
+      marks = first.marks;
+      texts = keeps.texts;
+      sealed = are ∙ keeps.is_journal.1;
+      spelled = keeps.spelled;
+      inside = first.inside;
+    }
 
 -- what is left of a journal that is on the disk
 pub left_whole : (may_leave : List ℕ → Type 0) (seen : List ℕ) (count : ℕ) (log : List CommitRecord) (whole : Bool)

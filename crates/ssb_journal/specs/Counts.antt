@@ -1,15 +1,29 @@
 -- How many commits a journal keeps, and of which log.
 use Rattle.std.specs.Prelude.{◌≡◌, ◌⊎◌, ◌≤◌, List, ℕ, length, take, Bool, true}
 use Rattle.row_store.specs.History.{CommitRecord}
+use Rattle.ssb_journal.specs.declared.head.HeadForm.{HeadForm}
 use Rattle.ssb_journal.specs.declared.head.TableMark.{TableMark}
-use Rattle.ssb_journal.specs.Kept.{KeepsCommits}
+use Rattle.ssb_journal.specs.Kept.{KeepsCommits, SpellCommits}
+use Rattle.ssb_journal.specs.Texts.{AreSealed}
 
--- a file is a journal, and keeps at least so many commits
-pub record KeepsAtLeast (count : ℕ) (file : List ℕ) : Type 0 where
+-- groups are those of a journal that keeps at least so many commits
+pub record HaveAtLeast (count : ℕ) (groups : List (List ℕ)) : Type 0 where
+  pub form : HeadForm
   pub marks : List TableMark
+  pub texts : List (List ℕ)
+  pub sealed : AreSealed form marks texts groups
   pub commits : List CommitRecord
-  pub keeps : KeepsCommits marks commits file
+  pub spelled : SpellCommits texts commits
   pub enough : count ≤ length commits
+
+-- groups are those of a journal that keeps the first commits of a log, so many of them, and no others
+pub record HaveFirst (count : ℕ) (log : List CommitRecord) (groups : List (List ℕ)) : Type 0 where
+  pub form : HeadForm
+  pub marks : List TableMark
+  pub texts : List (List ℕ)
+  pub sealed : AreSealed form marks texts groups
+  pub spelled : SpellCommits texts (take count log)
+  pub inside : count ≤ length log
 
 -- a file is a journal, and keeps the first commits of a log, so many of them, and no others
 pub record KeepsFirst (count : ℕ) (log : List CommitRecord) (file : List ℕ) : Type 0 where

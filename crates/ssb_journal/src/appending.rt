@@ -2,6 +2,7 @@
 ghost use Rattle.std.specs.Prelude.{◌≡◌, ◌⊎◌, ◌<◌, ◌≤◌, ◌^◌, ◌++◌, List, length, IfOk, IfErr};
 ghost use Rattle.std.specs.List.{AllByRecursion};
 ghost use Rattle.journal.specs.Disk.{LeavesOnly};
+ghost use Rattle.journal.specs.Groups.{recovered};
 ghost use Rattle.row_store.specs.History.{CommitRecord};
 ghost use Rattle.ssb_journal.specs.Seals.{sealed};
 ghost use Rattle.ssb_journal.specs.declared.head.TableMark.{TableMark};
@@ -31,8 +32,8 @@ fn group_of(alloc: Global, commits: Vec<Commit>) -> Result<Vec<u8>, DiskError>
     Ok(group)
 }
 
-/// Appends commits as one group. With the journal that comes back they are acknowledged: they are on the disk, and from
-/// then on each crash leaves a file that keeps them. At `Err`, which hands the disk back, open the file again.
+/// Appends commits as one group. With the journal that comes back they are acknowledged: they are on the disk and
+/// promised, and from then on each crash leaves a file that keeps them. At `Err`, which hands the disk back, open the file again.
 pub fn append_commits<D: Disk>(
     alloc: Global,
     journal: Journal<D>,
@@ -41,6 +42,7 @@ pub fn append_commits<D: Disk>(
     requires { AllByRecursion (λ commit. IsClient commit.client) commits.items }
     ensures acknowledged { IfOk result (λ after. (marks : List TableMark) (before : List CommitRecord)
         → KeepsCommits marks before (D.seen journal) → KeepsCommits marks (before ++ commits.items) (D.seen after)) }
+    ensures promised_err { IfErr result (λ e. D.promised e.1 ≡ recovered (D.seen journal)) }
     // A crash at any moment of the call leaves the commits from before it, with the new ones all or without them.
     ensures any_moment { IfOk result (λ after. (marks : List TableMark) (before : List CommitRecord)
         → KeepsCommits marks before (D.seen journal)

@@ -4,7 +4,7 @@ ghost use Rattle.std.specs.List.{AllByRecursion};
 ghost use Rattle.journal.specs.Disk.{LeavesOnly};
 ghost use Rattle.row_store.specs.History.{IsPrefix};
 ghost use Rattle.ssb_trace.specs.Allowed.{IsClient};
-ghost use Rattle.ssb_journal.specs.Counts.{IsLeft, KeepsBeginning, KeepsFirst, KeepsSince};
+ghost use Rattle.ssb_journal.specs.Counts.{HaveFirst, IsLeft, KeepsBeginning, KeepsFirst, KeepsSince};
 ghost use Rattle.ssb_journal.specs.Kept.{HasNoRoom};
 
 use crate::appending::append_commits;
@@ -37,7 +37,7 @@ impl<D: Disk, L: LogSource> Model for JournaledLog<D, L> {
 }
 
 /// What is left of a journal beside a log, when nothing is appended any more: the disk, the log, and how many of its
-/// commits are on the disk, whatever crashes.
+/// commits are on the disk, whatever crashes. They are those that the disk has promised.
 #[derive(Drop)]
 pub struct LeftLog<D: Disk, L: LogSource> {
     disk: D,
@@ -47,7 +47,7 @@ pub struct LeftLog<D: Disk, L: LogSource> {
 }
 
 impl<D: Disk, L: LogSource> Model for LeftLog<D, L> {
-    ghost use Rattle.ssb_journal.specs.Counts.{LeftJournal, IsLeft, KeepsSince};
+    ghost use Rattle.ssb_journal.specs.Counts.{LeftJournal, HaveFirst, IsLeft, KeepsSince};
 
     ghost Value = { LeftJournal D L };
 
@@ -55,7 +55,7 @@ impl<D: Disk, L: LogSource> Model for LeftLog<D, L> {
 
     ghost invariant = { λ left. IsLeft (D.may_leave left.disk) (D.seen left.disk) left.count (L.log left.source)
         left.is_whole × KeepsSince L.begun (D.moment left.disk) (D.left_since left.disk) left.count
-        (L.log left.source) };
+        (L.log left.source) × HaveFirst left.count (L.log left.source) (D.promised left.disk) };
 }
 
 impl<D: Disk, L: LogSource> LeftLog<D, L> {
@@ -63,6 +63,7 @@ impl<D: Disk, L: LogSource> LeftLog<D, L> {
     pub fn read_only(disk: D, source: L, count: u64) -> LeftLog<D, L>
         requires left { IsLeft (D.may_leave disk) (D.seen disk) count (L.log source) false }
         requires since { KeepsSince L.begun (D.moment disk) (D.left_since disk) count (L.log source) }
+        requires promised { HaveFirst count (L.log source) (D.promised disk) }
         ensures { result ≡ record { disk = disk; source = source; count = count; whole = false } }
     {
         LeftLog {
@@ -73,11 +74,12 @@ impl<D: Disk, L: LogSource> LeftLog<D, L> {
         }
     }
 
-    /// How many commits are on the disk, whatever crashes.
-    pub(crate) fn count(&self) -> u64
-        ensures { result ≡ self.now.count }
+    /// The evidence of the commits that are on the disk.
+    pub(crate) fn on_disk(&self) -> OnDisk<D>
+        ensures commits { result.commits ≡ self.now.count }
+        ensures promised { HaveFirst self.now.count (L.log self.now.source) (D.promised self.now.disk) }
     {
-        self.count
+        OnDisk::of(&self.disk, self.count)
     }
 
     /// The disk, the log, how many of its commits are on the disk, and whether the journal was written to the end.
@@ -85,6 +87,7 @@ impl<D: Disk, L: LogSource> LeftLog<D, L> {
         ensures same { self ≡ record { disk = result.0; source = result.1; count = result.2; whole = result.3 } }
         ensures left { IsLeft (D.may_leave result.0) (D.seen result.0) result.2 (L.log result.1) result.3 }
         ensures since { KeepsSince L.begun (D.moment result.0) (D.left_since result.0) result.2 (L.log result.1) }
+        ensures promised { HaveFirst result.2 (L.log result.1) (D.promised result.0) }
     {
         let LeftLog {
             disk,
@@ -152,11 +155,12 @@ impl<D: Disk + Drop, L: LogSource + Drop> JournaledLog<D, L> {
         }
     }
 
-    /// The evidence of the commits that it keeps.
+    /// The evidence of the commits that it keeps: its disk has promised them.
     pub fn on_disk(&self) -> OnDisk<D>
-        ensures { result.commits ≡ self.now.count }
+        ensures commits { result.commits ≡ self.now.count }
+        ensures promised { HaveFirst self.now.count (L.log self.now.source) (D.promised self.now.disk) }
     {
-        OnDisk::of(&self.journal, self.count)
+        OnDisk::of(self.journal.disk(), self.count)
     }
 
     /// Looks at the log, and appends all of its commits that the journal lacks, as one group: then they are on the

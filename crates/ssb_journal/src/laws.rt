@@ -1,15 +1,16 @@
 //! What holds of every journal: each law is the contract of a function that does nothing.
-ghost use Rattle.std.specs.Prelude.{◌≡◌, List, ℕ, [], length, true, false};
+ghost use Rattle.std.specs.Prelude.{◌≡◌, List, ℕ, [], length, take, true, false};
 ghost use Rattle.journal.specs.Groups.{recovered, behind};
 ghost use Rattle.row_store.specs.History.{CommitRecord, IsPrefix};
 ghost use Rattle.ssb_journal.specs.declared.fault.JournalFault.{JournalFault};
 ghost use Rattle.ssb_journal.specs.declared.head.TableMark.{TableMark};
 ghost use Rattle.ssb_journal.specs.declared.kept.KeptCommits.{KeptCommits};
-ghost use Rattle.ssb_journal.specs.Counts.{KeepsFirst};
-ghost use Rattle.ssb_journal.specs.Kept.{KeepsCommits};
+ghost use Rattle.ssb_journal.specs.Counts.{HaveFirst, KeepsFirst};
+ghost use Rattle.ssb_journal.specs.Kept.{BeginsWithCommits, KeepsCommits};
 ghost use Rattle.ssb_journal.specs.Opening.{IsKept, IsOpenFault};
 ghost use Rattle.ssb_journal.specs.Texts.{IsJournalOf, IsNewJournal};
 
+use journal::Disk;
 use ssb_trace::one_reading;
 
 /// A file is a journal of one list of texts, over tables of one list of marks.
@@ -47,3 +48,12 @@ pub fn new_journal_is_opened()
     ensures { (marks : List TableMark) (file : List ℕ) (fault : JournalFault)
         → IsNewJournal marks file → IsOpenFault marks (recovered file) (behind file) fault → ⊥ }
 {}
+
+/// Whatever a crash leaves of a disk that has promised commits begins with a journal of them.
+pub fn promised_commits_are_left<D: Disk>(disk: &D)
+    ensures { (count : ℕ) (log : List CommitRecord) (file : List ℕ)
+        → HaveFirst count log (D.promised disk.now) → D.may_leave disk.now file
+        → (marks : List TableMark) × BeginsWithCommits marks (take count log) file }
+{
+    let _disk = disk;
+}

@@ -24,11 +24,12 @@
 //! (`specs/Counts`: `KeepsFirst`). Threads share it as a [`SharedJournal`]. Who has to tell a client of a commit asks
 //! [`SharedJournal::reach`] for its number. If the journal is there, it takes it away, appends all commits of the log
 //! that the journal lacks as one group, puts it back and wakes the others; else it waits. What is committed meanwhile
-//! is the next group. An [`OnDisk`] is made only of an open journal that keeps so many commits (`KeepsAtLeast`), or of
-//! what is left of one, and bears the type of its disk: who tells of a commit holds one of at least its number. At the
-//! end, and where an append has failed, disk and log come back as a [`LeftLog`]: whatever crashes then, so many commits
-//! are on the disk (`IsLeft`). Where a journal cannot be written, it is shared to be read alone
-//! ([`SharedJournal::read_only`]).
+//! is the next group. An [`OnDisk`] is made only of a disk that has promised so many commits (`HaveAtLeast`), and bears
+//! its type: who tells of a commit holds one of at least its number. No call of a disk breaks a promise, so a crash at
+//! any moment, also of a run that never ends, leaves all that was told until then
+//! (`laws::promised_commits_are_left`). At the end, and where an append has failed, disk and log come back as a
+//! [`LeftLog`]: whatever crashes then, so many commits are on the disk (`IsLeft`), and promised. Where a journal cannot
+//! be written, it is shared to be read alone ([`SharedJournal::read_only`]).
 //!
 //! ```text
 //! let mut reader = open(alloc, &marks, file)?;

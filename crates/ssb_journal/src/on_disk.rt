@@ -1,14 +1,12 @@
 //! The evidence that so many commits are on the disk.
 ghost use Rattle.std.specs.Prelude.{◌≡◌};
-ghost use Rattle.ssb_journal.specs.Counts.{KeepsAtLeast};
+ghost use Rattle.ssb_journal.specs.Counts.{HaveAtLeast};
 
-use crate::journaled_log::LeftLog;
-use crate::source::LogSource;
-use journal::{Disk, Journal};
+use journal::Disk;
 use std::marker::PhantomData;
 
-/// The evidence that the first commits, so many of them, are on a disk of this type: it is made of an open journal on
-/// one that keeps them, or of what is left of one ([`LeftLog`]), and of nothing else. Where the type of the disk is a
+/// The evidence that a disk of this type has promised the first commits, so many of them: whatever crashes from then on
+/// leaves them. It is made of a disk that has promised them, and of nothing else. Where the type of the disk is a
 /// parameter, and one disk of it was given, the evidence is of that disk: there is no other.
 #[derive(Drop)]
 pub struct OnDisk<D> {
@@ -17,24 +15,14 @@ pub struct OnDisk<D> {
 }
 
 impl<D: Disk> OnDisk<D> {
-    /// The evidence of a journal that keeps so many commits.
-    pub fn of(journal: &Journal<D>, commits: u64) -> OnDisk<D>
-        requires { KeepsAtLeast commits (D.seen journal.now) }
+    /// The evidence of a disk that has promised so many commits.
+    pub fn of(disk: &D, commits: u64) -> OnDisk<D>
+        requires { HaveAtLeast commits (D.promised disk.now) }
         ensures { result.commits ≡ commits }
     {
-        let _evidence = journal;
+        let _evidence = disk;
         OnDisk {
             commits,
-            of: PhantomData,
-        }
-    }
-
-    /// The evidence of what is left of a journal: its commits are on the disk, whatever crashes.
-    pub(crate) fn of_left<L: LogSource>(left: &LeftLog<D, L>) -> OnDisk<D>
-        ensures { result.commits ≡ left.now.count }
-    {
-        OnDisk {
-            commits: left.count(),
             of: PhantomData,
         }
     }

@@ -46,6 +46,8 @@ pub fn begin<D: Disk, T: KeepsTorn>(
     requires kept { AreTorn (D.seen found) (T.bytes kept.now) }
     ensures same { is_new ≡ false → IfOk result (λ journal. recovered (D.seen journal) ≡ recovered (D.seen found)) }
     ensures made { is_new ≡ true → IfOk result (λ journal. IsJournalOf marks.now [] (D.seen journal)) }
+    // The groups that were there stay promised.
+    ensures promised_err { IfErr result (λ e. D.promised e.1 ≡ recovered (D.seen found)) }
     // A crash at any moment leaves the groups as they were, or a new journal.
     ensures any_moment { IfOk result (λ journal. LeavesOnly D.moment D.left_since found journal
         (IsAsItWasOrNew marks.now (recovered (D.seen found)))) }

@@ -50,7 +50,7 @@ fn read_only_turn<D: Disk, L: LogSource, J>(left: &LeftLog<D, L>, commits: u64) 
     ensures enough { HasEnough commits result }
     ensures left { IsReadOnlyTurn left.now.count commits result }
 {
-    let on_disk = OnDisk::of_left(left);
+    let on_disk = left.on_disk();
     if on_disk.commits() >= commits {
         JournalTurn::Reached(on_disk)
     } else {

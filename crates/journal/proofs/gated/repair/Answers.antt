@@ -1,10 +1,12 @@
-use Rattle.std.proofs.Common.{◌≡◌, ℕ, List, [], ◌∷◌, length, ◌∙◌, ap, subst, arith}
+use Rattle.std.proofs.Common.{◌≡◌, ℕ, List, [], ◌∷◌, length, ◌∙◌, ap, subst, sym, arith}
 use Rattle.journal.specs.Disk.{Holds, Torn, Cut}
 use Rattle.journal.specs.Groups.{recovered, IsMending}
+use Rattle.journal.specs.Reading.{HasFirst}
 use Rattle.journal.proofs.GroupLaws.{parts}
 use Rattle.journal.proofs.MomentLaws.{leaves, then_leaves}
 use Rattle.journal.proofs.StepLaws.{inside, cut_keeps, cut_done, torn_end, mending_cut, mending_end, written_end}
 use Rattle.journal.proofs.StepLaws.{recovered-at_rest}
+use Rattle.journal.proofs.PromiseLaws.{still_first}
 use Rattle.journal.proofs.gated.repair.Goals as goal
 
 pub cut_through-requires-clause-inside : goal.cut_through-requires-clause-inside
@@ -83,3 +85,20 @@ returns-clause-torn g c =
     c.cut_through.ensures.any_moment c.write_through.ensures.any_moment
     (mending_cut file end c.requires.end)
     (λ f torn. mending_end file end c.requires.end f (subst (λ (o : List ℕ). Torn end 1 o f) is_cut torn))
+
+-- no step breaks a promise
+pub cut_through-requires-clause-kept : goal.cut_through-requires-clause-kept
+cut_through-requires-clause-kept g c f cut =
+    let old = c.args.disk.now in
+    let file = g.D.Disk.seen old in
+    still_first (g.D.Disk.promised old) file f (g.met.D.Disk.keeps old file (g.met.D.Disk.leaves old)) (cut_keeps file c.args.end c.requires.end f cut)
+
+pub write_through-requires-clause-kept : goal.write_through-requires-clause-kept
+write_through-requires-clause-kept g c f torn =
+    let old = c.args.disk.now in
+    let file = g.D.Disk.seen old in
+    let end = c.args.end in
+    let is_cut = c.in_ok-cut_through.ensures.cut ∙ cut_done file end c.requires.end in
+    subst (λ (groups : List (List ℕ)). HasFirst groups f) (sym c.cut_through.ensures.promised)
+    (still_first (g.D.Disk.promised old) file f (g.met.D.Disk.keeps old file (g.met.D.Disk.leaves old))
+    (torn_end file end c.requires.end f (subst (λ (o : List ℕ). Torn end 1 o f) is_cut torn)))

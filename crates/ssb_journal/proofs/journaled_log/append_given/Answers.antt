@@ -1,6 +1,6 @@
 use Rattle.std.proofs.Common.{arith, subst}
 use Rattle.ssb_journal.specs.Counts.{KeepsFirst}
-use Rattle.ssb_journal.proofs.CountLaws.{counted, keeps_whole, leaves_beginning, left_failed, since_goes_on}
+use Rattle.ssb_journal.proofs.CountLaws.{counted, have_first, keeps_whole, leaves_beginning, left_failed, since_goes_on}
 use Rattle.ssb_journal.proofs.journaled_log.append_given.Goals as goal
 
 pub returns-in-Ok-clause-any_moment : goal.returns-in-Ok-clause-any_moment
@@ -25,4 +25,5 @@ invariant_of-result-in-Err g c =
     let run = leaves_beginning g.D.Disk.moment g.D.Disk.left_since g.D.Disk.seen c.args.count (g.L.LogSource.log c.args.source) c.args.commits.items c.args.journal c.in-Err.disk c.requires.given c.requires.kept c.in-Err.ensures.any_moment_err in (
       left_failed g.D.Disk.moment g.D.Disk.left_since g.D.Disk.seen g.D.Disk.may_leave g.met.D.Disk.counts_now c.args.count (g.L.LogSource.log c.args.source) c.args.journal c.in-Err.disk run,
       since_goes_on g.D.Disk.moment g.D.Disk.left_since g.D.Disk.seen g.L.LogSource.begun c.args.count c.args.count (g.L.LogSource.log c.args.source) c.args.journal c.in-Err.disk (omega arith) c.requires.since run,
+      have_first c.args.count (g.L.LogSource.log c.args.source) (g.D.Disk.seen c.args.journal) (g.D.Disk.promised c.in-Err.disk) c.requires.kept c.in-Err.ensures.promised_err,
     )

@@ -1,10 +1,12 @@
-use Rattle.std.proofs.Common.{◌≡◌, ℕ, ◌+◌, List, [], ◌∷◌, ◌++◌, length, inl, ◌∙◌, ap, subst, arith, length-append}
+use Rattle.std.proofs.Common.{◌≡◌, ℕ, ◌+◌, List, [], ◌∷◌, ◌++◌, length, inl, ◌∙◌, ap, subst, sym, arith, length-append}
 use Rattle.journal.specs.Disk.{Holds, Torn}
 use Rattle.journal.specs.Groups.{recovered, blocks, block, IsBeforeOrAfter, IsAppending}
 use Rattle.journal.proofs.GroupLaws.{parts, all_told_push, blocks-push, length-block}
 use Rattle.journal.proofs.MomentLaws.{leaves, then_leaves}
 use Rattle.journal.proofs.StepLaws.{tail, length-tail, short_told, torn_behind, appending_behind, written_behind}
 use Rattle.journal.proofs.StepLaws.{torn_gate, appending_gate, written_gate, settled}
+use Rattle.journal.proofs.PromiseLaws.{still_first, first_either_way}
+use Rattle.journal.specs.Reading.{HasFirst}
 use Rattle.journal.proofs.gated.GatedFile.append.Goals as goal
 
 -- the first write leaves the groups as they were
@@ -130,3 +132,32 @@ returns-clause-torn g c =
     c.write_through.ensures.any_moment c.write_through-2.ensures.any_moment
     (λ f torn. appending_behind groups size s.size told group f (subst (λ (b : List ℕ). Torn (size + 1) (length b) (blocks groups ++ 48 ∷ []) f) bytes_are (subst (λ (o : List ℕ). Torn (size + 1) n o f) s.file torn)))
     (λ f torn. appending_gate groups size s.size told group f (subst (λ (o : List ℕ). Torn size 1 o f) staged torn))
+
+-- neither write breaks a promise
+pub write_through-requires-clause-kept : goal.write_through-requires-clause-kept
+write_through-requires-clause-kept g c f torn =
+    let s = c.requires.settled in
+    let old = c.args.self.now.disk in
+    let size = c.args.self.now.size in
+    let file = g.D.Disk.seen old in
+    let n = length c.deref.result.now in
+    still_first (g.D.Disk.promised old) file f (g.met.D.Disk.keeps old file (g.met.D.Disk.leaves old))
+    (torn_behind (recovered file) size s.size (parts file).all_told n f (subst (λ (o : List ℕ). Torn (size + 1) n o f) s.file torn))
+
+pub write_through-requires-2-clause-kept : goal.write_through-requires-2-clause-kept
+write_through-requires-2-clause-kept g c f torn =
+    let s = c.requires.settled in
+    let old = c.args.self.now.disk in
+    let size = c.args.self.now.size in
+    let group = c.args.group.now in
+    let file = g.D.Disk.seen old in
+    let groups = recovered file in
+    let told = (parts file).all_told in
+    let bytes = c.deref.result.now in
+    let mid = g.D.Disk.seen c.write_through.new.disk in
+    let bytes_are : bytes ≡ tail group = c.deref.ensures.value ∙ c.in_ok-bytes.ensures in
+    let holds = subst (λ (o : List ℕ). Holds o (size + 1) bytes mid) s.file c.in_ok-write_through.ensures.written in
+    let staged = written_behind groups size s.size told bytes mid holds ∙ ap (λ (l : List ℕ). blocks groups ++ 48 ∷ l) bytes_are in
+    subst (λ (promised : List (List ℕ)). HasFirst promised f) (sym c.write_through.ensures.promised)
+    (first_either_way (g.D.Disk.promised old) file f group (g.met.D.Disk.keeps old file (g.met.D.Disk.leaves old))
+    (torn_gate groups size s.size told group f (short_told group c.requires.short) (subst (λ (o : List ℕ). Torn size 1 o f) staged torn)))

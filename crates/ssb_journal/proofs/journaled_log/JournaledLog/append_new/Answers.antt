@@ -5,7 +5,7 @@ use Rattle.journal.specs.declared.disk.DiskError.TheVariants.{Failed, Full}
 use Rattle.row_store.specs.History.{CommitRecord}
 use Rattle.ssb_journal.specs.Counts.{Journaled, KeepsBeginning, KeepsFirst, KeepsSince}
 use Rattle.ssb_journal.specs.Kept.{HasNoRoom}
-use Rattle.ssb_journal.proofs.CountLaws.{both_err, keeps_of_longer, left_whole, since_of_longer, stays_beginning}
+use Rattle.ssb_journal.proofs.CountLaws.{both_err, have_first, keeps_of_longer, left_whole, since_of_longer, stays_beginning}
 use Rattle.ssb_journal.proofs.journaled_log.JournaledLog.append_new.Goals as goal
 
 pub returns-in-Ok-2-clause-any_moment_err : goal.returns-in-Ok-2-clause-any_moment_err
@@ -32,16 +32,28 @@ returns-in-Err-clause-any_moment_err g c =
     subst (λ (self : Journaled g.row.D.Denot g.row.L.Denot). Left self c.into_disk.result all) c.self.view_is
     (subst (λ (after : g.row.D.Denot). Left before after all) (sym c.into_disk.ensures.same) stayed)
 
+pub invariant_of-result : goal.invariant_of-result
+invariant_of-result g c =
+    let log = g.L.LogSource.log in
+    let journal = c.self.inside.journal in (
+      keeps_of_longer c.self.inside.count (log c.self.inside.source) (log c.commits_from.new.self) (g.D.Disk.seen journal)
+          c.commits_from.ensures.grown c.self.invariant.0,
+      since_of_longer g.L.LogSource.begun (g.D.Disk.moment journal) (g.D.Disk.left_since journal) c.self.inside.count
+          (log c.self.inside.source) (log c.commits_from.new.self) c.commits_from.ensures.grown c.self.invariant.1,
+    )
+
 pub invariant_of-result-in-Err : goal.invariant_of-result-in-Err
 invariant_of-result-in-Err g c =
     let log = g.L.LogSource.log in
     let all = log c.commits_from.new.self in
     let disk = c.into_disk.result in
-    let first : KeepsFirst c.self.inside.count all (g.D.Disk.seen c.self.inside.journal) = keeps_of_longer c.self.inside.count (log c.self.inside.source) all (g.D.Disk.seen c.self.inside.journal) c.commits_from.ensures.grown c.self.invariant.0 in (
-      left_whole (g.D.Disk.may_leave disk) (g.D.Disk.seen disk) c.self.inside.count all false c.into_disk.ensures.durable
-          (subst (λ (d : g.row.D.Denot). KeepsFirst c.self.inside.count all (g.D.Disk.seen d)) (sym c.into_disk.ensures.same) first),
+    let first : KeepsFirst c.self.inside.count all (g.D.Disk.seen disk) =
+    subst (λ (d : g.row.D.Denot). KeepsFirst c.self.inside.count all (g.D.Disk.seen d)) (sym c.into_disk.ensures.same)
+    (keeps_of_longer c.self.inside.count (log c.self.inside.source) all (g.D.Disk.seen c.self.inside.journal) c.commits_from.ensures.grown c.self.invariant.0) in (
+      left_whole (g.D.Disk.may_leave disk) (g.D.Disk.seen disk) c.self.inside.count all false c.into_disk.ensures.durable first,
       subst (λ (d : g.row.D.Denot). KeepsSince g.L.LogSource.begun (g.D.Disk.moment d) (g.D.Disk.left_since d) c.self.inside.count all) (sym c.into_disk.ensures.same)
           (since_of_longer g.L.LogSource.begun (g.D.Disk.moment c.self.inside.journal) (g.D.Disk.left_since c.self.inside.journal) c.self.inside.count (log c.self.inside.source) all c.commits_from.ensures.grown c.self.invariant.1),
+      have_first c.self.inside.count all (g.D.Disk.seen disk) (g.D.Disk.promised disk) first c.into_disk.ensures.promised,
     )
 
 pub returns-in-Ok-2-clause-failed : goal.returns-in-Ok-2-clause-failed
