@@ -80,7 +80,7 @@ impl<D: Disk + Drop> BegunFile<D> {
 
     // The journal beside the log whose first commits it keeps, for the threads of the sessions.
     fn share<L: LogSource + Drop>(self, source: L, count: u64) -> SharedJournal<D, L>
-        requires kept { KeepsBegun D.may_leave D.seen count (L.log source) self }
+        requires kept { KeepsBegun D.may_leave D.seen D.promised count (L.log source) self }
         requires since { KeepsSince L.begun (D.moment (disk_of self)) (D.left_since (disk_of self)) count (L.log source) }
     {
         match self {
@@ -134,6 +134,7 @@ where
     ensures same { is_new ≡ false → IfOk result (λ journal. recovered_groups (D.seen journal)
         ≡ recovered_groups (D.seen found)) }
     ensures made { is_new ≡ true → IfOk result (λ journal. IsJournalOf marks.now [] (D.seen journal)) }
+    ensures promised_err { IfErr result (λ disk. D.promised disk ≡ recovered_groups (D.seen found)) }
     ensures any_moment { IfOk result (λ journal. LeavesOnly D.moment D.left_since found journal
         (IsAsItWasOrNew marks.now (recovered_groups (D.seen found)))) }
     ensures any_moment_err { IfErr result (λ disk. LeavesOnly D.moment D.left_since found disk
@@ -165,7 +166,7 @@ where
     requires kept { IsKept marks.now (recovered_groups (D.seen opened.found)) opened.kept }
     requires torn { AreTorn (D.seen opened.found) opened.torn.items }
     ensures reader { IfOk result (λ begun. begun.reader ≡ reader) }
-    ensures kept { IfOk result (λ begun. KeepsBegun D.may_leave D.seen begun.count begun.reader.seen begun.file) }
+    ensures kept { IfOk result (λ begun. KeepsBegun D.may_leave D.seen D.promised begun.count begun.reader.seen begun.file) }
     ensures count { IfOk result (λ begun. begun.count ≡ length opened.kept.commits.items) }
     ensures any_moment { IfOk result (λ begun. LeavesOnly D.moment D.left_since opened.found (disk_of begun.file)
         (IsAsItWasOrNew marks.now (recovered_groups (D.seen opened.found)))) }
@@ -238,7 +239,7 @@ where
     requires reader { begun.reader.table ≡ server.now }
     requires picked { K.reader ≡ Some begun.reader }
     requires begun { IsBegunOn D.moment D.left_since K.begun (disk_of begun.file) begun.count }
-    requires kept { KeepsBegun D.may_leave D.seen begun.count begun.reader.seen begun.file }
+    requires kept { KeepsBegun D.may_leave D.seen D.promised begun.count begun.reader.seen begun.file }
     ensures served { IfOk result (λ end. AreSpoken S.spoken participants.speakers.items participants.clients.items
         (map (λ one. one.client) end.0.spoken.items) (map (λ one. one.left) end.0.spoken.items)) }
     ensures dispatchers { IfOk result (λ end. AreStill participants.dispatchers.items end.0.dispatchers.items) }

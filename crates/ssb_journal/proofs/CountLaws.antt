@@ -2,13 +2,16 @@
 use Rattle.std.proofs.Common.{◌≡◌, inl, inr, ⊎_elim, ℕ, ◌+◌, ◌≤◌, Bool, false, List, ◌++◌, length, take, drop}
 use Rattle.std.proofs.Common.{sym, ◌∙◌, ap, subst, Result, Ok, Err, arith}
 use Rattle.std.specs.Prelude.{IfErr}
+use Rattle.std.proofs.lemmas.Bool.{both_ways}
 use Rattle.std.proofs.lemmas.List.{length-append, length-take-le, take_all, take-append-drop, take-append-le}
 use Rattle.journal.specs.Disk.{LeavesOnly, Only}
 use Rattle.journal.specs.Groups.{recovered}
 use Rattle.journal.proofs.MomentLaws.{leaves, stays}
 use Rattle.row_store.specs.History.{CommitRecord, IsPrefix}
 use Rattle.ssb_journal.specs.declared.head.TableMark.{TableMark}
-use Rattle.ssb_journal.specs.Kept.{KeepsCommits, KeepsWithOrWithout}
+use Rattle.ssb_journal.specs.declared.kept.KeptCommits.{KeptCommits}
+use Rattle.ssb_journal.specs.Kept.{KeepsCommits, KeepsWithOrWithout, SpellCommits}
+use Rattle.ssb_journal.specs.Opening.{IsKept}
 use Rattle.ssb_journal.specs.Counts.{Begun, HaveFirst, IsLeft, KeepsBeginning, KeepsFirst, KeepsSince}
 
 -- a beginning of a log, with fewer commits at least
@@ -102,6 +105,25 @@ have_first count log file groups first are =
       spelled = keeps.spelled;
       inside = first.inside;
     }
+
+-- the groups of a file whose commits were read have those of the log of who has seen just these
+pub kept_have_first : (marks : List TableMark) (kept : KeptCommits) (groups promised : List (List ℕ)) (seen : List CommitRecord)
+    → IsKept marks groups kept → kept.is_new ≡ false → promised ≡ groups → seen ≡ kept.commits.items
+    → HaveFirst kept.count seen promised
+kept_have_first marks kept groups promised seen is old same seen_is = ⊎_elim
+    (λ new. absurd (both_ways _ old new.0))
+    (λ was.
+    let are = was.1 in
+    let whole : take kept.count seen ≡ kept.commits.items = ap (take kept.count) seen_is ∙ take_all kept.count kept.commits.items (omega (arith, kept.counted)) in
+    record {
+      form = kept.form;
+      marks = marks;
+      texts = are.texts;
+      sealed = same ∙ are.sealed;
+      spelled = subst (SpellCommits are.texts) (sym whole) are.spelled;
+      inside = omega (arith, kept.counted, ap length seen_is);
+    })
+    is
 
 -- what is left of a journal that is on the disk
 pub left_whole : (may_leave : List ℕ → Type 0) (seen : List ℕ) (count : ℕ) (log : List CommitRecord) (whole : Bool)
