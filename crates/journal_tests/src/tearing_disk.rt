@@ -1,5 +1,5 @@
 //! A disk in memory that a crash may tear: it keeps its calls, so that what a crash leaves can be made of them.
-ghost use Rattle.std.specs.Prelude.{◌≡◌, ◌≤◌, [], length, take, drop, IfOk};
+ghost use Rattle.std.specs.Prelude.{◌≡◌, ◌≤◌, length, take, drop, IfOk};
 ghost use Rattle.journal.specs.Calls.{Keeps, seen_after, left_after, left_during, failures, counts, only};
 ghost use Rattle.journal.proofs.CallLaws.{may_be_read, still_left};
 ghost use Rattle.journal_tests.specs.DiskCalls.{calls_of, promised_in};
