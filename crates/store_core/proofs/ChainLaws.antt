@@ -2,8 +2,8 @@
 use Rattle.std.proofs.Common.{◌≡◌, ◌⊎◌, ℕ, ◌+◌, ◌<◌, ◌≤◌, cond, List, [], ◌∷◌, ◌++◌, length, take}
 use Rattle.std.proofs.Common.{refl, sym, ap, ◌∙◌, inl, inr, arith, subst, Option, Some, None, IfSome, option_map, take_all, append-nil}
 use Rattle.std.proofs.Common.{eq-eqb, ne_eqb}
-use Rattle.std.proofs.lemmas.Bool.Decides.{eqb_tells}
-use Rattle.store_core.specs.Places.{Place, sure, MayStand, Segment, settled, SegmentLeft}
+use Rattle.std.proofs.lemmas.Bool.{cases_eq}
+use Rattle.store_core.specs.Places.{Place, sure, renamed, MayStand, Segment, settled, SegmentLeft}
 use Rattle.store_core.specs.Found.{joined, end_of, IsBegin, IsChain}
 use Rattle.store_core.specs.World.{changed, changed_at}
 use Rattle.store_core.proofs.ListLaws.{end-after, take-none}
@@ -13,9 +13,6 @@ IsSureChain segments at [] last = segments at ≡ sure (Some last)
 IsSureChain segments at (part ∷ parts) last =
     (segments at ≡ sure (Some (settled part))) × (0 < length part) × IsSureChain segments (at + length part) parts last
 
-pub same-number : (n m : ℕ) → (n ≡ m) ⊎ (n ≡ m → ⊥)
-same-number n m = elim (eqb_tells n m) [ inl h ↦ inl h.1 | inr h ↦ inr h.1 ]
-
 pub changed-same : {A : Type 0} (number : ℕ) (f : A → A) (all : ℕ → A) (n : ℕ) → n ≡ number
     → changed_at number f all n ≡ f (all n)
 changed-same number f all n e = ap (λ b. cond b (f (all n)) (all n)) (eq-eqb n number e)
@@ -23,6 +20,22 @@ changed-same number f all n e = ap (λ b. cond b (f (all n)) (all n)) (eq-eqb n 
 pub changed-other : {A : Type 0} (number : ℕ) (f : A → A) (all : ℕ → A) (n : ℕ) → (n ≡ number → ⊥)
     → changed_at number f all n ≡ all n
 changed-other number f all n apart = ap (λ b. cond b (f (all n)) (all n)) (ne_eqb n number apart)
+
+-- what holds of each number, where that of one is changed
+pub changed-each : {A : Type 0} (P : ℕ → A → Type 0) (number : ℕ) (f : A → A) (all : ℕ → A) → P number (f (all number))
+    → ((n : ℕ) → P n (all n)) → (n : ℕ) → P n (changed_at number f all n)
+changed-each {A} P number f all here others n = by (cases_eq n number)
+  where
+    by : (n ≡ number) ⊎ (n ≡ number → ⊥) → P n (changed_at number f all n)
+    by (inl e) =
+        subst (P n) (sym (changed-same number f all n e)) (subst (λ (m : ℕ). P m (f (all m))) (sym e) here)
+    by (inr apart) = subst (P n) (sym (changed-other number f all n apart)) (others n)
+
+-- and of each file that may stand under a name, when another gets it
+pub renamed-each : {A : Type 0} (P : Option A → Type 0) (new : Option A) (place : Place A) → P new
+    → ((file : Option A) → MayStand place file → P file) → (file : Option A) → MayStand (renamed new place) file → P file
+renamed-each P new place here old file (inl e) = subst P (sym e) here
+renamed-each P new place here old file (inr stands) = old file stands
 
 pub stands-sure : {A : Type 0} (place : Place A) (is file : Option A) → place ≡ sure is → MayStand place file → file ≡ is
 stands-sure place is file e stands = only (subst (λ p. MayStand p file) e stands)

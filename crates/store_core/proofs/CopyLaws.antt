@@ -1,108 +1,18 @@
 -- What a start finds in a copy is a beginning of the log.
 use Rattle.std.proofs.Common.{◌≡◌, ◌⊎◌, ℕ, ◌+◌, ◌<◌, ◌≤◌, List, [], ◌∷◌, ◌++◌, length, take, drop, le_refl}
 use Rattle.std.proofs.Common.{refl, sym, ap, ◌∙◌, inl, inr, arith, length-append, length-take, take-add, drop-drop, length-take-le, Option, Some, IfSome, subst}
-use Rattle.std.proofs.lemmas.List.{take-append-le, take-append-drop}
+use Rattle.std.proofs.lemmas.List.{take-append-drop}
 use Rattle.std.proofs.Math.Seq.{take-append_seam, drop-append_seam}
 use Rattle.store_core.specs.Places.{Place, sure, Segment, Written, whole}
-use Rattle.store_core.specs.Found.{Store, Found, joined, end_of, IsChain, Finds, IsBeginning, tables_after}
-use Rattle.store_core.specs.World.{World, Step, Commit, Append, Sync, Tell, Begin, SyncNames, GoOn, Fold, SyncTables, NameTables}
-use Rattle.store_core.specs.World.{DropTables, DropSegment, Stop, Crash, Start, new_world, reads, IsAllowed, after}
+use Rattle.store_core.specs.Found.{Store, joined, IsChain, IsBeginning, tables_after}
+use Rattle.store_core.specs.World.{World, Step}
+use Rattle.store_core.specs.World.{new_world, after}
 use Rattle.store_core.specs.Runs.{IsRun, after_all}
 use Rattle.store_core.specs.Copies.{IsMoment, WereNamed, WereOnDisk, IsCopy, CopiesAreTrue}
 use Rattle.store_core.proofs.ChainLaws.{sure-end}
-use Rattle.store_core.proofs.Keeping.{IsPart, part-equation, part-front, part-later, last_at, longer, Kept}
-use Rattle.store_core.proofs.Keeping.{log-length, log-at-end, front-length}
-use Rattle.store_core.proofs.Settling.{Settled, settle, settled-log, settled-length, settled-taken}
-use Rattle.store_core.proofs.StartLaws.{may-read, one_start}
-use Rattle.store_core.proofs.RunLaws.{new_keeps, step_keeps, run_keeps, run-parts, all-first}
-
--- all that is on the disk now
-raised : {T C : Type 0} (next : T → C → T) (d : ℕ) (w : World T C) (k : Kept next d w)
-    → Kept next (last_at k.chained + k.chained.last.synced) w
-raised next d w k = record {
-  chained = record {
-    front = k.chained.front;
-    closed = k.chained.closed;
-    last = k.chained.last;
-    rest = k.chained.rest;
-    log = k.chained.log;
-    synced = k.chained.synced;
-    told = k.chained.told;
-    durable = le_refl (last_at k.chained + k.chained.last.synced);
-    chain = k.chained.chain;
-    newer = k.chained.newer;
-    others = k.chained.others;
-    written = k.chained.written;
-    active = k.chained.active;
-  };
-  root = k.root;
-  old = record { tables = k.old.tables; segments = k.old.segments; written = k.old.written };
-}
-
-durable-inside : {T C : Type 0} (next : T → C → T) (d : ℕ) (w : World T C) (k : Kept next d w) → d ≤ length w.log
-durable-inside next d w k =
-    let l = log-length next d w k.chained in
-    let t = k.chained.durable in
-    let s = k.chained.synced in
-    omega arith
-
--- as many commits stay in the log
-abbrev DurableStays : {T C : Type 0} → ℕ → World T C → World T C → Type 0
-DurableStays d w v = (m : ℕ) → m ≤ d → take m v.log ≡ take m w.log
-
-durable-start : {T C : Type 0} (next : T → C → T) (d : ℕ) (w : World T C) (k : Kept next d w) (found : Found T C)
-    → Finds (reads w) found → DurableStays d w (after w (Start found))
-durable-start {T} {C} next d w k found finds = with_settled (settle next d w k (reads w) (may-read w))
-  where
-    with_settled : Settled next d w k.chained (reads w) → DurableStays d w (after w (Start found))
-    with_settled s =
-        let is : found ≡ record {
-          after = length s.front;
-          tables = tables_after next w.first s.front;
-          closed = s.closed;
-          last = s.last;
-        } = one_start (reads w) found (record {
-          after = length s.front;
-          tables = tables_after next w.first s.front;
-          closed = s.closed;
-          last = s.last;
-        }) finds s.finds in
-        subst (λ (f : Found T C). DurableStays d w (after w (Start f))) (sym is) (same s)
-      where
-        same : (s : Settled next d w k.chained (reads w)) (m : ℕ) → m ≤ d
-            → take m (take (end_of (length s.front) s.closed + length s.last) w.log) ≡ take m w.log
-        same s m few =
-            let durable = s.durable in
-            let long = settled-length next d w k.chained (reads w) s in
-            ap (take m) (settled-taken next d w k.chained (reads w) s)
-            ∙ sym (take-append-le m (s.front ++ joined s.closed s.last) s.rest (omega arith))
-            ∙ ap (take m) (sym (settled-log next d w k.chained (reads w) s))
-
-durable-step : {T C : Type 0} (next : T → C → T) (d : ℕ) (w : World T C) → Kept next d w → (step : Step T C)
-    → IsAllowed next w step → DurableStays d w (after w step)
-durable-step next d w k (Commit x) may =
-    λ m few. take-append-le m w.log (x ∷ []) (let t = durable-inside next d w k in omega arith)
-durable-step next d w k (Append at count) may = λ m few. refl
-durable-step next d w k (Sync at) may = λ m few. refl
-durable-step next d w k (Tell at count) may = λ m few. refl
-durable-step next d w k (Begin at new) may = λ m few. refl
-durable-step next d w k SyncNames may = λ m few. refl
-durable-step next d w k (GoOn at new) may = λ m few. refl
-durable-step next d w k (Fold found tables) may = λ m few. refl
-durable-step next d w k (SyncTables n) may = λ m few. refl
-durable-step next d w k (NameTables n) may = λ m few. refl
-durable-step next d w k (DropTables n newer) may = λ m few. refl
-durable-step next d w k (DropSegment n newer) may = λ m few. refl
-durable-step next d w k Stop may = λ m few. refl
-durable-step next d w k (Crash left) may = λ m few. refl
-durable-step next d w k (Start found) may = durable-start next d w k found may.1
-
-durable-run : {T C : Type 0} (next : T → C → T) (d : ℕ) (w : World T C) (steps : List (Step T C)) → Kept next d w
-    → IsRun next w steps → DurableStays d w (after_all w steps)
-durable-run next d w [] k run = λ m few. refl
-durable-run next d w (step ∷ steps) k run =
-    λ m few. durable-run next d (after w step) steps (step_keeps next d w k step run.0) run.1 m few
-    ∙ durable-step next d w k step run.0 m few
+use Rattle.store_core.proofs.Keeping.{IsPart, part-equation, part-front, part-later, last_at, longer, Kept, raised}
+use Rattle.store_core.proofs.Keeping.{log-at-end, front-length}
+use Rattle.store_core.proofs.RunLaws.{new_keeps, run_keeps, run-parts, Stays, durable-inside, run_stays}
 
 -- a part within what two lists have alike is a part of both
 part-alike : {C : Type 0} (xs ys : List C) (end n : ℕ) (commits : List C) → end ≤ length xs → end ≤ length ys
@@ -179,7 +89,7 @@ record Reached {T C : Type 0} (next : T → C → T) (first : T) (v w : World T 
   pub kept : Kept next 0 w
   pub long : last_at kept.chained + kept.chained.last.synced ≤ length w.log
   pub end : last_at kept.chained + kept.chained.last.synced ≤ length v.log
-  pub stays : DurableStays (last_at kept.chained + kept.chained.last.synced) w v
+  pub stays : Stays (last_at kept.chained + kept.chained.last.synced) w v
   pub first_is : w.first ≡ first
 
 reach-at : {T C : Type 0} (next : T → C → T) (first : T) (before later : List (Step T C))
@@ -188,25 +98,24 @@ reach-at : {T C : Type 0} (next : T → C → T) (first : T) (before later : Lis
 reach-at {T} {C} next first before later run =
     subst (λ (v : World T C). Reached next first v (after_all (new_world first) before))
     (sym (after-append (new_world first) before later))
-    (from (run-parts next (new_world first) before later run))
+    (from (after_all (new_world first) before)
+    (run_keeps next 0 (new_world first) before (new_keeps next first) parts.0) parts.1
+    (run_stays next 0 (new_world first) before (new_keeps next first) parts.0).first)
   where
-    from : IsRun next (new_world first) before × IsRun next (after_all (new_world first) before) later
-        → Reached next first (after_all (after_all (new_world first) before) later) (after_all (new_world first) before)
-    from parts = over (run_keeps next 0 (new_world first) before (new_keeps next first) parts.0)
-      where
-        over : Kept next 0 (after_all (new_world first) before)
-            → Reached next first (after_all (after_all (new_world first) before) later) (after_all (new_world first) before)
-        over k = record {
+    parts : IsRun next (new_world first) before × IsRun next (after_all (new_world first) before) later
+    parts = run-parts next (new_world first) before later run
+
+    from : (w : World T C) (k : Kept next 0 w) → IsRun next w later → w.first ≡ first
+        → Reached next first (after_all w later) w
+    from w k rest same =
+        let d = last_at k.chained + k.chained.last.synced in
+        let r = raised next 0 w k d (le_refl d) in
+        record {
           kept = k;
-          long = durable-inside next (last_at k.chained + k.chained.last.synced) (after_all (new_world first) before)
-              (raised next 0 (after_all (new_world first) before) k);
-          end = durable-inside next (last_at k.chained + k.chained.last.synced)
-              (after_all (after_all (new_world first) before) later)
-              (run_keeps next (last_at k.chained + k.chained.last.synced) (after_all (new_world first) before) later
-              (raised next 0 (after_all (new_world first) before) k) parts.1);
-          stays = durable-run next (last_at k.chained + k.chained.last.synced) (after_all (new_world first) before) later
-              (raised next 0 (after_all (new_world first) before) k) parts.1;
-          first_is = all-first (new_world {C = C} first) before;
+          long = durable-inside next d w r;
+          end = durable-inside next d (after_all w later) (run_keeps next d w later r rest);
+          stays = run_stays next d w later r rest;
+          first_is = same;
         }
 
 reach : {T C : Type 0} (next : T → C → T) (first : T) (steps : List (Step T C)) → IsRun next (new_world first) steps
@@ -226,7 +135,7 @@ reached-tables {T} {C} next first v w r n t there =
     let value : t ≡ tables_after next w.first (take n w.log) = ap (λ (f : Written T). f.tables) old.1 in (
       (let e = r.end in omega arith),
       value ∙ ap (λ (first : T). tables_after next first (take n w.log)) r.first_is
-          ∙ ap (λ (l : List C). tables_after next first l) (sym (r.stays n low)),
+          ∙ ap (λ (l : List C). tables_after next first l) (sym (r.stays.log n low)),
     )
 
 reached-part : {T C : Type 0} (next : T → C → T) (first : T) (v w : World T C) → Reached next first v w → (n : ℕ)
@@ -235,7 +144,7 @@ reached-part : {T C : Type 0} (next : T → C → T) (first : T) (v w : World T 
 reached-part {T} {C} next first v w r n segment count there few =
     part-later v.log (last_at r.kept.chained + r.kept.chained.last.synced) (length v.log) n (take count segment.commits) r.end
     (part-alike w.log v.log (last_at r.kept.chained + r.kept.chained.last.synced) n (take count segment.commits) r.long r.end
-    (r.stays (last_at r.kept.chained + r.kept.chained.last.synced)
+    (r.stays.log (last_at r.kept.chained + r.kept.chained.last.synced)
     (le_refl (last_at r.kept.chained + r.kept.chained.last.synced)))
     (synced-part next 0 w r.kept n segment count there few))
 

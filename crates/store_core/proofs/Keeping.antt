@@ -31,14 +31,52 @@ abbrev pub IsPart : {C : Type 0} → List C → ℕ → ℕ → List C → Type 
 IsPart log end n commits =
     (commits ≡ []) ⊎ ((n + length commits ≤ end) × (commits ≡ take (length commits) (drop n log)))
 
+-- these are the tables after so many commits of the log, on the disk, and no later than there
+abbrev pub AreOldTables : {T C : Type 0} → (T → C → T) → T → List C → ℕ → ℕ → Written T → Type 0
+AreOldTables next first log end n file = (n ≤ end) × (file ≡ whole (tables_after next first (take n log)))
+
+-- the same, on the disk or not
+abbrev pub AreOldWritten : {T C : Type 0} → (T → C → T) → T → List C → ℕ → ℕ → Written T → Type 0
+AreOldWritten next first log end n file = (n ≤ end) × (file.tables ≡ tables_after next first (take n log))
+
+-- it is the last segment, or has its part of the log
+abbrev pub IsOldSegment : {C : Type 0} → List C → ℕ → ℕ → Option (Segment C) → Type 0
+IsOldSegment {C} log end n file = (n ≡ end) ⊎ IfSome file (λ (s : Segment C). IsPart log end n s.commits)
+
+-- what is known of what stands under a name behind the front, or is written for it
+abbrev pub NewerTables : {T C : Type 0} → (T → C → T) → T → List C → ℕ → List (List C) → ℕ → Place (Written T) → Type 0
+NewerTables {T} next first log at closed n place = at < n → (file : Option (Written T)) → MayStand place file
+    → IfSome file (IsTablesAt next first log at closed n)
+
+abbrev pub OtherSegment : {C : Type 0} → ℕ → List (List C) → ℕ → Place (Segment C) → Type 0
+OtherSegment at closed n place = at < n → IsBegin at closed n ⊎ NoCommits place
+
+abbrev pub NewerWritten : {T C : Type 0} → (T → C → T) → T → List C → ℕ → List (List C) → ℕ → Option (Written T) → Type 0
+NewerWritten next first log at closed n file = at < n → IfSome file (IsWrittenAt next first log at closed n)
+
+-- and of what stands under any name
+abbrev pub OldTables : {T C : Type 0} → (T → C → T) → T → List C → ℕ → ℕ → Place (Written T) → Type 0
+OldTables {T} next first log end n place = (file : Option (Written T)) → MayStand place file
+    → IfSome file (AreOldTables next first log end n)
+
+abbrev pub OldSegment : {C : Type 0} → List C → ℕ → ℕ → Place (Segment C) → Type 0
+OldSegment {C} log end n place = (file : Option (Segment C)) → MayStand place file → IsOldSegment log end n file
+
+abbrev pub OldWritten : {T C : Type 0} → (T → C → T) → T → List C → ℕ → ℕ → Option (Written T) → Type 0
+OldWritten next first log end n file = IfSome file (AreOldWritten next first log end n)
+
+-- the same of what a crash leaves
+abbrev pub AreLeftTables : {T C : Type 0} → (T → C → T) → T → List C → ℕ → ℕ → T → Type 0
+AreLeftTables next first log end n tables = (n ≤ end) × (tables ≡ tables_after next first (take n log))
+
+abbrev pub IsLeftSegment : {C : Type 0} → List C → ℕ → ℕ → Option (List C) → Type 0
+IsLeftSegment log end n left = (n ≡ end) ⊎ IfSome left (IsPart log end n)
+
 -- whatever stands anywhere, the last segment apart, is of the log, and no later than the last segment begins
 pub record Old {T C : Type 0} (next : T → C → T) (w : World T C) (end : ℕ) : Type 0 where
-  pub tables : (n : ℕ) (file : Option (Written T)) → MayStand (w.tables n) file
-      → IfSome file (λ (f : Written T). (n ≤ end) × (f ≡ whole (tables_after next w.first (take n w.log))))
-  pub segments : (n : ℕ) (file : Option (Segment C)) → MayStand (w.segments n) file
-      → (n ≡ end) ⊎ IfSome file (λ (s : Segment C). IsPart w.log end n s.commits)
-  pub written : (n : ℕ)
-      → IfSome (w.written n) (λ (f : Written T). (n ≤ end) × (f.tables ≡ tables_after next w.first (take n w.log)))
+  pub tables : (n : ℕ) → OldTables next w.first w.log end n (w.tables n)
+  pub segments : (n : ℕ) → OldSegment w.log end n (w.segments n)
+  pub written : (n : ℕ) → OldWritten next w.first w.log end n (w.written n)
 
 -- the log is a front, what the segments behind it have, and what memory alone has; and nothing else behind the front
 -- counts
@@ -52,11 +90,9 @@ pub record Chained {T C : Type 0} (next : T → C → T) (d : ℕ) (w : World T 
   pub told : w.told ≤ end_of (length front) closed + last.synced
   pub durable : d ≤ end_of (length front) closed + last.synced
   pub chain : IsSureChain w.segments (length front) closed last
-  pub newer : (n : ℕ) → length front < n → (file : Option (Written T)) → MayStand (w.tables n) file
-      → IfSome file (IsTablesAt next w.first w.log (length front) closed n)
-  pub others : (n : ℕ) → length front < n → IsBegin (length front) closed n ⊎ NoCommits (w.segments n)
-  pub written : (n : ℕ) → length front < n
-      → IfSome (w.written n) (IsWrittenAt next w.first w.log (length front) closed n)
+  pub newer : (n : ℕ) → NewerTables next w.first w.log (length front) closed n (w.tables n)
+  pub others : (n : ℕ) → OtherSegment (length front) closed n (w.segments n)
+  pub written : (n : ℕ) → NewerWritten next w.first w.log (length front) closed n (w.written n)
   pub active : IfSome w.active (λ at. at ≡ end_of (length front) closed)
 
 -- where the last segment begins
@@ -68,6 +104,29 @@ pub record Kept {T C : Type 0} (next : T → C → T) (d : ℕ) (w : World T C) 
   pub chained : Chained next d w
   pub root : w.tables (length chained.front) ≡ sure (Some (whole (tables_after next w.first chained.front)))
   pub old : Old next w (last_at chained)
+
+-- another number of commits that are on the disk
+pub raised : {T C : Type 0} (next : T → C → T) (d : ℕ) (w : World T C) (k : Kept next d w) (n : ℕ)
+    → n ≤ last_at k.chained + k.chained.last.synced → Kept next n w
+raised next d w k n few = record {
+  chained = record {
+    front = k.chained.front;
+    closed = k.chained.closed;
+    last = k.chained.last;
+    rest = k.chained.rest;
+    log = k.chained.log;
+    synced = k.chained.synced;
+    told = k.chained.told;
+    durable = few;
+    chain = k.chained.chain;
+    newer = k.chained.newer;
+    others = k.chained.others;
+    written = k.chained.written;
+    active = k.chained.active;
+  };
+  root = k.root;
+  old = k.old;
+}
 
 module _ {T C : Type 0} (next : T → C → T) (d : ℕ) (w : World T C) (c : Chained next d w) where
   pub log-length : length w.log ≡ end_of (length c.front) c.closed + (length c.last.commits + length c.rest)

@@ -3,19 +3,19 @@ use Rattle.std.proofs.Common.{◌≡◌, ◌⊎◌, ℕ, zero, suc, ◌+◌, ◌
 use Rattle.std.proofs.Common.{refl, sym, ap, ◌∙◌, inl, inr, arith, Option, Some, None, IfSome, subst}
 use Rattle.std.proofs.lemmas.List.{take-append-le}
 use Rattle.store_core.specs.Places.{sure, MayStand, Segment, empty, Written, whole}
-use Rattle.store_core.specs.Found.{Found, joined, end_of, Finds, IsBeginning, tables_after}
+use Rattle.store_core.specs.Found.{Found, joined, Finds, IsBeginning, tables_after}
 use Rattle.store_core.specs.World.{World, Step, Commit, Append, Sync, Tell, Begin, SyncNames, GoOn, Fold, SyncTables, NameTables}
 use Rattle.store_core.specs.World.{DropTables, DropSegment, Stop, Crash, Start, first_tables, first_segment, new_world, reads}
 use Rattle.store_core.specs.World.{IsAllowed, after}
 use Rattle.store_core.specs.Runs.{IsRun, after_all, NothingToldIsLost, WhatIsToldStays}
 use Rattle.store_core.proofs.ChainLaws.{stands-sure}
-use Rattle.store_core.proofs.Keeping.{IsPart, Kept, IsTablesAt, log-length}
+use Rattle.store_core.proofs.Keeping.{IsPart, Kept, raised, IsTablesAt, log-length}
 use Rattle.store_core.proofs.StepLaws.{commit_keeps, append_keeps, sync_keeps, tell_keeps, begin_keeps, names_keep}
 use Rattle.store_core.proofs.StepLaws.{goes_on_keeps}
 use Rattle.store_core.proofs.TableLaws.{fold_keeps, sync_tables_keeps, name_keeps, above, drop_tables_keeps}
 use Rattle.store_core.proofs.TableLaws.{drop_segment_keeps, stop_keeps}
-use Rattle.store_core.proofs.Settling.{Settled, settle, settled-log, settled-length, settled-taken, is-beginning}
-use Rattle.store_core.proofs.StartLaws.{crash_keeps, started, may-read, one_start}
+use Rattle.store_core.proofs.Settling.{Settled, found_of, found_end, settle, settled-log, settled-length, settled-taken, is-beginning}
+use Rattle.store_core.proofs.StartLaws.{crash_keeps, started, may-read, found-is}
 
 -- a new store
 first-none : {T : Type 0} (first : T) (n : ℕ) → 0 < n → first_tables first n ≡ sure None
@@ -97,113 +97,86 @@ pub run_keeps : {T C : Type 0} (next : T → C → T) (d : ℕ) (w : World T C) 
 run_keeps next d w [] k run = k
 run_keeps next d w (step ∷ steps) k run = run_keeps next d (after w step) steps (step_keeps next d w k step run.0) run.1
 
-step-first : {T C : Type 0} (w : World T C) (step : Step T C) → (after w step).first ≡ w.first
-step-first w (Commit x) = refl
-step-first w (Append at count) = refl
-step-first w (Sync at) = refl
-step-first w (Tell at count) = refl
-step-first w (Begin at new) = refl
-step-first w SyncNames = refl
-step-first w (GoOn at new) = refl
-step-first w (Fold found tables) = refl
-step-first w (SyncTables n) = refl
-step-first w (NameTables n) = refl
-step-first w (DropTables n newer) = refl
-step-first w (DropSegment n newer) = refl
-step-first w Stop = refl
-step-first w (Crash left) = refl
-step-first w (Start found) = refl
+-- so many commits stay in the log, no fewer are told, and the first tables are the same
+pub record Stays {T C : Type 0} (d : ℕ) (w v : World T C) : Type 0 where
+  pub first : v.first ≡ w.first
+  pub told : w.told ≤ v.told
+  pub log : (m : ℕ) → m ≤ d → take m v.log ≡ take m w.log
 
-pub all-first : {T C : Type 0} (w : World T C) (steps : List (Step T C)) → (after_all w steps).first ≡ w.first
-all-first w [] = refl
-all-first w (step ∷ steps) = all-first (after w step) steps ∙ step-first w step
-
-pub nothing_told_is_lost : {T C : Type 0} (next : T → C → T) → NothingToldIsLost next
-nothing_told_is_lost {T} {C} next first steps run left may =
-    with_settled (run_keeps next 0 (new_world first) steps (new_keeps next first) run)
-  where
-    with_settled : Kept next 0 (after_all (new_world first) steps)
-        → (found : Found T C) × Finds left found
-        × IsBeginning next first (after_all (new_world first) steps).log (after_all (new_world first) steps).told found
-    with_settled k =
-        let s = settle next 0 (after_all (new_world first) steps) k left may in (
-          record { after = length s.front; tables = tables_after next (after_all (new_world first) steps).first s.front; closed = s.closed; last = s.last },
-          s.finds,
-          subst (λ (t : T). IsBeginning next t (after_all (new_world first) steps).log (after_all (new_world first) steps).told (record {
-            after = length s.front;
-            tables = tables_after next (after_all (new_world first) steps).first s.front;
-            closed = s.closed;
-            last = s.last;
-          })) (all-first (new_world {C = C} first) steps) (is-beginning next 0 (after_all (new_world first) steps) k.chained left s),
-        )
-
--- what was told stays
-abbrev pub Stays : {T C : Type 0} → World T C → World T C → Type 0
-Stays w v = (w.told ≤ v.told) × ((m : ℕ) → m ≤ w.told → take m v.log ≡ take m w.log)
-
-told-inside : {T C : Type 0} (next : T → C → T) (d : ℕ) (w : World T C) (k : Kept next d w) → w.told ≤ length w.log
-told-inside next d w k =
+pub durable-inside : {T C : Type 0} (next : T → C → T) (d : ℕ) (w : World T C) (k : Kept next d w) → d ≤ length w.log
+durable-inside next d w k =
     let l = log-length next d w k.chained in
-    let t = k.chained.told in
+    let t = k.chained.durable in
     let s = k.chained.synced in
     omega arith
 
 stays-start : {T C : Type 0} (next : T → C → T) (d : ℕ) (w : World T C) (k : Kept next d w) (found : Found T C)
-    → Finds (reads w) found → Stays w (after w (Start found))
-stays-start {T} {C} next d w k found finds = with_settled (settle next d w k (reads w) (may-read w))
+    → Finds (reads w) found → Stays d w (after w (Start found))
+stays-start {T} {C} next d w k found finds =
+    let s = settle next d w k (reads w) (may-read w) in
+    subst (λ (f : Found T C). Stays d w (after w (Start f))) (sym (found-is next d w k.chained (reads w) s found finds))
+    record { first = refl; told = le_refl w.told; log = same s }
   where
-    with_settled : Settled next d w k.chained (reads w) → Stays w (after w (Start found))
-    with_settled s =
-        let is : found ≡ record {
-          after = length s.front;
-          tables = tables_after next w.first s.front;
-          closed = s.closed;
-          last = s.last;
-        } = one_start (reads w) found (record {
-          after = length s.front;
-          tables = tables_after next w.first s.front;
-          closed = s.closed;
-          last = s.last;
-        }) finds s.finds in
-        subst (λ (f : Found T C). Stays w (after w (Start f))) (sym is) (le_refl w.told, same s)
-      where
-        same : (s : Settled next d w k.chained (reads w)) (m : ℕ) → m ≤ w.told
-            → take m (take (end_of (length s.front) s.closed + length s.last) w.log) ≡ take m w.log
-        same s m few =
-            let told = s.told in
-            let long = settled-length next d w k.chained (reads w) s in
-            ap (take m) (settled-taken next d w k.chained (reads w) s)
-            ∙ sym (take-append-le m (s.front ++ joined s.closed s.last) s.rest (omega arith))
-            ∙ ap (take m) (sym (settled-log next d w k.chained (reads w) s))
+    same : (s : Settled next d w k.chained (reads w)) (m : ℕ) → m ≤ d
+        → take m (take (found_end s + length s.last) w.log) ≡ take m w.log
+    same s m few =
+        let durable = s.durable in
+        let long = settled-length next d w k.chained (reads w) s in
+        ap (take m) (settled-taken next d w k.chained (reads w) s)
+        ∙ sym (take-append-le m (s.front ++ joined s.closed s.last) s.rest (omega arith))
+        ∙ ap (take m) (sym (settled-log next d w k.chained (reads w) s))
 
-pub step_stays : {T C : Type 0} (next : T → C → T) (d : ℕ) (w : World T C) → Kept next d w → (step : Step T C)
-    → IsAllowed next w step → Stays w (after w step)
-step_stays next d w k (Commit x) may =
-    (le_refl w.told, λ m few. take-append-le m w.log (x ∷ []) (let t = told-inside next d w k in omega arith))
-step_stays next d w k (Append at count) may = (le_refl w.told, λ m few. refl)
-step_stays next d w k (Sync at) may = (le_refl w.told, λ m few. refl)
-step_stays next d w k (Tell at count) may = (omega arith, λ m few. refl)
-step_stays next d w k (Begin at new) may = (le_refl w.told, λ m few. refl)
-step_stays next d w k SyncNames may = (le_refl w.told, λ m few. refl)
-step_stays next d w k (GoOn at new) may = (le_refl w.told, λ m few. refl)
-step_stays next d w k (Fold found tables) may = (le_refl w.told, λ m few. refl)
-step_stays next d w k (SyncTables n) may = (le_refl w.told, λ m few. refl)
-step_stays next d w k (NameTables n) may = (le_refl w.told, λ m few. refl)
-step_stays next d w k (DropTables n newer) may = (le_refl w.told, λ m few. refl)
-step_stays next d w k (DropSegment n newer) may = (le_refl w.told, λ m few. refl)
-step_stays next d w k Stop may = (le_refl w.told, λ m few. refl)
-step_stays next d w k (Crash left) may = (le_refl w.told, λ m few. refl)
+-- of a step that leaves the log
+stays-same : {T C : Type 0} (d : ℕ) (w v : World T C) → v.first ≡ w.first → w.told ≤ v.told → v.log ≡ w.log → Stays d w v
+stays-same d w v first told log = record { first = first; told = told; log = λ m few. ap (take m) log }
+
+step_stays : {T C : Type 0} (next : T → C → T) (d : ℕ) (w : World T C) → Kept next d w → (step : Step T C)
+    → IsAllowed next w step → Stays d w (after w step)
+step_stays next d w k (Commit x) may = record {
+  first = refl;
+  told = le_refl w.told;
+  log = λ m few. take-append-le m w.log (x ∷ []) (let t = durable-inside next d w k in omega arith);
+}
+step_stays next d w k (Append at count) may = stays-same d w (after w (Append at count)) refl (le_refl w.told) refl
+step_stays next d w k (Sync at) may = stays-same d w (after w (Sync at)) refl (le_refl w.told) refl
+step_stays next d w k (Tell at count) may = stays-same d w (after w (Tell at count)) refl (omega arith) refl
+step_stays next d w k (Begin at new) may = stays-same d w (after w (Begin at new)) refl (le_refl w.told) refl
+step_stays next d w k SyncNames may = stays-same d w (after w SyncNames) refl (le_refl w.told) refl
+step_stays next d w k (GoOn at new) may = stays-same d w (after w (GoOn at new)) refl (le_refl w.told) refl
+step_stays next d w k (Fold found tables) may = stays-same d w (after w (Fold found tables)) refl (le_refl w.told) refl
+step_stays next d w k (SyncTables n) may = stays-same d w (after w (SyncTables n)) refl (le_refl w.told) refl
+step_stays next d w k (NameTables n) may = stays-same d w (after w (NameTables n)) refl (le_refl w.told) refl
+step_stays next d w k (DropTables n newer) may = stays-same d w (after w (DropTables n newer)) refl (le_refl w.told) refl
+step_stays next d w k (DropSegment n newer) may = stays-same d w (after w (DropSegment n newer)) refl (le_refl w.told) refl
+step_stays next d w k Stop may = stays-same d w (after w Stop) refl (le_refl w.told) refl
+step_stays next d w k (Crash left) may = stays-same d w (after w (Crash left)) refl (le_refl w.told) refl
 step_stays next d w k (Start found) may = stays-start next d w k found may.1
 
-run_stays : {T C : Type 0} (next : T → C → T) (d : ℕ) (w : World T C) (steps : List (Step T C)) → Kept next d w
-    → IsRun next w steps → Stays w (after_all w steps)
-run_stays next d w [] k run = (le_refl w.told, λ m few. refl)
+pub run_stays : {T C : Type 0} (next : T → C → T) (d : ℕ) (w : World T C) (steps : List (Step T C)) → Kept next d w
+    → IsRun next w steps → Stays d w (after_all w steps)
+run_stays next d w [] k run = stays-same d w w refl (le_refl w.told) refl
 run_stays next d w (step ∷ steps) k run =
-    let first : Stays w (after w step) = step_stays next d w k step run.0 in
-    let rest : Stays (after w step) (after_all (after w step) steps) =
-    run_stays next d (after w step) steps (step_keeps next d w k step run.0) run.1 in (
-      (let a = first.0 in let b = rest.0 in omega arith),
-      λ m few. rest.1 m (let a = first.0 in omega arith) ∙ first.1 m few,
+    let one : Stays d w (after w step) = step_stays next d w k step run.0 in
+    let rest : Stays d (after w step) (after_all (after w step) steps) =
+    run_stays next d (after w step) steps (step_keeps next d w k step run.0) run.1 in
+    record {
+      first = rest.first ∙ one.first;
+      told = (let a = one.told in let b = rest.told in omega arith);
+      log = λ m few. rest.log m few ∙ one.log m few;
+    }
+
+pub nothing_told_is_lost : {T C : Type 0} (next : T → C → T) → NothingToldIsLost next
+nothing_told_is_lost {T} {C} next first steps run left may =
+    let k : Kept next 0 (after_all (new_world first) steps) =
+    run_keeps next 0 (new_world first) steps (new_keeps next first) run in
+    let stays : Stays 0 (new_world first) (after_all (new_world first) steps) =
+    run_stays next 0 (new_world first) steps (new_keeps next first) run in
+    let s = settle next 0 (after_all (new_world first) steps) k left may in (
+      found_of s,
+      s.finds,
+      subst (λ (t : T). IsBeginning next t (after_all (new_world first) steps).log
+          (after_all (new_world {C = C} first) steps).told (found_of s)) stays.first
+          (is-beginning next 0 (after_all (new_world first) steps) k.chained left s),
     )
 
 pub run-parts : {T C : Type 0} (next : T → C → T) (w : World T C) (steps later : List (Step T C))
@@ -214,9 +187,9 @@ run-parts next w (step ∷ steps) later run =
 
 pub what_is_told_stays : {T C : Type 0} (next : T → C → T) → WhatIsToldStays next
 what_is_told_stays {T} {C} next first steps later run =
+    let w : World T C = after_all (new_world first) steps in
     let parts = run-parts next (new_world first) steps later run in
-    let kept : Kept next 0 (after_all (new_world first) steps) =
-    run_keeps next 0 (new_world first) steps (new_keeps next first) parts.0 in
-    let stays : Stays (after_all (new_world first) steps) (after_all (after_all (new_world first) steps) later) =
-    run_stays next 0 (after_all (new_world first) steps) later kept parts.1 in
-    (stays.0, stays.1 (after_all (new_world {C = C} first) steps).told (le_refl (after_all (new_world {C = C} first) steps).told))
+    let kept : Kept next 0 w = run_keeps next 0 (new_world first) steps (new_keeps next first) parts.0 in
+    let stays : Stays w.told w (after_all w later) =
+    run_stays next w.told w later (raised next 0 w kept w.told kept.chained.told) parts.1 in
+    (stays.told, stays.log w.told (le_refl w.told))

@@ -1,17 +1,17 @@
 -- Whatever a crash leaves, a start finds a beginning of the log.
-use Rattle.std.proofs.Common.{◌≡◌, ◌⊎◌, ℕ, ◌+◌, ◌<◌, ◌≤◌, min, List, [], ◌∷◌, ◌++◌, length, take, drop}
+use Rattle.std.proofs.Common.{◌≡◌, ◌⊎◌, ℕ, ◌+◌, ◌<◌, ◌≤◌, List, [], ◌∷◌, ◌++◌, length, take, drop}
 use Rattle.std.proofs.Common.{refl, sym, ap, ◌∙◌, inl, inr, arith, append_assoc, length-append, length-take}
 use Rattle.std.proofs.Common.{Option, Some, None, IfSome, subst}
 use Rattle.std.proofs.lemmas.Bool.{cases_lt}
 use Rattle.std.proofs.Math.Seq.{take-append_seam, drop-append_seam}
 use Rattle.store_core.specs.Places.{MayStand, Segment, SegmentLeft, Written, whole}
 use Rattle.store_core.specs.Places.{TablesLeft}
-use Rattle.store_core.specs.Found.{Store, joined, end_of, IsBegin, IsChain, Finds, IsBeginning, tables_after}
+use Rattle.store_core.specs.Found.{Store, Found, joined, end_of, IsBegin, IsChain, Finds, IsBeginning, tables_after}
 use Rattle.store_core.specs.World.{World, MayLeave}
 use Rattle.store_core.proofs.ListLaws.{joined-append, end-is, end-after, begin-before, first-begins, Split, split-at}
 use Rattle.store_core.proofs.ListLaws.{cut, no_some, end-begins}
 use Rattle.store_core.proofs.ChainLaws.{stands-sure, left-empty, LeftChain, left-chain}
-use Rattle.store_core.proofs.Keeping.{IsPart, part-later, part-front, last_at, Chained, Kept, NoCommits, IsTablesAt, Rerooted, reroot}
+use Rattle.store_core.proofs.Keeping.{IsPart, IsOldSegment, AreLeftTables, IsLeftSegment, part-later, part-front, last_at, Chained, Kept, NoCommits, IsTablesAt, Rerooted, reroot}
 
 -- the newest of the tables that are there where segments begin
 pub record NewestIn {T C : Type 0} (tables : ℕ → Option T) (at : ℕ) (parts : List (List C)) : Type 0 where
@@ -117,8 +117,7 @@ old-part {C} log end later n (Some s) left grows h may =
 chain-part : {C : Type 0} (segments : ℕ → Option (List C)) (front : List C) (parts : List (List C)) (last more log : List C)
     → log ≡ front ++ joined parts (last ++ more) → (n : ℕ) → IsChain segments (length front) parts last
     → IsBegin (length front) parts n
-    → (n ≡ end_of (length front) parts)
-    ⊎ IfSome (segments n) (λ (cs : List C). IsPart log (end_of (length front) parts) n cs)
+    → IsLeftSegment log (end_of (length front) parts) n (segments n)
 chain-part segments front [] last more log is n chain e = inl e
 chain-part {C} segments front (p ∷ ps) last more log is n chain (inl e) =
     let drops : drop n log ≡ p ++ joined ps (last ++ more) =
@@ -136,7 +135,7 @@ chain-part {C} segments front (p ∷ ps) last more log is n chain (inr b) =
     (is ∙ sym (append_assoc front p (joined ps (last ++ more)))) n
     (subst (λ (a : ℕ). IsChain segments a ps last) (sym long) chain.2)
     (subst (λ (a : ℕ). IsBegin a ps n) (sym long) b) in
-    subst (λ (a : ℕ). (n ≡ end_of a ps) ⊎ IfSome (segments n) (λ (cs : List C). IsPart log (end_of a ps) n cs)) long rest
+    subst (λ (a : ℕ). IsLeftSegment log (end_of a ps) n (segments n)) long rest
 
 -- a start finds the tables after a front of the log and what the segments behind it have
 pub record Settled {T C : Type 0} (next : T → C → T) (d : ℕ) (w : World T C) (c : Chained next d w) (left : Store T C) : Type 0
@@ -148,19 +147,24 @@ pub record Settled {T C : Type 0} (next : T → C → T) (d : ℕ) (w : World T 
     pub log : w.log ≡ front ++ joined closed (last ++ rest)
     pub told : w.told ≤ end_of (length front) closed + length last
     pub durable : d ≤ end_of (length front) closed + length last
-    pub finds : Finds left (record {
-      after = length front;
-      tables = tables_after next w.first front;
-      closed = closed;
-      last = last;
-    })
+    pub finds : Finds left
+        record { after = length front; tables = tables_after next w.first front; closed = closed; last = last }
     pub higher : (n : ℕ) → length front < n → length c.front < n
     pub begins : (n : ℕ) → length front < n → IsBegin (length c.front) c.closed n → IsBegin (length front) closed n
     pub grows : last_at c ≤ end_of (length front) closed
-    pub tables : (n : ℕ) → IfSome (left.tables n)
-        (λ (t : T). (n ≤ end_of (length front) closed) × (t ≡ tables_after next w.first (take n w.log)))
-    pub segments : (n : ℕ) → (n ≡ end_of (length front) closed)
-        ⊎ IfSome (left.segments n) (λ (cs : List C). IsPart w.log (end_of (length front) closed) n cs)
+    pub tables : (n : ℕ) → IfSome (left.tables n) (AreLeftTables next w.first w.log (end_of (length front) closed) n)
+    pub segments : (n : ℕ) → IsLeftSegment w.log (end_of (length front) closed) n (left.segments n)
+
+-- this is found
+abbrev pub found_of : {T C : Type 0} {next : T → C → T} {d : ℕ} {w : World T C} {c : Chained next d w} {left : Store T C}
+    → Settled next d w c left → Found T C
+found_of {T} {C} {next} {d} {w} s =
+    record { after = length s.front; tables = tables_after next w.first s.front; closed = s.closed; last = s.last }
+
+-- where the last segment that is found begins
+abbrev pub found_end : {T C : Type 0} {next : T → C → T} {d : ℕ} {w : World T C} {c : Chained next d w} {left : Store T C}
+    → Settled next d w c left → ℕ
+found_end s = end_of (length s.front) s.closed
 
 pub settle : {T C : Type 0} (next : T → C → T) (d : ℕ) (w : World T C) (k : Kept next d w) (left : Store T C) → MayLeave w left
     → Settled next d w k.chained left
@@ -230,42 +234,9 @@ settle {T} {C} next d w k left may = by (search-newest left.tables (length k.cha
           closed = lc.closed;
           last = lc.end;
           rest = drop lc.count r.to.last.commits ++ r.to.rest;
-          log =
-              r.to.log ∙ ap (λ l. r.to.front ++ l)
-              (ap (joined r.to.closed) (sym (cut lc.count r.to.last.commits r.to.rest))
-              ∙ joined-append r.to.closed (take lc.count r.to.last.commits) (drop lc.count r.to.last.commits ++ r.to.rest)
-              ∙ ap (λ l. l ++ (drop lc.count r.to.last.commits ++ r.to.rest)) (sym lc.same)
-              ∙ sym (joined-append lc.closed lc.end (drop lc.count r.to.last.commits ++ r.to.rest)));
-          told =
-              (let found : length r.to.front + length (joined lc.closed lc.end)
-              ≡ end_of (length r.to.front) lc.closed + length lc.end =
-              end-is (length r.to.front) lc.closed lc.end in
-              let kept : length r.to.front + length (joined r.to.closed (take lc.count r.to.last.commits))
-              ≡ end_of (length r.to.front) r.to.closed + length (take lc.count r.to.last.commits) =
-              end-is (length r.to.front) r.to.closed (take lc.count r.to.last.commits) in
-              let same : length (joined lc.closed lc.end) ≡ length (joined r.to.closed (take lc.count r.to.last.commits)) =
-              ap length lc.same in
-              let count : length (take lc.count r.to.last.commits) ≡ min lc.count (length r.to.last.commits) =
-              length-take lc.count r.to.last.commits in
-              let told : w.told ≤ end_of (length r.to.front) r.to.closed + r.to.last.synced = r.to.told in
-              let synced : r.to.last.synced ≤ length r.to.last.commits = r.to.synced in
-              let enough : r.to.last.synced ≤ lc.count = lc.enough in
-              omega arith);
-          durable =
-              (let found : length r.to.front + length (joined lc.closed lc.end)
-              ≡ end_of (length r.to.front) lc.closed + length lc.end =
-              end-is (length r.to.front) lc.closed lc.end in
-              let kept : length r.to.front + length (joined r.to.closed (take lc.count r.to.last.commits))
-              ≡ end_of (length r.to.front) r.to.closed + length (take lc.count r.to.last.commits) =
-              end-is (length r.to.front) r.to.closed (take lc.count r.to.last.commits) in
-              let same : length (joined lc.closed lc.end) ≡ length (joined r.to.closed (take lc.count r.to.last.commits)) =
-              ap length lc.same in
-              let count : length (take lc.count r.to.last.commits) ≡ min lc.count (length r.to.last.commits) =
-              length-take lc.count r.to.last.commits in
-              let durable : d ≤ end_of (length r.to.front) r.to.closed + r.to.last.synced = r.to.durable in
-              let synced : r.to.last.synced ≤ length r.to.last.commits = r.to.synced in
-              let enough : r.to.last.synced ≤ lc.count = lc.enough in
-              omega arith);
+          log = log_is lc;
+          told = enough lc w.told r.to.told;
+          durable = enough lc d r.to.durable;
           finds = record {
             newest = record {
               are = ap (λ (m : ℕ). left.tables m) r.at ∙ value n.after n.there.0 n.there.1 low (cases_lt (length k.chained.front) n.after)
@@ -297,6 +268,20 @@ settle {T} {C} next d w k left may = by (search-newest left.tables (length k.cha
                 ∙ ap (λ l. l ++ (drop lc.count r.to.last.commits ++ r.to.rest)) (sym lc.same)
                 ∙ sym (joined-append lc.closed lc.end (drop lc.count r.to.last.commits ++ r.to.rest)))
 
+            -- what was synced is found
+            enough : (lc : LeftChain left.segments (length r.to.front) r.to.closed r.to.last) (n : ℕ)
+                → n ≤ end_of (length r.to.front) r.to.closed + r.to.last.synced
+                → n ≤ end_of (length r.to.front) lc.closed + length lc.end
+            enough lc n few =
+                let found = end-is (length r.to.front) lc.closed lc.end in
+                let kept = end-is (length r.to.front) r.to.closed (take lc.count r.to.last.commits) in
+                let count = length-take lc.count r.to.last.commits in
+                let same : length (joined lc.closed lc.end)
+                ≡ length (joined r.to.closed (take lc.count r.to.last.commits)) = ap length lc.same in
+                let synced : r.to.last.synced ≤ length r.to.last.commits = r.to.synced in
+                let more : r.to.last.synced ≤ lc.count = lc.enough in
+                omega arith
+
             last_begins : (lc : LeftChain left.segments (length r.to.front) r.to.closed r.to.last)
                 → IsBegin (length r.to.front) lc.closed (last_at k.chained)
             last_begins lc =
@@ -309,21 +294,18 @@ settle {T} {C} next d w k left may = by (search-newest left.tables (length k.cha
 
             left-tables : (lc : LeftChain left.segments (length r.to.front) r.to.closed r.to.last) (m : ℕ)
                 → (file : Option (Written T)) × MayStand (w.tables m) file × TablesLeft file (left.tables m)
-                → IfSome (left.tables m) (λ (t : T). (m ≤ end_of (length r.to.front) lc.closed)
-                × (t ≡ tables_after next w.first (take m w.log)))
+                → IfSome (left.tables m) (AreLeftTables next w.first w.log (end_of (length r.to.front) lc.closed) m)
             left-tables lc m is =
                 old-tables m (end_of (length r.to.front) lc.closed) (last_at k.chained) (tables_after next w.first (take m w.log))
                 is.0 (left.tables m) (grows lc) (k.old.tables m is.0 is.1) is.2
 
             left-part : (lc : LeftChain left.segments (length r.to.front) r.to.closed r.to.last) (m : ℕ)
                 → (file : Option (Segment C)) × MayStand (w.segments m) file × SegmentLeft file (left.segments m)
-                → (m ≡ end_of (length r.to.front) lc.closed)
-                ⊎ IfSome (left.segments m) (λ (cs : List C). IsPart w.log (end_of (length r.to.front) lc.closed) m cs)
+                → IsLeftSegment w.log (end_of (length r.to.front) lc.closed) m (left.segments m)
             left-part lc m is = of_part (k.old.segments m is.0 is.1)
               where
-                of_part : (m ≡ last_at k.chained) ⊎ IfSome is.0 (λ (s : Segment C). IsPart w.log (last_at k.chained) m s.commits)
-                    → (m ≡ end_of (length r.to.front) lc.closed)
-                    ⊎ IfSome (left.segments m) (λ (cs : List C). IsPart w.log (end_of (length r.to.front) lc.closed) m cs)
+                of_part : IsOldSegment w.log (last_at k.chained) m is.0
+                    → IsLeftSegment w.log (end_of (length r.to.front) lc.closed) m (left.segments m)
                 of_part (inl e) =
                     chain-part left.segments r.to.front lc.closed lc.end
                     (drop lc.count r.to.last.commits ++ r.to.rest) w.log (log_is lc) m lc.chain
@@ -362,12 +344,7 @@ module _ {T C : Type 0} (next : T → C → T) (d : ℕ) (w : World T C) (c : Ch
   pub settled-front : take (length s.front) w.log ≡ s.front
   settled-front = ap (take (length s.front)) s.log ∙ take-append_seam s.front (joined s.closed (s.last ++ s.rest))
 
-  pub is-beginning : IsBeginning next w.first w.log w.told (record {
-    after = length s.front;
-    tables = tables_after next w.first s.front;
-    closed = s.closed;
-    last = s.last;
-  })
+  pub is-beginning : IsBeginning next w.first w.log w.told (found_of s)
   is-beginning = record {
     count = end_of (length s.front) s.closed + length s.last;
     enough = s.told;

@@ -5,13 +5,13 @@ use Rattle.std.proofs.Common.{subst, option_map, take_all}
 use Rattle.std.proofs.lemmas.Bool.{cases_lt}
 use Rattle.std.proofs.lemmas.List.{take-append-le}
 use Rattle.store_core.specs.Places.{sure, MayStand, Segment, settled, SegmentLeft, Written, whole, TablesLeft}
-use Rattle.store_core.specs.Found.{Store, Found, joined, end_of, IsBegin, IsLast, IsChain, Finds, tables_after}
+use Rattle.store_core.specs.Found.{Store, Found, joined, IsBegin, IsLast, IsChain, Finds, tables_after}
 use Rattle.store_core.specs.World.{World, Start, MayLeave, reads, on_disk, after}
 use Rattle.store_core.specs.Runs.{OneStart}
 use Rattle.store_core.proofs.ListLaws.{begin-before, if_some, no_some}
 use Rattle.store_core.proofs.ChainLaws.{stands-sure, sure-chain}
-use Rattle.store_core.proofs.Keeping.{Old, IsPart, part-less, last_at, Chained, Kept, NoCommits, IsTablesAt, IsWrittenAt}
-use Rattle.store_core.proofs.Settling.{Settled, settle, settled-log, settled-length, settled-taken}
+use Rattle.store_core.proofs.Keeping.{Old, AreOldTables, AreOldWritten, IsOldSegment, IsLeftSegment, IsPart, part-less, last_at, Chained, Kept, NoCommits, IsTablesAt, IsWrittenAt}
+use Rattle.store_core.proofs.Settling.{Settled, found_of, found_end, settle, settled-log, settled-length, settled-taken}
 
 chain-there : {C : Type 0} (segments : ℕ → Option (List C)) (at : ℕ) (parts : List (List C)) (last : List C)
     → IsChain segments at parts last → segments at ≡ None → ⊥
@@ -112,26 +112,21 @@ module _ {T C : Type 0} (next : T → C → T) (d : ℕ) (w : World T C) (c : Ch
   ]
 
   crash-tables : (n : ℕ) (file : Option (Written T)) → MayStand (sure (option_map whole (left.tables n))) file
-      → IfSome file (λ (f : Written T). (n ≤ end_of (length s.front) s.closed)
-      × (f ≡ whole (tables_after next w.first (take n w.log))))
+      → IfSome file (AreOldTables next w.first w.log (found_end s) n)
   crash-tables n file stands =
-      subst (λ (o : Option (Written T)). IfSome o (λ (f : Written T). (n ≤ end_of (length s.front) s.closed)
-      × (f ≡ whole (tables_after next w.first (take n w.log)))))
+      subst (λ (o : Option (Written T)). IfSome o (AreOldTables next w.first w.log (found_end s) n))
       (sym (stands-sure (sure (option_map whole (left.tables n))) (option_map whole (left.tables n)) file refl stands))
-      (whole-tables n (end_of (length s.front) s.closed) (tables_after next w.first (take n w.log)) (left.tables n) (s.tables n))
+      (whole-tables n (found_end s) (tables_after next w.first (take n w.log)) (left.tables n) (s.tables n))
 
   crash-part : (log : List C) (n : ℕ) (file : Option (Segment C))
       → MayStand (sure (option_map settled (left.segments n))) file
-      → (n ≡ end_of (length s.front) s.closed)
-      ⊎ IfSome (left.segments n) (λ (cs : List C). IsPart log (end_of (length s.front) s.closed) n cs)
-      → (n ≡ end_of (length s.front) s.closed)
-      ⊎ IfSome file (λ (g : Segment C). IsPart log (end_of (length s.front) s.closed) n g.commits)
+      → IsLeftSegment log (found_end s) n (left.segments n) → IsOldSegment log (found_end s) n file
   crash-part log n file stands (inl e) = inl e
   crash-part log n file stands (inr h) =
       inr (subst (λ (o : Option (Segment C)). IfSome o
-      (λ (g : Segment C). IsPart log (end_of (length s.front) s.closed) n g.commits))
+      (λ (g : Segment C). IsPart log (found_end s) n g.commits))
       (sym (stands-sure (sure (option_map settled (left.segments n))) (option_map settled (left.segments n)) file refl stands))
-      (settled-part log (end_of (length s.front) s.closed) n (left.segments n) h))
+      (settled-part log (found_end s) n (left.segments n) h))
 
   pub crash_keeps : Kept next d (record (on_disk w left) { active = None; written = λ _. None })
   crash_keeps = record {
@@ -164,8 +159,8 @@ module _ {T C : Type 0} (next : T → C → T) (d : ℕ) (w : World T C) (c : Ch
       → IfSome (w.written n) (IsWrittenAt next w.first w.log (length c.front) c.closed n))
       → Old next w (last_at c)
       → Kept next d (record (on_disk w left) {
-        active = Some (end_of (length s.front) s.closed);
-        log = take (end_of (length s.front) s.closed + length s.last) w.log;
+        active = Some (found_end s);
+        log = take (found_end s + length s.last) w.log;
       })
   start_keeps written old = record {
     chained = record {
@@ -181,66 +176,51 @@ module _ {T C : Type 0} (next : T → C → T) (d : ℕ) (w : World T C) (c : Ch
       durable = s.durable;
       chain = sure-chain left.segments (length s.front) s.closed s.last s.finds.chain;
       newer = λ n far file stands. no-newer n far file stands
-          (IsTablesAt next w.first (take (end_of (length s.front) s.closed + length s.last) w.log) (length s.front) s.closed n);
+          (IsTablesAt next w.first (take (found_end s + length s.last) w.log) (length s.front) s.closed n);
       others = no-others;
       written = λ n far. if_some (w.written n)
           (IsWrittenAt next w.first w.log (length c.front) c.closed n)
-          (IsWrittenAt next w.first (take (end_of (length s.front) s.closed + length s.last) w.log) (length s.front) s.closed n)
+          (IsWrittenAt next w.first (take (found_end s + length s.last) w.log) (length s.front) s.closed n)
           (λ f h. (s.begins n far h.0, h.1 ∙ ap (tables_after next w.first) (same-front n (s.begins n far h.0))))
           (written n (s.higher n far));
       active = refl;
     };
     root = ap (λ (o : Option T). sure (option_map whole o)) s.finds.newest.are;
     old = record {
-      tables = λ n file stands. if_some file
-          (λ (f : Written T). (n ≤ end_of (length s.front) s.closed) × (f ≡ whole (tables_after next w.first (take n w.log))))
-          (λ (f : Written T). (n ≤ end_of (length s.front) s.closed)
-          × (f ≡ whole (tables_after next w.first (take n (take (end_of (length s.front) s.closed + length s.last) w.log)))))
+      tables = λ n file stands. if_some file (AreOldTables next w.first w.log (found_end s) n)
+          (AreOldTables next w.first (take (found_end s + length s.last) w.log) (found_end s) n)
           (λ f h. (h.0, h.1 ∙ ap (λ l. whole (tables_after next w.first l)) (same-low n h.0))) (crash-tables n file stands);
-      segments = λ n file stands. crash-part (take (end_of (length s.front) s.closed + length s.last) w.log) n file stands
+      segments = λ n file stands. crash-part (take (found_end s + length s.last) w.log) n file stands
           (cut-part n (s.segments n));
-      written = λ n. if_some (w.written n)
-          (λ (f : Written T). (n ≤ last_at c) × (f.tables ≡ tables_after next w.first (take n w.log)))
-          (λ (f : Written T). (n ≤ end_of (length s.front) s.closed)
-          × (f.tables ≡ tables_after next w.first (take n (take (end_of (length s.front) s.closed + length s.last) w.log))))
-          (λ f h. let low : n ≤ end_of (length s.front) s.closed = (let g = s.grows in let l = h.0 in omega arith) in
+      written = λ n. if_some (w.written n) (AreOldWritten next w.first w.log (last_at c) n)
+          (AreOldWritten next w.first (take (found_end s + length s.last) w.log) (found_end s) n)
+          (λ f h. let low : n ≤ found_end s = (let g = s.grows in let l = h.0 in omega arith) in
           (low, h.1 ∙ ap (λ l. tables_after next w.first l) (same-low n low))) (old.written n);
     };
   }
     where
-      same-low : (n : ℕ) → n ≤ end_of (length s.front) s.closed
-          → take n w.log ≡ take n (take (end_of (length s.front) s.closed + length s.last) w.log)
+      same-low : (n : ℕ) → n ≤ found_end s
+          → take n w.log ≡ take n (take (found_end s + length s.last) w.log)
       same-low n low =
           let long = settled-length next d w c left s in
           ap (take n) (settled-log next d w c left s)
           ∙ take-append-le n (s.front ++ joined s.closed s.last) s.rest (omega (arith, long))
           ∙ ap (take n) (sym (settled-taken next d w c left s))
 
-      cut-part : (n : ℕ) → (n ≡ end_of (length s.front) s.closed)
-          ⊎ IfSome (left.segments n) (λ (cs : List C). IsPart w.log (end_of (length s.front) s.closed) n cs)
-          → (n ≡ end_of (length s.front) s.closed)
-          ⊎ IfSome (left.segments n) (λ (cs : List C). IsPart (take (end_of (length s.front) s.closed + length s.last) w.log)
-          (end_of (length s.front) s.closed) n cs)
+      cut-part : (n : ℕ) → IsLeftSegment w.log (found_end s) n (left.segments n)
+          → IsLeftSegment (take (found_end s + length s.last) w.log) (found_end s) n (left.segments n)
       cut-part n (inl e) = inl e
       cut-part n (inr h) =
           let long = settled-length next d w c left s in
-          inr (if_some (left.segments n) (λ (cs : List C). IsPart w.log (end_of (length s.front) s.closed) n cs)
-          (λ (cs : List C). IsPart (take (end_of (length s.front) s.closed + length s.last) w.log)
-          (end_of (length s.front) s.closed) n cs)
-          (λ cs g. subst (λ (l : List C). IsPart l (end_of (length s.front) s.closed) n cs)
-          (sym (settled-taken next d w c left s))
-          (part-less (s.front ++ joined s.closed s.last) s.rest (end_of (length s.front) s.closed) n cs
-          (omega (arith, long))
-          (subst (λ (l : List C). IsPart l (end_of (length s.front) s.closed) n cs) (settled-log next d w c left s) g))) h)
+          inr (if_some (left.segments n) (IsPart w.log (found_end s) n)
+          (IsPart (take (found_end s + length s.last) w.log) (found_end s) n)
+          (λ cs g. subst (λ (l : List C). IsPart l (found_end s) n cs) (sym (settled-taken next d w c left s))
+          (part-less (s.front ++ joined s.closed s.last) s.rest (found_end s) n cs (omega (arith, long))
+          (subst (λ (l : List C). IsPart l (found_end s) n cs) (settled-log next d w c left s) g))) h)
 
       same-front : (n : ℕ) → IsBegin (length s.front) s.closed n
-          → take n w.log ≡ take n (take (end_of (length s.front) s.closed + length s.last) w.log)
-      same-front n b =
-          let low : n ≤ end_of (length s.front) s.closed = begin-before (length s.front) s.closed n b in
-          let long = settled-length next d w c left s in
-          ap (take n) (settled-log next d w c left s)
-          ∙ take-append-le n (s.front ++ joined s.closed s.last) s.rest (omega (arith, long))
-          ∙ ap (take n) (sym (settled-taken next d w c left s))
+          → take n w.log ≡ take n (take (found_end s + length s.last) w.log)
+      same-front n b = same-low n (begin-before (length s.front) s.closed n b)
 
 -- a crash may leave the store as it reads
 read-tables-left : {T : Type 0} (file : Option (Written T)) → TablesLeft file (option_map (λ f. f.tables) file)
@@ -258,23 +238,15 @@ may-read w = record {
   segments = λ n. ((w.segments n).now, inl refl, read-segment-left (w.segments n).now);
 }
 
+-- what a start finds is that, and nothing else
+pub found-is : {T C : Type 0} (next : T → C → T) (d : ℕ) (w : World T C) (c : Chained next d w) (left : Store T C)
+    (s : Settled next d w c left) (found : Found T C) → Finds left found → found ≡ found_of s
+found-is next d w c left s found finds = one_start left found (found_of s) finds s.finds
+
 -- a server starts with what it finds
 pub started : {T C : Type 0} (next : T → C → T) (d : ℕ) (w : World T C) (k : Kept next d w) (found : Found T C)
     → Finds (reads w) found → Kept next d (after w (Start found))
-started {T} {C} next d w k found finds = with_settled (settle next d w k (reads w) (may-read w))
-  where
-    with_settled : Settled next d w k.chained (reads w) → Kept next d (after w (Start found))
-    with_settled s =
-        let is : found ≡ record {
-          after = length s.front;
-          tables = tables_after next w.first s.front;
-          closed = s.closed;
-          last = s.last;
-        } = one_start (reads w) found (record {
-          after = length s.front;
-          tables = tables_after next w.first s.front;
-          closed = s.closed;
-          last = s.last;
-        }) finds s.finds in
-        subst (λ (f : Found T C). Kept next d (after w (Start f))) (sym is)
-        (start_keeps next d w k.chained (reads w) s k.chained.written k.old)
+started {T} {C} next d w k found finds =
+    let s = settle next d w k (reads w) (may-read w) in
+    subst (λ (f : Found T C). Kept next d (after w (Start f))) (sym (found-is next d w k.chained (reads w) s found finds))
+    (start_keeps next d w k.chained (reads w) s k.chained.written k.old)

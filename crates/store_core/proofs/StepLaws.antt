@@ -9,14 +9,67 @@ use Rattle.store_core.specs.Found.{joined, end_of, IsBegin, tables_after}
 use Rattle.store_core.specs.World.{World, IsActive, IsFull, changed, changed_at}
 use Rattle.store_core.proofs.ListLaws.{joined-append, end-snoc, begin-before, end-begins}
 use Rattle.store_core.proofs.ListLaws.{snoc-begins, if_some}
-use Rattle.store_core.proofs.ChainLaws.{IsSureChain, same-number, changed-same, changed-other, stands-sure, sure-apart}
+use Rattle.store_core.proofs.ChainLaws.{IsSureChain, changed-other, changed-each, renamed-each, stands-sure, sure-apart}
 use Rattle.store_core.proofs.ChainLaws.{sure-last, sure-end, sure-snoc, sure-synced}
-use Rattle.store_core.proofs.Keeping.{Chained, Kept, NoCommits, IsTablesAt, IsWrittenAt, log-length}
-use Rattle.store_core.proofs.Keeping.{IsPart, part-more, part-later, last_at, longer, log-at-end, front-length, active-is, segment-is, stable}
+use Rattle.store_core.proofs.Keeping.{Chained, Kept, IsTablesAt, IsWrittenAt, log-length}
+use Rattle.store_core.proofs.Keeping.{IsPart, NewerTables, OtherSegment, OldTables, OldSegment, IsOldSegment, AreOldTables, AreOldWritten, part-more, part-later, last_at, longer, log-at-end, front-length, active-is, segment-is, stable}
 
 joined-snoc : {C : Type 0} (parts : List (List C)) (p xs : List C) → joined (parts ++ p ∷ []) xs ≡ joined parts (p ++ xs)
 joined-snoc [] p xs = refl
 joined-snoc (q ∷ qs) p xs = ap (λ l. q ++ l) (joined-snoc qs p xs)
+
+-- other segments stand there, the last one and those before it as they were
+pub with_segments : {T C : Type 0} (next : T → C → T) (d : ℕ) (w : World T C) (k : Kept next d w)
+    (segments : ℕ → Place (Segment C)) → IsSureChain segments (length k.chained.front) k.chained.closed k.chained.last
+    → ((n : ℕ) → OtherSegment (length k.chained.front) k.chained.closed n (segments n))
+    → ((n : ℕ) → OldSegment w.log (last_at k.chained) n (segments n))
+    → Kept next d (record w { segments = segments })
+with_segments next d w k segments chain others old = record {
+  chained = record {
+    front = k.chained.front;
+    closed = k.chained.closed;
+    last = k.chained.last;
+    rest = k.chained.rest;
+    log = k.chained.log;
+    synced = k.chained.synced;
+    told = k.chained.told;
+    durable = k.chained.durable;
+    chain = chain;
+    newer = k.chained.newer;
+    others = others;
+    written = k.chained.written;
+    active = k.chained.active;
+  };
+  root = k.root;
+  old = record { tables = k.old.tables; segments = old; written = k.old.written };
+}
+
+-- other tables stand there, those after the front as they were
+pub with_tables : {T C : Type 0} (next : T → C → T) (d : ℕ) (w : World T C) (k : Kept next d w)
+    (tables : ℕ → Place (Written T))
+    → tables (length k.chained.front) ≡ sure (Some (whole (tables_after next w.first k.chained.front)))
+    → ((n : ℕ) → NewerTables next w.first w.log (length k.chained.front) k.chained.closed n (tables n))
+    → ((n : ℕ) → OldTables next w.first w.log (last_at k.chained) n (tables n))
+    → Kept next d (record w { tables = tables })
+with_tables next d w k tables root newer old = record {
+  chained = record {
+    front = k.chained.front;
+    closed = k.chained.closed;
+    last = k.chained.last;
+    rest = k.chained.rest;
+    log = k.chained.log;
+    synced = k.chained.synced;
+    told = k.chained.told;
+    durable = k.chained.durable;
+    chain = k.chained.chain;
+    newer = newer;
+    others = k.chained.others;
+    written = k.chained.written;
+    active = k.chained.active;
+  };
+  root = root;
+  old = record { tables = old; segments = k.old.segments; written = k.old.written };
+}
 
 -- a server makes a commit
 pub commit_keeps : {T C : Type 0} (next : T → C → T) (d : ℕ) (w : World T C) → Kept next d w → (x : C)
@@ -52,8 +105,8 @@ commit_keeps {T} {C} next d w k x = record {
   root = k.root;
   old = record {
     tables = λ n file stands. if_some file
-        (λ (f : Written T). (n ≤ last_at k.chained) × (f ≡ whole (tables_after next w.first (take n w.log))))
-        (λ (f : Written T). (n ≤ last_at k.chained) × (f ≡ whole (tables_after next w.first (take n (w.log ++ x ∷ [])))))
+        (AreOldTables next w.first w.log (last_at k.chained) n)
+        (AreOldTables next w.first (w.log ++ x ∷ []) (last_at k.chained) n)
         (λ f h. (h.0, h.1 ∙ ap (λ l. whole (tables_after next w.first l)) (sym (same n h.0)))) (k.old.tables n file stands);
     segments = λ n file stands. elim (k.old.segments n file stands) [
       | inl e ↦ inl e
@@ -62,8 +115,8 @@ commit_keeps {T} {C} next d w k x = record {
           (λ s h. part-more w.log (x ∷ []) (last_at k.chained) n s.commits inside h) h)
     ];
     written = λ n. if_some (w.written n)
-        (λ (f : Written T). (n ≤ last_at k.chained) × (f.tables ≡ tables_after next w.first (take n w.log)))
-        (λ (f : Written T). (n ≤ last_at k.chained) × (f.tables ≡ tables_after next w.first (take n (w.log ++ x ∷ []))))
+        (AreOldWritten next w.first w.log (last_at k.chained) n)
+        (AreOldWritten next w.first (w.log ++ x ∷ []) (last_at k.chained) n)
         (λ f h. (h.0, h.1 ∙ ap (λ l. tables_after next w.first l) (sym (same n h.0)))) (k.old.written n);
   };
 }
@@ -95,37 +148,19 @@ last_keeps {T} {C} next d w k f rest log synced more = record {
     durable = (let durable : d ≤ last_at k.chained + k.chained.last.synced = k.chained.durable in omega arith);
     chain = sure-last w.segments f (length k.chained.front) k.chained.closed k.chained.last (last_at k.chained) refl k.chained.chain;
     newer = k.chained.newer;
-    others = λ n far. elim (k.chained.others n far) [
-      | inl b ↦ inl b
-      | inr none ↦ other n none (same-number n (last_at k.chained))
-    ];
+    others = changed-each (OtherSegment (length k.chained.front) k.chained.closed) (last_at k.chained) (changed f) w.segments
+        (λ far. inl (end-begins (length k.chained.front) k.chained.closed)) k.chained.others;
     written = k.chained.written;
     active = k.chained.active;
   };
   root = k.root;
   old = record {
     tables = k.old.tables;
-    segments = λ n file stands. apart_old n file stands (same-number n (last_at k.chained));
+    segments = changed-each (OldSegment w.log (last_at k.chained)) (last_at k.chained) (changed f) w.segments
+        (λ file stands. inl refl) k.old.segments;
     written = k.old.written;
   };
 }
-  where
-    other : (n : ℕ) → NoCommits (w.segments n) → (n ≡ last_at k.chained) ⊎ (n ≡ last_at k.chained → ⊥)
-        → IsBegin (length k.chained.front) k.chained.closed n ⊎ NoCommits (changed_at (last_at k.chained) (changed f) w.segments n)
-    other n none (inl e) =
-        inl (subst (λ (m : ℕ). IsBegin (length k.chained.front) k.chained.closed m) (sym e)
-        (end-begins (length k.chained.front) k.chained.closed))
-    other n none (inr apart) =
-        inr (subst (λ (p : Place (Segment C)). NoCommits p) (sym (changed-other (last_at k.chained) (changed f) w.segments n apart)) none)
-
-    apart_old : (n : ℕ) (file : Option (Segment C))
-        → MayStand (changed_at (last_at k.chained) (changed f) w.segments n) file
-        → (n ≡ last_at k.chained) ⊎ (n ≡ last_at k.chained → ⊥)
-        → (n ≡ last_at k.chained) ⊎ IfSome file (λ (s : Segment C). IsPart w.log (last_at k.chained) n s.commits)
-    apart_old n file stands (inl e) = inl e
-    apart_old n file stands (inr apart) =
-        k.old.segments n file (subst (λ (p : Place (Segment C)). MayStand p file)
-        (changed-other (last_at k.chained) (changed f) w.segments n apart) stands)
 
 -- how many commits behind the last segment's are written up to a number
 abbrev lacking : {T C : Type 0} {next : T → C → T} {d : ℕ} {w : World T C} → Chained next d w → ℕ → ℕ
@@ -219,43 +254,24 @@ tell_keeps {T} {C} next d w k at count segment is few = record {
   old = record { tables = k.old.tables; segments = k.old.segments; written = k.old.written };
 }
 
-renamed-none : {C : Type 0} (place : Place (Segment C)) → NoCommits place → NoCommits (renamed (Some empty) place)
-renamed-none {C} place none file (inl e) =
-    subst (λ (o : Option (Segment C)). IfSome o (λ (s : Segment C). s.commits ≡ [])) (sym e) refl
-renamed-none {C} place none file (inr stands) = none file stands
-
 -- a new segment stands behind the last one's beginning
 pub begin_keeps : {T C : Type 0} (next : T → C → T) (d : ℕ) (w : World T C) → Kept next d w → (at new : ℕ) (segment : Segment C)
     → IsActive w at segment → IsFull at new segment
     → Kept next d (record w { segments = changed_at new (renamed (Some empty)) w.segments })
-begin_keeps {T} {C} next d w k at new segment is full = record {
-  chained = record {
-    front = k.chained.front;
-    closed = k.chained.closed;
-    last = k.chained.last;
-    rest = k.chained.rest;
-    log = k.chained.log;
-    synced = k.chained.synced;
-    told = k.chained.told;
-    durable = k.chained.durable;
-    chain = sure-apart w.segments (changed_at new (renamed (Some empty)) w.segments) (length k.chained.front)
-        k.chained.closed k.chained.last (λ n b. changed-other new (renamed (Some empty)) w.segments n (apart n b))
-        k.chained.chain;
-    newer = k.chained.newer;
-    others = λ n far. elim (k.chained.others n far) [
+begin_keeps {T} {C} next d w k at new segment is full =
+    with_segments next d w k (changed_at new (renamed (Some empty)) w.segments)
+    (sure-apart w.segments (changed_at new (renamed (Some empty)) w.segments) (length k.chained.front) k.chained.closed
+    k.chained.last (λ n b. changed-other new (renamed (Some empty)) w.segments n (apart n b)) k.chained.chain)
+    (changed-each (OtherSegment (length k.chained.front) k.chained.closed) new (renamed (Some empty)) w.segments
+    (λ far. elim (k.chained.others new far) [
       | inl b ↦ inl b
-      | inr none ↦ inr (other n none (same-number n new))
-    ];
-    written = k.chained.written;
-    active = k.chained.active;
-  };
-  root = k.root;
-  old = record {
-    tables = k.old.tables;
-    segments = λ n file stands. new_old n file (same-number n new) stands;
-    written = k.old.written;
-  };
-}
+      | inr none ↦
+          inr (renamed-each (λ (o : Option (Segment C)). IfSome o (λ (s : Segment C). s.commits ≡ [])) (Some empty)
+          (w.segments new) refl none)
+    ]) k.chained.others)
+    (changed-each (OldSegment w.log (last_at k.chained)) new (renamed (Some empty)) w.segments
+    (renamed-each (IsOldSegment w.log (last_at k.chained) new) (Some empty) (w.segments new) (inr (inl refl))
+    (k.old.segments new)) k.old.segments)
   where
     apart : (n : ℕ) → IsBegin (length k.chained.front) k.chained.closed n → n ≡ new → ⊥
     apart n b e =
@@ -264,62 +280,24 @@ begin_keeps {T} {C} next d w k at new segment is full = record {
         let here : at ≡ end_of (length k.chained.front) k.chained.closed = active-is next d w k.chained at is.0 in
         omega (arith, full.some, full.next_is)
 
-    other : (n : ℕ) → NoCommits (w.segments n) → (n ≡ new) ⊎ (n ≡ new → ⊥)
-        → NoCommits (changed_at new (renamed (Some empty)) w.segments n)
-    other n none (inl e) =
-        subst (λ (p : Place (Segment C)). NoCommits p) (sym (changed-same new (renamed (Some empty)) w.segments n e))
-        (renamed-none (w.segments n) none)
-    other n none (inr far) =
-        subst (λ (p : Place (Segment C)). NoCommits p) (sym (changed-other new (renamed (Some empty)) w.segments n far)) none
-
-    fresh : (n : ℕ) (file : Option (Segment C)) → MayStand (renamed (Some empty) (w.segments n)) file
-        → (n ≡ last_at k.chained) ⊎ IfSome file (λ (s : Segment C). IsPart w.log (last_at k.chained) n s.commits)
-    fresh n file (inl is) =
-        inr (subst (λ (o : Option (Segment C)). IfSome o
-        (λ (s : Segment C). IsPart w.log (last_at k.chained) n s.commits)) (sym is) (inl refl))
-    fresh n file (inr stands) = k.old.segments n file stands
-
-    new_old : (n : ℕ) (file : Option (Segment C)) → (n ≡ new) ⊎ (n ≡ new → ⊥)
-        → MayStand (changed_at new (renamed (Some empty)) w.segments n) file
-        → (n ≡ last_at k.chained) ⊎ IfSome file (λ (s : Segment C). IsPart w.log (last_at k.chained) n s.commits)
-    new_old n file (inl e) stands =
-        fresh n file (subst (λ (p : Place (Segment C)). MayStand p file)
-        (changed-same new (renamed (Some empty)) w.segments n e) stands)
-    new_old n file (inr far) stands =
-        k.old.segments n file (subst (λ (p : Place (Segment C)). MayStand p file)
-        (changed-other new (renamed (Some empty)) w.segments n far) stands)
-
 pub names_keep : {T C : Type 0} (next : T → C → T) (d : ℕ) (w : World T C) → Kept next d w
     → Kept next d (record w { tables = λ n. sure (w.tables n).now; segments = λ n. sure (w.segments n).now })
-names_keep {T} {C} next d w k = record {
-  chained = record {
-    front = k.chained.front;
-    closed = k.chained.closed;
-    last = k.chained.last;
-    rest = k.chained.rest;
-    log = k.chained.log;
-    synced = k.chained.synced;
-    told = k.chained.told;
-    durable = k.chained.durable;
-    chain = sure-synced w.segments (length k.chained.front) k.chained.closed k.chained.last k.chained.chain;
-    newer = λ n far file stands. k.chained.newer n far file (inl (stands-sure (sure (w.tables n).now) (w.tables n).now file refl stands));
-    others = λ n far. elim (k.chained.others n far) [
+unfolding with_tables
+names_keep {T} {C} next d w k =
+    with_segments next d (record w { tables = λ n. sure (w.tables n).now })
+    (with_tables next d w k (λ n. sure (w.tables n).now) (ap (λ (p : Place (Written T)). sure p.now) k.root)
+    (λ n far file stands. k.chained.newer n far file (now (w.tables n) file stands))
+    (λ n file stands. k.old.tables n file (now (w.tables n) file stands)))
+    (λ n. sure (w.segments n).now)
+    (sure-synced w.segments (length k.chained.front) k.chained.closed k.chained.last k.chained.chain)
+    (λ n far. elim (k.chained.others n far) [
       | inl b ↦ inl b
-      | inr none ↦
-          inr (λ file stands. none file (inl (stands-sure (sure (w.segments n).now) (w.segments n).now file refl stands)))
-    ];
-    written = k.chained.written;
-    active = k.chained.active;
-  };
-  root = ap (λ (p : Place (Written T)). sure p.now) k.root;
-  old = record {
-    tables = λ n file stands.
-        k.old.tables n file (inl (stands-sure (sure (w.tables n).now) (w.tables n).now file refl stands));
-    segments = λ n file stands.
-        k.old.segments n file (inl (stands-sure (sure (w.segments n).now) (w.segments n).now file refl stands));
-    written = k.old.written;
-  };
-}
+      | inr none ↦ inr (λ file stands. none file (now (w.segments n) file stands))
+    ])
+    (λ n file stands. k.old.segments n file (now (w.segments n) file stands))
+  where
+    now : {A : Type 0} (place : Place A) (file : Option A) → MayStand (sure place.now) file → MayStand place file
+    now place file stands = inl (stands-sure (sure place.now) place.now file refl stands)
 
 pub goes_on_keeps : {T C : Type 0} (next : T → C → T) (d : ℕ) (w : World T C) → Kept next d w → (at new : ℕ) (segment : Segment C)
     → IsActive w at segment → IsFull at new segment → w.segments new ≡ sure (Some empty)
@@ -366,15 +344,13 @@ goes_on_keeps {T} {C} next d w k at new segment is full there = record {
   root = k.root;
   old = record {
     tables = λ n file stands. if_some file
-        (λ (f : Written T). (n ≤ last_at k.chained) × (f ≡ whole (tables_after next w.first (take n w.log))))
-        (λ (f : Written T). (n ≤ end_of (length k.chained.front) (k.chained.closed ++ k.chained.last.commits ∷ []))
-        × (f ≡ whole (tables_after next w.first (take n w.log))))
+        (AreOldTables next w.first w.log (last_at k.chained) n)
+        (AreOldTables next w.first w.log (end_of (length k.chained.front) (k.chained.closed ++ k.chained.last.commits ∷ [])) n)
         (λ f h. (let g = grows in let low = h.0 in omega arith, h.1)) (k.old.tables n file stands);
     segments = λ n file stands. inr (part n file stands (k.old.segments n file stands));
     written = λ n. if_some (w.written n)
-        (λ (f : Written T). (n ≤ last_at k.chained) × (f.tables ≡ tables_after next w.first (take n w.log)))
-        (λ (f : Written T). (n ≤ end_of (length k.chained.front) (k.chained.closed ++ k.chained.last.commits ∷ []))
-        × (f.tables ≡ tables_after next w.first (take n w.log)))
+        (AreOldWritten next w.first w.log (last_at k.chained) n)
+        (AreOldWritten next w.first w.log (end_of (length k.chained.front) (k.chained.closed ++ k.chained.last.commits ∷ [])) n)
         (λ f h. (let g = grows in let low = h.0 in omega arith, h.1)) (k.old.written n);
   };
 }

@@ -9,8 +9,9 @@ use Rattle.store_core.specs.Places.{Place, sure, renamed, MayStand, Segment, Wri
 use Rattle.store_core.specs.Found.{Found, joined, end_of, IsBegin, AreNewest, tables_after}
 use Rattle.store_core.specs.World.{World, HasNewer, AreClosed, reads, changed_at}
 use Rattle.store_core.proofs.ListLaws.{joined-append, end-is, end-after, begin-after, begin-before, first-begins, split-at}
-use Rattle.store_core.proofs.ChainLaws.{IsSureChain, same-number, changed-same, changed-other, sure-apart}
-use Rattle.store_core.proofs.Keeping.{Old, IsPart, last_at, Chained, Kept, NoCommits, IsTablesAt, IsWrittenAt, Rerooted, reroot}
+use Rattle.store_core.proofs.ChainLaws.{IsSureChain, changed-other, changed-each, renamed-each, sure-apart}
+use Rattle.store_core.proofs.StepLaws.{with_segments, with_tables}
+use Rattle.store_core.proofs.Keeping.{Old, NewerTables, OtherSegment, NewerWritten, OldTables, OldSegment, OldWritten, IsOldSegment, AreOldTables, last_at, Chained, Kept, NoCommits, IsTablesAt, Rerooted, reroot}
 
 -- what a segment reads as
 abbrev pub commits_at : {C : Type 0} → (ℕ → Place (Segment C)) → ℕ → Option (List C)
@@ -183,10 +184,8 @@ fold-is {T} {C} next d w k found tables are closed is =
 
 -- other tables are written, in their places
 written-keep : {T C : Type 0} (next : T → C → T) (d : ℕ) (w : World T C) (k : Kept next d w) (written : ℕ → Option (Written T))
-    → ((n : ℕ) → length k.chained.front < n
-    → IfSome (written n) (IsWrittenAt next w.first w.log (length k.chained.front) k.chained.closed n))
-    → ((n : ℕ) → IfSome (written n)
-    (λ (f : Written T). (n ≤ last_at k.chained) × (f.tables ≡ tables_after next w.first (take n w.log))))
+    → ((n : ℕ) → NewerWritten next w.first w.log (length k.chained.front) k.chained.closed n (written n))
+    → ((n : ℕ) → OldWritten next w.first w.log (last_at k.chained) n (written n))
     → Kept next d (record w { written = written })
 written-keep next d w k written each every = record {
   chained = record {
@@ -208,6 +207,19 @@ written-keep next d w k written each every = record {
   old = record { tables = k.old.tables; segments = k.old.segments; written = every };
 }
 
+-- of all that a checkpoint writes
+written-each : {T C : Type 0} (next : T → C → T) (d : ℕ) (w : World T C) (k : Kept next d w) (number : ℕ)
+    (f : Option (Written T) → Option (Written T))
+    → NewerWritten next w.first w.log (length k.chained.front) k.chained.closed number (f (w.written number))
+    → OldWritten next w.first w.log (last_at k.chained) number (f (w.written number))
+    → Kept next d (record w { written = changed_at number f w.written })
+written-each {T} next d w k number f here old =
+    written-keep next d w k (changed_at number f w.written)
+    (changed-each (NewerWritten next w.first w.log (length k.chained.front) k.chained.closed) number f w.written here
+    k.chained.written)
+    (changed-each (OldWritten next w.first w.log (last_at k.chained))
+    number f w.written old k.old.written)
+
 pub fold_keeps : {T C : Type 0} (next : T → C → T) (d : ℕ) (w : World T C) → Kept next d w → (found : Found T C) (tables : T)
     → AreNewest (reads w).tables found.after found.tables
     → AreClosed (reads w).segments found.after found.closed found.last
@@ -215,118 +227,44 @@ pub fold_keeps : {T C : Type 0} (next : T → C → T) (d : ℕ) (w : World T C)
     → Kept next d (record w {
       written = changed_at (end_of found.after found.closed) (λ _. Some (record { tables = tables; synced = false })) w.written;
     })
-fold_keeps {T} {C} next d w k found tables are closed is =
-    written-keep next d w k
-    (changed_at (end_of found.after found.closed) (λ _. Some (record { tables = tables; synced = false })) w.written) each
-    (λ n. every n (same-number n (end_of found.after found.closed)))
-  where
-    by : (n : ℕ) → length k.chained.front < n
-        → (n ≡ end_of found.after found.closed) ⊎ (n ≡ end_of found.after found.closed → ⊥)
-        → IfSome (changed_at (end_of found.after found.closed) (λ _. Some (record { tables = tables; synced = false })) w.written n)
-        (IsWrittenAt next w.first w.log (length k.chained.front) k.chained.closed n)
-    by n far (inl e) =
-        subst (λ (o : Option (Written T)). IfSome o (IsWrittenAt next w.first w.log (length k.chained.front) k.chained.closed n))
-        (sym (changed-same (end_of found.after found.closed) (λ _. Some (record { tables = tables; synced = false })) w.written n e))
-        (subst (λ (m : ℕ). IsBegin (length k.chained.front) k.chained.closed m
-        × (tables ≡ tables_after next w.first (take m w.log))) (sym e)
-        (fold-is next d w k found tables are closed is))
-    by n far (inr apart) =
-        subst (λ (o : Option (Written T)). IfSome o (IsWrittenAt next w.first w.log (length k.chained.front) k.chained.closed n))
-        (sym (changed-other (end_of found.after found.closed) (λ _. Some (record { tables = tables; synced = false })) w.written n apart))
-        (k.chained.written n far)
+fold_keeps next d w k found tables are closed is =
+    let is_at = fold-is next d w k found tables are closed is in
+    written-each next d w k (end_of found.after found.closed) (λ _. Some (record { tables = tables; synced = false }))
+    (λ far. is_at)
+    (begin-before (length k.chained.front) k.chained.closed (end_of found.after found.closed) is_at.0, is_at.1)
 
-    each : (n : ℕ) → length k.chained.front < n
-        → IfSome (changed_at (end_of found.after found.closed) (λ _. Some (record { tables = tables; synced = false })) w.written n)
-        (IsWrittenAt next w.first w.log (length k.chained.front) k.chained.closed n)
-    each n far = by n far (same-number n (end_of found.after found.closed))
-
-    every : (n : ℕ) → (n ≡ end_of found.after found.closed) ⊎ (n ≡ end_of found.after found.closed → ⊥)
-        → IfSome (changed_at (end_of found.after found.closed) (λ _. Some (record { tables = tables; synced = false })) w.written n)
-        (λ (f : Written T). (n ≤ last_at k.chained) × (f.tables ≡ tables_after next w.first (take n w.log)))
-    every n (inl e) =
-        let is_at = fold-is next d w k found tables are closed is in
-        let low : end_of found.after found.closed ≤ last_at k.chained =
-        begin-before (length k.chained.front) k.chained.closed (end_of found.after found.closed) is_at.0 in
-        subst (λ (o : Option (Written T)). IfSome o
-        (λ (f : Written T). (n ≤ last_at k.chained) × (f.tables ≡ tables_after next w.first (take n w.log))))
-        (sym (changed-same (end_of found.after found.closed) (λ _. Some (record { tables = tables; synced = false })) w.written n e))
-        (omega (arith, e), is_at.1 ∙ ap (λ (m : ℕ). tables_after next w.first (take m w.log)) (sym e))
-    every n (inr apart) =
-        subst (λ (o : Option (Written T)). IfSome o
-        (λ (f : Written T). (n ≤ last_at k.chained) × (f.tables ≡ tables_after next w.first (take n w.log))))
-        (sym (changed-other (end_of found.after found.closed) (λ _. Some (record { tables = tables; synced = false })) w.written n apart))
-        (k.old.written n)
+synced-too : {T : Type 0} (P : T → Type 0) (o : Option (Written T)) → IfSome o (λ f. P f.tables)
+    → IfSome (option_map (λ (f : Written T). whole f.tables) o) (λ f. P f.tables)
+synced-too P None h = tt
+synced-too P (Some f) h = h
 
 pub sync_tables_keeps : {T C : Type 0} (next : T → C → T) (d : ℕ) (w : World T C) → Kept next d w → (number : ℕ)
     → Kept next d (record w { written = changed_at number (option_map (λ (f : Written T). whole f.tables)) w.written })
-sync_tables_keeps {T} {C} next d w k number =
-    written-keep next d w k (changed_at number (option_map (λ (f : Written T). whole f.tables)) w.written)
-    (λ n far. by n far (same-number n number)) (λ n. every n (same-number n number))
-  where
-    synced : (n : ℕ) (o : Option (Written T)) → IfSome o (IsWrittenAt next w.first w.log (length k.chained.front) k.chained.closed n) → IfSome (option_map (λ (f : Written T). whole f.tables) o) (IsWrittenAt next w.first w.log (length k.chained.front) k.chained.closed n)
-    synced n None h = tt
-    synced n (Some f) h = h
-
-    by : (n : ℕ) → length k.chained.front < n → (n ≡ number) ⊎ (n ≡ number → ⊥)
-        → IfSome (changed_at number (option_map (λ (f : Written T). whole f.tables)) w.written n)
-        (IsWrittenAt next w.first w.log (length k.chained.front) k.chained.closed n)
-    by n far (inl e) =
-        subst (λ (o : Option (Written T)). IfSome o (IsWrittenAt next w.first w.log (length k.chained.front) k.chained.closed n))
-        (sym (changed-same number (option_map (λ (f : Written T). whole f.tables)) w.written n e))
-        (synced n (w.written n) (k.chained.written n far))
-    by n far (inr apart) =
-        subst (λ (o : Option (Written T)). IfSome o (IsWrittenAt next w.first w.log (length k.chained.front) k.chained.closed n))
-        (sym (changed-other number (option_map (λ (f : Written T). whole f.tables)) w.written n apart))
-        (k.chained.written n far)
-
-    kept : (n : ℕ) (o : Option (Written T))
-        → IfSome o (λ (f : Written T). (n ≤ last_at k.chained) × (f.tables ≡ tables_after next w.first (take n w.log)))
-        → IfSome (option_map (λ (f : Written T). whole f.tables) o)
-        (λ (f : Written T). (n ≤ last_at k.chained) × (f.tables ≡ tables_after next w.first (take n w.log)))
-    kept n None h = tt
-    kept n (Some f) h = h
-
-    every : (n : ℕ) → (n ≡ number) ⊎ (n ≡ number → ⊥)
-        → IfSome (changed_at number (option_map (λ (f : Written T). whole f.tables)) w.written n)
-        (λ (f : Written T). (n ≤ last_at k.chained) × (f.tables ≡ tables_after next w.first (take n w.log)))
-    every n (inl e) =
-        subst (λ (o : Option (Written T)). IfSome o
-        (λ (f : Written T). (n ≤ last_at k.chained) × (f.tables ≡ tables_after next w.first (take n w.log))))
-        (sym (changed-same number (option_map (λ (f : Written T). whole f.tables)) w.written n e))
-        (kept n (w.written n) (k.old.written n))
-    every n (inr apart) =
-        subst (λ (o : Option (Written T)). IfSome o
-        (λ (f : Written T). (n ≤ last_at k.chained) × (f.tables ≡ tables_after next w.first (take n w.log))))
-        (sym (changed-other number (option_map (λ (f : Written T). whole f.tables)) w.written n apart))
-        (k.old.written n)
+sync_tables_keeps {T} next d w k number =
+    written-each next d w k number (option_map (λ (f : Written T). whole f.tables))
+    (λ far. synced-too (λ (t : T). IsBegin (length k.chained.front) k.chained.closed number
+    × (t ≡ tables_after next w.first (take number w.log))) (w.written number) (k.chained.written number far))
+    (synced-too (λ (t : T). (number ≤ last_at k.chained) × (t ≡ tables_after next w.first (take number w.log)))
+    (w.written number) (k.old.written number))
 
 -- tables that are on the disk get their name
 pub name_keeps : {T C : Type 0} (next : T → C → T) (d : ℕ) (w : World T C) → Kept next d w → (number : ℕ) (tables : T)
     → w.written number ≡ Some (whole tables) → (w.tables number).now ≡ None
     → Kept next d (record w { tables = changed_at number (renamed (w.written number)) w.tables })
-name_keeps {T} {C} next d w k number tables is none = record {
-  chained = record {
-    front = k.chained.front;
-    closed = k.chained.closed;
-    last = k.chained.last;
-    rest = k.chained.rest;
-    log = k.chained.log;
-    synced = k.chained.synced;
-    told = k.chained.told;
-    durable = k.chained.durable;
-    chain = k.chained.chain;
-    newer = λ n far file stands. by n far file (same-number n number) stands;
-    others = k.chained.others;
-    written = k.chained.written;
-    active = k.chained.active;
-  };
-  root = changed-other number (renamed (w.written number)) w.tables (length k.chained.front) apart ∙ k.root;
-  old = record {
-    tables = λ n file stands. every n file (same-number n number) stands;
-    segments = k.old.segments;
-    written = k.old.written;
-  };
-}
+name_keeps {T} {C} next d w k number tables is none =
+    with_tables next d w k (changed_at number (renamed (w.written number)) w.tables)
+    (changed-other number (renamed (w.written number)) w.tables (length k.chained.front) apart ∙ k.root)
+    (changed-each (NewerTables next w.first w.log (length k.chained.front) k.chained.closed) number
+    (renamed (w.written number)) w.tables (λ far. renamed-each
+    (λ (o : Option (Written T)). IfSome o (IsTablesAt next w.first w.log (length k.chained.front) k.chained.closed number))
+    (w.written number) (w.tables number) (whole-too (IsBegin (length k.chained.front) k.chained.closed number)
+    (tables_after next w.first (take number w.log)) (k.chained.written number far)) (k.chained.newer number far))
+    k.chained.newer)
+    (changed-each (OldTables next w.first w.log (last_at k.chained)) number (renamed (w.written number)) w.tables
+    (renamed-each (λ (o : Option (Written T)). IfSome o (AreOldTables next w.first w.log (last_at k.chained) number))
+    (w.written number) (w.tables number)
+    (whole-too (number ≤ last_at k.chained) (tables_after next w.first (take number w.log)) (k.old.written number))
+    (k.old.tables number)) k.old.tables)
   where
     apart : length k.chained.front ≡ number → ⊥
     apart e =
@@ -335,49 +273,12 @@ name_keeps {T} {C} next d w k number tables is none = record {
         let not_there : (w.tables number).now ≡ None = none in
         cc
 
-    named : (n : ℕ) → IfSome (Some (whole tables)) (IsWrittenAt next w.first w.log (length k.chained.front) k.chained.closed n)
-        → IfSome (Some (whole tables)) (IsTablesAt next w.first w.log (length k.chained.front) k.chained.closed n)
-    named n h = (h.0, ap (λ (t : T). whole t) h.1)
-
-    new : (n : ℕ) → length k.chained.front < n → n ≡ number → (file : Option (Written T))
-        → MayStand (renamed (w.written number) (w.tables n)) file → IfSome file (IsTablesAt next w.first w.log (length k.chained.front) k.chained.closed n)
-    new n far e file (inl here) =
-        subst (λ (o : Option (Written T)). IfSome o (IsTablesAt next w.first w.log (length k.chained.front) k.chained.closed n)) (sym (here ∙ is))
-        (named n (subst (λ (o : Option (Written T)). IfSome o
-        (IsWrittenAt next w.first w.log (length k.chained.front) k.chained.closed n))
-        (ap w.written e ∙ is) (k.chained.written n far)))
-    new n far e file (inr old) = k.chained.newer n far file old
-
-    by : (n : ℕ) → length k.chained.front < n → (file : Option (Written T)) → (n ≡ number) ⊎ (n ≡ number → ⊥)
-        → MayStand (changed_at number (renamed (w.written number)) w.tables n) file
-        → IfSome file (IsTablesAt next w.first w.log (length k.chained.front) k.chained.closed n)
-    by n far file (inl e) stands =
-        new n far e file (subst (λ (p : Place (Written T)). MayStand p file)
-        (changed-same number (renamed (w.written number)) w.tables n e) stands)
-    by n far file (inr other) stands =
-        k.chained.newer n far file (subst (λ (p : Place (Written T)). MayStand p file)
-        (changed-other number (renamed (w.written number)) w.tables n other) stands)
-
-    fresh : (n : ℕ) → n ≡ number → (file : Option (Written T)) → MayStand (renamed (w.written number) (w.tables n)) file
-        → IfSome file (λ (f : Written T). (n ≤ last_at k.chained) × (f ≡ whole (tables_after next w.first (take n w.log))))
-    fresh n e file (inl here) =
-        let h = subst (λ (o : Option (Written T)). IfSome o
-        (λ (f : Written T). (n ≤ last_at k.chained) × (f.tables ≡ tables_after next w.first (take n w.log))))
-        (ap w.written e ∙ is) (k.old.written n) in
-        subst (λ (o : Option (Written T)). IfSome o
-        (λ (f : Written T). (n ≤ last_at k.chained) × (f ≡ whole (tables_after next w.first (take n w.log)))))
-        (sym (here ∙ is)) (h.0, ap (λ (t : T). whole t) h.1)
-    fresh n e file (inr old) = k.old.tables n file old
-
-    every : (n : ℕ) (file : Option (Written T)) → (n ≡ number) ⊎ (n ≡ number → ⊥)
-        → MayStand (changed_at number (renamed (w.written number)) w.tables n) file
-        → IfSome file (λ (f : Written T). (n ≤ last_at k.chained) × (f ≡ whole (tables_after next w.first (take n w.log))))
-    every n file (inl e) stands =
-        fresh n e file (subst (λ (p : Place (Written T)). MayStand p file)
-        (changed-same number (renamed (w.written number)) w.tables n e) stands)
-    every n file (inr other) stands =
-        k.old.tables n file (subst (λ (p : Place (Written T)). MayStand p file)
-        (changed-other number (renamed (w.written number)) w.tables n other) stands)
+    whole-too : (P : Type 0) (value : T) → IfSome (w.written number) (λ (f : Written T). P × (f.tables ≡ value))
+        → IfSome (w.written number) (λ (f : Written T). P × (f ≡ whole value))
+    whole-too P value h =
+        subst (λ (o : Option (Written T)). IfSome o (λ (f : Written T). P × (f ≡ whole value))) (sym is)
+        (let g = subst (λ (o : Option (Written T)). IfSome o (λ (f : Written T). P × (f.tables ≡ value))) is h in
+        (g.0, ap (λ (t : T). whole t) g.1))
 
 -- where newer tables are, all that is older lies before the front
 pub above : {T C : Type 0} (next : T → C → T) (d : ℕ) (w : World T C) (k : Kept next d w) (n newer : ℕ) → HasNewer w n newer
@@ -407,97 +308,28 @@ above {T} {C} next d w k n newer has = by (cases_lt (length k.chained.front) new
 
 pub drop_tables_keeps : {T C : Type 0} (next : T → C → T) (d : ℕ) (w : World T C) (k : Kept next d w) (number : ℕ)
     → number < length k.chained.front → Kept next d (record w { tables = changed_at number (renamed None) w.tables })
-drop_tables_keeps {T} {C} next d w k number low = record {
-  chained = record {
-    front = k.chained.front;
-    closed = k.chained.closed;
-    last = k.chained.last;
-    rest = k.chained.rest;
-    log = k.chained.log;
-    synced = k.chained.synced;
-    told = k.chained.told;
-    durable = k.chained.durable;
-    chain = k.chained.chain;
-    newer = λ n far file stands. k.chained.newer n far file (subst (λ (p : Place (Written T)). MayStand p file)
-        (changed-other number (renamed None) w.tables n (λ e. omega arith)) stands);
-    others = k.chained.others;
-    written = k.chained.written;
-    active = k.chained.active;
-  };
-  root = changed-other number (renamed None) w.tables (length k.chained.front) (λ e. omega arith) ∙ k.root;
-  old = record {
-    tables = λ n file stands. every n file (same-number n number) stands;
-    segments = k.old.segments;
-    written = k.old.written;
-  };
-}
-  where
-    gone : (n : ℕ) (file : Option (Written T)) → MayStand (renamed None (w.tables n)) file
-        → IfSome file (λ (f : Written T). (n ≤ last_at k.chained) × (f ≡ whole (tables_after next w.first (take n w.log))))
-    gone n file (inl is) =
-        subst (λ (o : Option (Written T)). IfSome o
-        (λ (f : Written T). (n ≤ last_at k.chained) × (f ≡ whole (tables_after next w.first (take n w.log))))) (sym is) tt
-    gone n file (inr old) = k.old.tables n file old
-
-    every : (n : ℕ) (file : Option (Written T)) → (n ≡ number) ⊎ (n ≡ number → ⊥)
-        → MayStand (changed_at number (renamed None) w.tables n) file
-        → IfSome file (λ (f : Written T). (n ≤ last_at k.chained) × (f ≡ whole (tables_after next w.first (take n w.log))))
-    every n file (inl e) stands =
-        gone n file (subst (λ (p : Place (Written T)). MayStand p file)
-        (changed-same number (renamed None) w.tables n e) stands)
-    every n file (inr other) stands =
-        k.old.tables n file (subst (λ (p : Place (Written T)). MayStand p file)
-        (changed-other number (renamed None) w.tables n other) stands)
+drop_tables_keeps {T} {C} next d w k number low =
+    with_tables next d w k (changed_at number (renamed None) w.tables)
+    (changed-other number (renamed None) w.tables (length k.chained.front) (λ e. omega arith) ∙ k.root)
+    (changed-each (NewerTables next w.first w.log (length k.chained.front) k.chained.closed) number
+    (renamed None) w.tables (λ far. absurd (omega arith)) k.chained.newer)
+    (changed-each (OldTables next w.first w.log (last_at k.chained)) number (renamed None) w.tables
+    (renamed-each (λ (o : Option (Written T)). IfSome o (AreOldTables next w.first w.log (last_at k.chained) number)) None
+    (w.tables number) tt (k.old.tables number)) k.old.tables)
 
 pub drop_segment_keeps : {T C : Type 0} (next : T → C → T) (d : ℕ) (w : World T C) (k : Kept next d w) (number : ℕ)
     → number < length k.chained.front → Kept next d (record w { segments = changed_at number (renamed None) w.segments })
-drop_segment_keeps {T} {C} next d w k number low = record {
-  chained = record {
-    front = k.chained.front;
-    closed = k.chained.closed;
-    last = k.chained.last;
-    rest = k.chained.rest;
-    log = k.chained.log;
-    synced = k.chained.synced;
-    told = k.chained.told;
-    durable = k.chained.durable;
-    chain = sure-apart w.segments (changed_at number (renamed None) w.segments) (length k.chained.front) k.chained.closed
-        k.chained.last (λ n b. changed-other number (renamed None) w.segments n
-        (λ e. (let h : length k.chained.front ≤ n = begin-after (length k.chained.front) k.chained.closed n b in omega arith)))
-        k.chained.chain;
-    newer = k.chained.newer;
-    others = λ n far. elim (k.chained.others n far) [
-      | inl b ↦ inl b
-      | inr none ↦ inr (subst (λ (p : Place (Segment C)). NoCommits p)
-          (sym (changed-other number (renamed None) w.segments n (λ e. omega arith))) none)
-    ];
-    written = k.chained.written;
-    active = k.chained.active;
-  };
-  root = k.root;
-  old = record {
-    tables = k.old.tables;
-    segments = λ n file stands. every n file (same-number n number) stands;
-    written = k.old.written;
-  };
-}
-  where
-    gone : (n : ℕ) (file : Option (Segment C)) → MayStand (renamed None (w.segments n)) file
-        → (n ≡ last_at k.chained) ⊎ IfSome file (λ (s : Segment C). IsPart w.log (last_at k.chained) n s.commits)
-    gone n file (inl is) =
-        inr (subst (λ (o : Option (Segment C)). IfSome o
-        (λ (s : Segment C). IsPart w.log (last_at k.chained) n s.commits)) (sym is) tt)
-    gone n file (inr old) = k.old.segments n file old
-
-    every : (n : ℕ) (file : Option (Segment C)) → (n ≡ number) ⊎ (n ≡ number → ⊥)
-        → MayStand (changed_at number (renamed None) w.segments n) file
-        → (n ≡ last_at k.chained) ⊎ IfSome file (λ (s : Segment C). IsPart w.log (last_at k.chained) n s.commits)
-    every n file (inl e) stands =
-        gone n file (subst (λ (p : Place (Segment C)). MayStand p file)
-        (changed-same number (renamed None) w.segments n e) stands)
-    every n file (inr other) stands =
-        k.old.segments n file (subst (λ (p : Place (Segment C)). MayStand p file)
-        (changed-other number (renamed None) w.segments n other) stands)
+drop_segment_keeps {T} {C} next d w k number low =
+    with_segments next d w k (changed_at number (renamed None) w.segments)
+    (sure-apart w.segments (changed_at number (renamed None) w.segments) (length k.chained.front) k.chained.closed
+    k.chained.last (λ n b. changed-other number (renamed None) w.segments n
+    (λ e. (let h : length k.chained.front ≤ n = begin-after (length k.chained.front) k.chained.closed n b in omega arith)))
+    k.chained.chain)
+    (changed-each (OtherSegment (length k.chained.front) k.chained.closed) number (renamed None) w.segments
+    (λ far. absurd (omega arith)) k.chained.others)
+    (changed-each (OldSegment w.log (last_at k.chained)) number (renamed None) w.segments
+    (renamed-each (IsOldSegment w.log (last_at k.chained) number) None (w.segments number) (inr tt)
+    (k.old.segments number)) k.old.segments)
 
 -- the server has ended
 pub stop_keeps : {T C : Type 0} (next : T → C → T) (d : ℕ) (w : World T C) → Kept next d w → Kept next d (record w { active = None })
