@@ -86,8 +86,8 @@ impl<E, T: Drop> From<AllocFailed<T>> for FindFault<E> {
 
 /// Finds the newest tables and the segments behind them, by the numbers of the tables that are whole and of the
 /// segments that are there, each list ascending. It reads the segment of the newest tables' number and each later one
-/// once, in order. There is no store without whole tables; of several gaps the first is told. A segment that is not read
-/// ends it, and so does a lack of memory.
+/// once, in order. There is no store without whole tables; of several gaps the first is told. A segment that is not
+/// read ends it, and so does a lack of memory.
 pub fn find<R: ReadsSegments>(
     alloc: Global,
     reader: &mut R,

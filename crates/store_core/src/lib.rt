@@ -7,7 +7,7 @@
 //! tables 0 ── segment 0: 7 ── segment 1: 8, 9            names are numbers: so many commits come before
 //! tables 1 ───────────────────^                          tables 1 are tables 0 and commit 7: a checkpoint made them
 //!
-//! server      Append, Sync, Tell        its segment grows; a crash leaves the synced commits, and first ones of the others
+//! server      Append, Sync, Tell        its segment grows; a crash leaves what was synced, and first ones of the rest
 //!             Begin, SyncNames, GoOn    a new segment; until the names are synced a crash may take the name back
 //! checkpoint  Fold, SyncTables, NameTables, SyncNames, DropTables, DropSegment
 //! each        Stop, Crash, Start
