@@ -2,6 +2,7 @@
 use Rattle.std.proofs.Common.{◌≡◌, ℕ, ◌+◌, ◌<◌, ◌≤◌, List, [], ◌∷◌, ◌++◌, length, take, drop, refl, sym, ap, ◌∙◌}
 use Rattle.std.proofs.Common.{inl, inr, arith, append_assoc, length-append, take_all, Option, Some, None, IfSome}
 use Rattle.std.proofs.lemmas.List.{take-append-drop}
+use Rattle.std.proofs.Math.Seq.{take-append-add, drop-append_seam}
 use Rattle.store_core.specs.Found.{joined, end_of, IsBegin}
 
 pub joined-append : {C : Type 0} (parts : List (List C)) (xs ys : List C)
@@ -89,6 +90,20 @@ take-none n (x ∷ xs) e = absurd cc
 -- a list cut in two is the whole
 pub cut : {C : Type 0} (n : ℕ) (xs ys : List C) → take n xs ++ (drop n xs ++ ys) ≡ xs ++ ys
 cut n xs ys = sym (append_assoc (take n xs) (drop n xs) ys) ∙ ap (λ l. l ++ ys) (take-append-drop n xs)
+
+-- what stands behind a front, up to a number of elements that is not within the next ones
+pub written-up : {C : Type 0} (front last rest : List C) (count more : ℕ) → count ≡ length front + (length last + more)
+    → drop (length front) (take count (front ++ (last ++ rest))) ≡ last ++ take more rest
+written-up front last rest count more is =
+    ap (λ (n : ℕ). drop (length front) (take n (front ++ (last ++ rest)))) is
+    ∙ ap (drop (length front)) (take-append-add front (last ++ rest) (length last + more)
+    ∙ ap (λ l. front ++ l) (take-append-add last rest more))
+    ∙ drop-append_seam front (last ++ take more rest)
+
+-- and what is missing then
+pub rest-of : {C : Type 0} (last rest : List C) (more : ℕ) → last ++ rest ≡ (last ++ take more rest) ++ drop more rest
+rest-of last rest more =
+    sym (append_assoc last (take more rest) (drop more rest) ∙ ap (λ l. last ++ l) (take-append-drop more rest))
 
 pub if_some : {A : Type 0} (o : Option A) (P Q : A → Type 0) → ((x : A) → P x → Q x) → IfSome o P → IfSome o Q
 if_some None P Q f h = tt

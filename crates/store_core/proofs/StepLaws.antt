@@ -2,16 +2,16 @@
 use Rattle.std.proofs.Common.{◌≡◌, ◌⊎◌, ℕ, ◌+◌, ◌-◌, ◌<◌, ◌≤◌, max, List, [], ◌∷◌, ◌++◌, length, take, drop}
 use Rattle.std.proofs.Common.{refl, sym, ap, ◌∙◌, inl, inr, arith, append_assoc, length-append, Option, Some, IfSome}
 use Rattle.std.proofs.Common.{subst}
-use Rattle.std.proofs.lemmas.List.{take-append-drop, take-append-le}
-use Rattle.std.proofs.Math.Seq.{take-append-add, take-append_seam, drop-append_seam}
+use Rattle.std.proofs.lemmas.List.{take-append-le}
+use Rattle.std.proofs.Math.Seq.{take-append_seam, drop-append_seam}
 use Rattle.store_core.specs.Places.{Place, sure, renamed, MayStand, Segment, empty, settled, Written, whole}
 use Rattle.store_core.specs.Found.{joined, end_of, IsBegin, tables_after}
 use Rattle.store_core.specs.World.{World, IsActive, IsFull, changed, changed_at}
-use Rattle.store_core.proofs.ListLaws.{joined-append, end-snoc, begin-before, end-begins}
+use Rattle.store_core.proofs.ListLaws.{written-up, rest-of, joined-append, end-snoc, begin-before, end-begins}
 use Rattle.store_core.proofs.ListLaws.{snoc-begins, if_some}
 use Rattle.store_core.proofs.ChainLaws.{IsSureChain, changed-other, changed-each, renamed-each, stands-sure, sure-apart}
 use Rattle.store_core.proofs.ChainLaws.{sure-last, sure-end, sure-snoc, sure-synced}
-use Rattle.store_core.proofs.Keeping.{Chained, Kept, IsTablesAt, IsWrittenAt, log-length}
+use Rattle.store_core.proofs.Keeping.{Kept, IsTablesAt, IsWrittenAt, log-length}
 use Rattle.store_core.proofs.Keeping.{IsPart, NewerTables, OtherSegment, OldTables, OldSegment, IsOldSegment, AreOldTables, AreOldWritten, part-more, part-later, last_at, longer, log-at-end, front-length, active-is, segment-is, stable}
 
 joined-snoc : {C : Type 0} (parts : List (List C)) (p xs : List C) → joined (parts ++ p ∷ []) xs ≡ joined parts (p ++ xs)
@@ -162,13 +162,9 @@ last_keeps {T} {C} next d w k f rest log synced more = record {
   };
 }
 
--- how many commits behind the last segment's are written up to a number
-abbrev lacking : {T C : Type 0} {next : T → C → T} {d : ℕ} {w : World T C} → Chained next d w → ℕ → ℕ
-lacking c count = count - (last_at c + length c.last.commits)
-
 -- it writes up to a commit
-pub append_keeps : {T C : Type 0} (next : T → C → T) (d : ℕ) (w : World T C) → Kept next d w → (at count : ℕ) (segment : Segment C)
-    → IsActive w at segment → at + length segment.commits ≤ count
+pub append_keeps : {T C : Type 0} (next : T → C → T) (d : ℕ) (w : World T C) → Kept next d w → (at count : ℕ)
+    (segment : Segment C) → IsActive w at segment → at + length segment.commits ≤ count
     → Kept next d (record w {
       segments = changed_at at
           (changed (λ (s : Segment C). record s { commits = drop at (take count w.log) })) w.segments;
@@ -177,45 +173,36 @@ append_keeps {T} {C} next d w k at count segment is enough =
     subst (λ (n : ℕ). Kept next d (record w {
       segments = changed_at n (changed (λ (s : Segment C). record s { commits = drop n (take count w.log) })) w.segments;
     })) (sym at_end)
-    (last_keeps next d w k (λ (s : Segment C). record s { commits = drop (last_at k.chained) (take count w.log) }) (drop (lacking k.chained count) k.chained.rest)
-    log long (omega arith))
+    (last_keeps next d w k (λ (s : Segment C). record s { commits = drop (last_at k.chained) (take count w.log) })
+    (drop more k.chained.rest) log long (omega arith))
   where
     at_end : at ≡ last_at k.chained
     at_end = active-is next d w k.chained at is.0
 
-    counted : count ≡ length (longer k.chained.front k.chained.closed) + (length k.chained.last.commits + (lacking k.chained count))
-    counted =
-        let same : segment ≡ k.chained.last = segment-is next d w k.chained at segment is in
-        let lengths : length segment.commits ≡ length k.chained.last.commits = ap (λ (s : Segment C). length s.commits) same in
-        let front : length (longer k.chained.front k.chained.closed) ≡ last_at k.chained = front-length next d w k.chained in
-        let here : at ≡ last_at k.chained = at_end in
-        omega arith
+    -- so many are written behind those that the last segment has
+    more : ℕ
+    more = count - (last_at k.chained + length k.chained.last.commits)
 
-    taken : take count w.log ≡ (longer k.chained.front k.chained.closed) ++ (k.chained.last.commits ++ take (lacking k.chained count) k.chained.rest)
-    taken =
-        ap (take count) (log-at-end next d w k.chained)
-        ∙ ap (λ (m : ℕ). take m ((longer k.chained.front k.chained.closed) ++ (k.chained.last.commits ++ k.chained.rest))) counted
-        ∙ take-append-add (longer k.chained.front k.chained.closed) (k.chained.last.commits ++ k.chained.rest) (length k.chained.last.commits + (lacking k.chained count))
-        ∙ ap (λ l. (longer k.chained.front k.chained.closed) ++ l) (take-append-add k.chained.last.commits k.chained.rest (lacking k.chained count))
-
-    commits : drop (last_at k.chained) (take count w.log) ≡ k.chained.last.commits ++ take (lacking k.chained count) k.chained.rest
+    commits : drop (last_at k.chained) (take count w.log) ≡ k.chained.last.commits ++ take more k.chained.rest
     commits =
-        ap (drop (last_at k.chained)) taken
-        ∙ ap (λ (m : ℕ). drop m ((longer k.chained.front k.chained.closed) ++ (k.chained.last.commits ++ take (lacking k.chained count) k.chained.rest))) (sym (front-length next d w k.chained))
-        ∙ drop-append_seam (longer k.chained.front k.chained.closed) (k.chained.last.commits ++ take (lacking k.chained count) k.chained.rest)
+        let before = front-length next d w k.chained in
+        let same : length segment.commits ≡ length k.chained.last.commits =
+        ap (λ (s : Segment C). length s.commits) (segment-is next d w k.chained at segment is) in
+        ap (λ l. drop (last_at k.chained) (take count l)) (log-at-end next d w k.chained)
+        ∙ ap (λ (n : ℕ). drop n (take count (longer k.chained.front k.chained.closed
+        ++ (k.chained.last.commits ++ k.chained.rest)))) (sym before)
+        ∙ written-up (longer k.chained.front k.chained.closed) k.chained.last.commits k.chained.rest count more
+        (omega (arith, before, same, at_end))
 
-    log : w.log ≡ k.chained.front ++ joined k.chained.closed (drop (last_at k.chained) (take count w.log) ++ drop (lacking k.chained count) k.chained.rest)
+    log : w.log ≡ k.chained.front
+        ++ joined k.chained.closed (drop (last_at k.chained) (take count w.log) ++ drop more k.chained.rest)
     log =
         k.chained.log ∙ ap (λ l. k.chained.front ++ joined k.chained.closed l)
-        (sym (ap (λ l. l ++ drop (lacking k.chained count) k.chained.rest) commits
-        ∙ append_assoc k.chained.last.commits (take (lacking k.chained count) k.chained.rest) (drop (lacking k.chained count) k.chained.rest)
-        ∙ ap (λ l. k.chained.last.commits ++ l) (take-append-drop (lacking k.chained count) k.chained.rest)))
+        (rest-of k.chained.last.commits k.chained.rest more ∙ ap (λ l. l ++ drop more k.chained.rest) (sym commits))
 
     long : k.chained.last.synced ≤ length (drop (last_at k.chained) (take count w.log))
     long =
-        let l : length (drop (last_at k.chained) (take count w.log)) ≡ length (k.chained.last.commits ++ take (lacking k.chained count) k.chained.rest) = ap length commits in
-        let s : k.chained.last.synced ≤ length k.chained.last.commits = k.chained.synced in
-        omega (arith, length-append k.chained.last.commits (take (lacking k.chained count) k.chained.rest))
+        omega (arith, ap length commits, k.chained.synced, length-append k.chained.last.commits (take more k.chained.rest))
 
 pub sync_keeps : {T C : Type 0} (next : T → C → T) (d : ℕ) (w : World T C) → Kept next d w → (at : ℕ) → w.active ≡ Some at
     → Kept next d (record w {
