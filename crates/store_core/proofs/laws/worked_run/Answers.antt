@@ -1,0 +1,5 @@
+use Rattle.store_core.proofs.WorkedLaws.{worked_run}
+use Rattle.store_core.proofs.laws.worked_run.Goals as goal
+
+pub returns : goal.returns
+returns c = worked_run

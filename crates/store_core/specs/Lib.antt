@@ -1,0 +1,9 @@
+pub mod Places
+pub mod Found
+pub mod Finding
+pub mod Walked
+pub mod World
+pub mod Runs
+pub mod Copies
+pub mod Worked
+pub mod Needed
