@@ -1,0 +1,79 @@
+use Rattle.std.proofs.Common.{◌≡◌, ◌++◌, ◌∙◌, Err, rules, ap, length, subst, sym}
+use Rattle.std.specs.Prelude.{IsSome}
+use Rattle.std.specs.Io.KnownBytes.{Appends}
+use Rattle.row_store.specs.History.{Warehouse, lines_after}
+use Rattle.journal_opening.specs.declared.fault.OpeningFault.TheVariants as opening
+use Rattle.ssb_files.specs.declared.job.JobFault.TheVariants as job
+use Rattle.ssb_journal.specs.Kept.{BeginsWithCommits}
+use Rattle.ssb_journal.specs.Opening.{TellsOpenFault}
+use Rattle.ssb_text.proofs.WrittenLaws.{appends_both}
+use Rattle.changes_command.specs.Signed.{asked_of, changes_behind, changes_text}
+use Rattle.changes_command.specs.Written.{IsCommitsFault, IsFileRefusal}
+use Rattle.changes_command.specs.declared.fault.ChangesRefusal.TheVariants as refusal
+use Rattle.changes_command.proofs.AskedLaws.{text_behind}
+use Rattle.changes_command.proofs.FaultLaws.{of_commits, refused_reading}
+use Rattle.changes_command.proofs.history.write_all.Goals as goal
+
+pub returns-in-Err-clause-fault : goal.returns-in-Err-clause-fault
+returns-in-Err-clause-fault g c =
+    let disk = g.U.UnreadDisk in
+    let file = c.in-Err.field-0-1 in
+    refused_reading c.args.store.now.base c.args.journal.marks (disk.holds c.args.journal.unread) (disk.holds file)
+    (disk.taken file) (disk.is_ended file) c.args.start (job.Found (refusal.Journal (opening.Kept c.in-Err.fault)))
+    (c.in-Err.ensures.known_err ∙ c.loop-next.invariant.known) (g.met.U.UnreadDisk.as_known file)
+    (λ whole begins. subst (λ marks. TellsOpenFault marks whole c.in-Err.fault) c.loop-next.invariant.marks
+    (c.in-Err.ensures.fault whole begins))
+
+pub returns-in_err-write_commits-clause-fault : goal.returns-in_err-write_commits-clause-fault
+returns-in_err-write_commits-clause-fault g c =
+    let disk = g.U.UnreadDisk in
+    let next = c.in-Ok.next.0 in
+    let old = c.loop-next.journal in
+    let why = c.in_err-write_commits.field-0.0 in
+    let base = c.args.store.now.base in
+    let all : next.commits ≡ old.commits ++ c.in-Some.commits.items = search rules in
+    let some : IsSome c.in-Ok.next.1 = search rules in
+    let log : c.loop-next.store.log ++ c.deref.result.now ≡ next.commits =
+    ap (λ (store : Warehouse). store.log ++ c.deref.result.now) c.loop-next.invariant.store
+    ∙ ap (λ batch. old.commits ++ batch) c.deref.ensures.value ∙ sym all in
+    let told : IsCommitsFault base next.commits why =
+    subst (λ b. IsCommitsFault b next.commits why)
+    (ap (λ (store : Warehouse). store.base) c.loop-next.invariant.store)
+    (subst (λ commits. IsCommitsFault c.loop-next.store.base commits why) log c.in_err-write_commits.ensures.fault) in
+    let is : c.from_residual.result ≡ Err why = search rules in
+    let here : IsFileRefusal base c.args.journal.marks (disk.holds c.args.journal.unread) c.args.start why =
+    refused_reading base c.args.journal.marks (disk.holds c.args.journal.unread) (disk.holds next.unread)
+    (disk.taken next.unread) (disk.is_ended next.unread) c.args.start why
+    (c.in-Ok.ensures.known ∙ c.loop-next.invariant.known) (g.met.U.UnreadDisk.as_known next.unread)
+    (λ whole begins. of_commits base c.args.journal.marks whole c.args.start next.commits why
+    (subst (λ marks. BeginsWithCommits marks next.commits whole) c.loop-next.invariant.marks
+    (c.in-Ok.ensures.kept some whole begins)) told) in
+    rw is here
+
+pub loop-next-preserved : goal.loop-next-preserved
+loop-next-preserved g c =
+    let contents = g.W.Write.contents in
+    let a = contents c.args.out.now in
+    let b = contents c.loop-next.out in
+    let e = contents c.write_commits.new.out in
+    let next = c.in-Ok.next.0 in
+    let old = c.loop-next.journal in
+    let base = c.args.store.now.base in
+    let start = c.args.start in
+    let items = c.in-Some.commits.items in
+    let all : next.commits ≡ old.commits ++ items = search rules in
+    let more : Appends b e (changes_text (asked_of start (changes_behind (length old.commits)
+    (lines_after base old.commits) items)))
+    = subst (λ (store : Warehouse). Appends b e (changes_text (asked_of start (changes_behind (length store.log)
+    (lines_after store.base store.log) items)))) c.loop-next.invariant.store
+    (subst (λ batch. Appends b e (changes_text (asked_of start (changes_behind (length c.loop-next.store.log)
+    (lines_after c.loop-next.store.base c.loop-next.store.log) batch)))) c.deref.ensures.value
+    c.in_ok-write_commits.ensures.written) in
+    record {
+      written = subst (λ commits. Appends a e (changes_text (asked_of start (changes_behind 0 base.lines commits))))
+          (sym all) (subst (Appends a e) (sym (text_behind start base old.commits items))
+          (appends_both a b e _ _ c.loop-next.invariant.written more));
+      store = search rules;
+      marks = search rules;
+      known = search rules;
+    }

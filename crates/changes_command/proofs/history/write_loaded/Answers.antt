@@ -1,0 +1,23 @@
+use Rattle.std.proofs.Common.{◌≡◌, ◌∙◌, ap, false, rules, subst, sym, true}
+use Rattle.std.specs.Io.KnownBytes.{Appends}
+use Rattle.ssb_text.proofs.WrittenLaws.{appends_none}
+use Rattle.changes_command.specs.Signed.{changes_text, is_asked}
+use Rattle.changes_command.specs.declared.signed.Sign.TheVariants.{Came}
+use Rattle.changes_command.proofs.AskedLaws.{all_asked, none_asked}
+use Rattle.changes_command.proofs.TextLaws.{text_of_signed}
+use Rattle.changes_command.proofs.history.write_loaded.Goals as goal
+
+pub returns-then-not-asks-clause-written : goal.returns-then-not-asks-clause-written
+returns-then-not-asks-clause-written g c =
+    let a = g.W.Write.contents c.args.out.now in
+    let unasked : is_asked c.args.start 0 ≡ false = search rules in
+    subst (λ lines. Appends a a (changes_text lines)) (sym (none_asked c.args.start 0 Came c.args.lines.now unasked))
+    (appends_none a)
+
+pub returns-in-Ok-clause-written : goal.returns-in-Ok-clause-written
+returns-in-Ok-clause-written g c =
+    let a = g.W.Write.contents c.args.out.now in
+    let b = g.W.Write.contents c.write_lines.new.out in
+    let asked : is_asked c.args.start 0 ≡ true = search rules in
+    subst (Appends a b) (sym (ap changes_text (all_asked c.args.start 0 Came c.args.lines.now asked)
+    ∙ text_of_signed 0 Came c.args.lines.now)) c.in-Ok.ensures

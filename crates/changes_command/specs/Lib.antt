@@ -1,0 +1,5 @@
+pub mod Signed
+pub mod Laws
+pub mod Held
+pub mod Status
+pub mod Written

@@ -1,0 +1,75 @@
+-- A history as signed lines: those that its commits brought, and those that they took away.
+use Rattle.std.specs.Prelude.{ℕ, ◌+◌, Bool, true, nat_lt, List, [], ◌∷◌, ◌++◌, map, filter}
+use Rattle.std.specs.Prelude.{flat_map, codes, decimal}
+use Rattle.row_store.specs.History.{CommitRecord}
+use Rattle.row_store.specs.Lines.{added_by, lines_after_action, lines_after_refresh, lines_of}
+use Rattle.ssb_base.specs.Base.{Tables}
+use Rattle.ssb_schema.specs.Orders.{order_key}
+use Rattle.ssb_schema.specs.Rows.{line_values}
+use Rattle.ssb_schema.specs.declared.line.LineFields.{LineFields}
+use Rattle.ssb_schema.specs.declared.refresh.Action.{Action}
+use Rattle.ssb_schema.specs.declared.refresh.Action.TheVariants.{Add, Amend, Withdraw}
+use Rattle.ssb_text.specs.TableText.{row_text}
+use Rattle.changes_command.specs.declared.signed.ChangesStart.{ChangesStart}
+use Rattle.changes_command.specs.declared.signed.ChangesStart.TheVariants.{Loaded, Behind}
+use Rattle.changes_command.specs.declared.signed.Sign.{Sign}
+use Rattle.changes_command.specs.declared.signed.Sign.TheVariants.{Came, Went}
+
+-- a line, whether it came or went, and by which commit; the loaded lines came by commit 0
+pub record SignedLine : Type 0 where
+  pub commit : ℕ
+  pub sign : Sign
+  pub line : LineFields
+
+-- these lines, with one commit and one sign
+abbrev pub signed : ℕ → Sign → List LineFields → List SignedLine
+signed commit sign lines = map (λ line. record { commit = commit; sign = sign; line = line }) lines
+
+-- the live lines that go by an action: those of the order that it amends or withdraws
+abbrev pub taken_by : List LineFields → Action → List LineFields
+taken_by lines (Add order) = []
+taken_by lines (Amend order) = lines_of (order_key order) lines
+taken_by lines (Withdraw key) = lines_of key lines
+
+-- what an action changes: the lines that go by it, and then those that it adds
+abbrev pub changes_by : ℕ → List LineFields → Action → List SignedLine
+changes_by commit lines action = signed commit Went (taken_by lines action) ++ signed commit Came (added_by action)
+
+-- what the actions of a commit change, one after another
+abbrev pub changes_by_all : ℕ → List LineFields → List Action → List SignedLine
+changes_by_all commit lines [] = []
+changes_by_all commit lines (action ∷ later) =
+    changes_by commit lines action ++ changes_by_all commit (lines_after_action lines action) later
+
+-- what commits change, one after another, which come behind so many others
+abbrev pub changes_behind : ℕ → List LineFields → List CommitRecord → List SignedLine
+changes_behind before lines [] = []
+changes_behind before lines (commit ∷ later) =
+    changes_by_all (before + 1) lines commit.actions
+    ++ changes_behind (before + 1) (lines_after_refresh lines commit.actions) later
+
+-- a history: the loaded lines, and then what its commits change
+abbrev pub signed_lines : Tables → List CommitRecord → List SignedLine
+signed_lines base history = signed 0 Came base.lines ++ changes_behind 0 base.lines history
+
+-- whether the changes of a commit are asked for
+abbrev pub is_asked : ChangesStart → ℕ → Bool
+is_asked Loaded commit = true
+is_asked (Behind count) commit = nat_lt count commit
+
+-- those of the signed lines that are asked for
+abbrev pub asked_of : ChangesStart → List SignedLine → List SignedLine
+asked_of start lines = filter (λ (l : SignedLine). is_asked start l.commit) lines
+
+-- the sign of a line, between bars
+abbrev pub sign_text : Sign → List ℕ
+sign_text Came = codes "|1|"
+sign_text Went = codes "|-1|"
+
+-- a line with a commit and a sign, as it is written
+abbrev pub signed_text : ℕ → Sign → LineFields → List ℕ
+signed_text commit sign line = decimal commit ++ (sign_text sign ++ row_text (line_values line))
+
+-- signed lines, one after another
+abbrev pub changes_text : List SignedLine → List ℕ
+changes_text lines = flat_map (λ (l : SignedLine). signed_text l.commit l.sign l.line) lines

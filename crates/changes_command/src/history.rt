@@ -1,0 +1,200 @@
+//! The changes of a journal's commits, written as its file is read.
+
+ghost use Rattle.std.specs.Prelude.{◌≡◌, ◌+◌, ◌++◌, [], None, true, length, IfOk, IfErr, OnOk};
+ghost use Rattle.std.specs.Io.KnownBytes.{Appends};
+ghost use Rattle.journal_opening.specs.Kept.{IsKnown};
+ghost use Rattle.row_store.specs.History.{lines_after};
+ghost use Rattle.row_store.specs.Refusals.{refusal_of};
+ghost use Rattle.ssb_files.specs.declared.fault.Fault.TheVariants as common;
+ghost use Rattle.ssb_files.specs.declared.job.JobFault.TheVariants as job;
+ghost use Rattle.changes_command.specs.Signed.{asked_of, changes_behind, changes_by_all, changes_text, signed};
+ghost use Rattle.changes_command.specs.Written.{IsCommitsFault, IsFileRefusal, IsTooFar, IsWritten, Reaches};
+
+use crate::fault::ChangesRefusal::Journal;
+use crate::fault::{ChangesFault, ChangesRefusal, NoSuchCommit};
+use crate::signed::{ChangesStart, Sign};
+use crate::writing::{write_commit, write_lines};
+use journal::{Disk, Found as FoundFile, UnreadDisk};
+use journal_opening::OpeningFault;
+use row_store::{Commit, RowStore};
+use ssb_base::Base;
+use ssb_files::Fault;
+use ssb_files::JobFault::{Found, Program};
+use ssb_journal::{HeadForm, JournalReader, OpenedJournal, TableMark, open, replay};
+use ssb_schema::{Line, Refresh};
+use ssb_text::WriteFault;
+use std::alloc::Global;
+use std::hash::RandomState;
+use std::io::Write;
+use std::sync::Arc;
+
+/// Loaded tables, and a journal's file over them, of which nothing was read.
+#[derive(Drop)]
+pub struct ChangesSource<'a, U: UnreadDisk + Drop> {
+    pub base: Arc<Base>,
+    /// By what the journal's head knows the tables.
+    pub marks: &'a [TableMark],
+    /// The journal's file.
+    pub file: U,
+}
+
+/// A journal's file that was read to its end, and is as it was; how many commits it has, the form of its head, and how
+/// many bytes stand behind its last whole group.
+#[derive(Drop)]
+pub struct ReadHistory<D: Disk> {
+    pub found: FoundFile<D>,
+    pub commits: u64,
+    pub form: HeadForm,
+    pub torn: usize,
+}
+
+// Writes the loaded lines, where they are asked for.
+fn write_loaded<W: Write>(
+    out: &mut W,
+    start: ChangesStart,
+    lines: &[Line],
+) -> Result<(), ChangesFault>
+    ensures written { OnOk result (Appends (W.contents out.old) (W.contents out.new)
+        (changes_text (asked_of start (signed 0 Sign.Came lines.now)))) }
+    ensures fault { IfErr result (λ fault. fault ≡ job.Program common.WriteFailed) }
+{
+    if !start.asks(0) {
+        return Ok(());
+    }
+    match write_lines(out, 0, Sign::Came, lines) {
+        Ok(()) => Ok(()),
+        Err(_) => Err(Program(Fault::WriteFailed)),
+    }
+}
+
+// Writes what the next commit changes, where that is asked for, and the refresh is not refused.
+fn write_accepted<W: Write>(
+    out: &mut W,
+    start: ChangesStart,
+    store: &RowStore,
+    refresh: &Refresh,
+) -> Result<(), ChangesFault>
+    ensures written { OnOk result (refusal_of store.now.base store.now.log refresh.now ≡ None
+        → Appends (W.contents out.old) (W.contents out.new) (changes_text (asked_of start (changes_by_all
+        (length store.now.log + 1) (lines_after store.now.base store.now.log) refresh.now)))) }
+    ensures fault { IfErr result (λ fault. fault ≡ job.Program common.WriteFailed) }
+{
+    let number = store.len() as u64 + 1;
+    if !start.asks(number) {
+        return Ok(());
+    }
+    match store.check(refresh) {
+        Ok(()) => match write_commit(out, store, number, refresh.actions()) {
+            Ok(()) => Ok(()),
+            Err(_) => Err(Program(Fault::WriteFailed)),
+        },
+        Err(_) => Ok(()),
+    }
+}
+
+// Makes more commits of a journal again, behind those that a row store has, and writes what they change, where that is
+// asked for. The first commit that is refused is told.
+fn write_commits<W: Write>(
+    out: &mut W,
+    start: ChangesStart,
+    store: &mut RowStore,
+    commits: &[Commit],
+) -> Result<(), ChangesFault>
+    ensures written { OnOk result (Appends (W.contents out.old) (W.contents out.new) (changes_text (asked_of start
+        (changes_behind (length store.old.log) (lines_after store.old.base store.old.log) commits.now)))) }
+    ensures store { OnOk result (store.new ≡ record { base = store.old.base; log = store.old.log ++ commits.now }) }
+    ensures fault { IfErr result (IsCommitsFault store.old.base (store.old.log ++ commits.now)) }
+{
+    for place in 0..commits.len() {
+        let commit = &commits[place];
+        write_accepted(out, start, store, &commit.refresh)?;
+        if let Err(fault) = replay(store, &commits[place..place + 1]) {
+            return Err(Found(Journal(OpeningFault::Replay(fault))));
+        }
+        store.soundness();
+    }
+    Ok(())
+}
+
+// The same of all commits of a journal's file, as that is read; they are forgotten.
+fn write_all<'a, U: UnreadDisk + Drop, W: Write>(
+    alloc: Global,
+    out: &mut W,
+    start: ChangesStart,
+    store: &mut RowStore,
+    journal: JournalReader<'a, U>,
+) -> Result<JournalReader<'a, U>, ChangesFault>
+    requires none { store.old.log ≡ [] }
+    requires unread { journal.commits ≡ [] }
+    ensures written { IfOk result (λ read. Appends (W.contents out.old) (W.contents out.new) (changes_text (asked_of start
+        (changes_behind 0 store.old.base.lines read.commits)))) }
+    ensures store { IfOk result (λ read. store.new ≡ record { base = store.old.base; log = read.commits }) }
+    ensures marks { IfOk result (λ read. read.marks ≡ journal.entry.marks) }
+    ensures known { IfOk result (λ read. U.holds read.unread ≡ U.holds journal.entry.unread) }
+    ensures end { IfOk result (λ read. read.is_done ≡ true) }
+    ensures fault { IfErr result (IsFileRefusal store.old.base journal.entry.marks (U.holds journal.entry.unread) start) }
+{
+    let mut journal = journal;
+    loop {
+        let (next, found) = match journal.next(alloc) {
+            Ok(next) => next,
+            Err((fault, _)) => return Err(Found(Journal(OpeningFault::Kept(fault)))),
+        };
+        let Some(commits) = found else {
+            return Ok(next);
+        };
+        write_commits(out, start, store, &commits)?;
+        let count = store.len();
+        store.forget(count as u64);
+        journal = next;
+    }
+}
+
+// Whether there are as many commits as come before those that are asked for.
+fn check_reaches(start: ChangesStart, commits: u64) -> Result<(), ChangesFault>
+    ensures reaches { OnOk result (Reaches start commits) }
+    ensures fault { IfErr result (IsTooFar start commits) }
+{
+    match start {
+        ChangesStart::Behind(number) if commits < number => {
+            Err(Found(ChangesRefusal::Commit(NoSuchCommit { number })))
+        }
+        _ => Ok(()),
+    }
+}
+
+/// Writes the changes of a journal's commits that are asked for, as its file is read, in the order of the commits. Each
+/// piece of a line is one `write`, so a caller buffers. The commits are made again over the tables, and forgotten: they
+/// take no memory. Of two faults the first in the file is told; what commits before it change was written.
+pub fn write_history<'a, U: UnreadDisk + Drop, W: Write>(
+    alloc: Global,
+    hashing: RandomState,
+    source: ChangesSource<'a, U>,
+    start: ChangesStart,
+    out: &mut W,
+) -> Result<ReadHistory<U::Whole>, ChangesFault>
+    requires unread { U.taken source.file ≡ [] }
+    ensures written { IfOk result (λ read. IsWritten source.entry.base.value source.entry.marks.now
+        (U.Whole.seen read.found) start (W.contents out.old) (W.contents out.new)) }
+    ensures known { IfOk result (λ read. IsKnown (U.holds source.entry.file) (U.Whole.seen read.found)) }
+    ensures fault { IfErr result (IsFileRefusal source.entry.base.value source.entry.marks.now
+        (U.holds source.entry.file) start) }
+{
+    let ChangesSource { base, marks, file } = source;
+    let journal = match open(alloc, marks, file) {
+        Ok(journal) => journal,
+        Err((fault, _)) => return Err(Found(Journal(OpeningFault::Kept(fault)))),
+    };
+    write_loaded(out, start, base.lines())?;
+    let mut store = RowStore::new(alloc, base, hashing)?;
+    let journal = write_all(alloc, out, start, &mut store, journal)?;
+    store.soundness();
+    let OpenedJournal { found, kept, torn } = journal.finish();
+    check_reaches(start, kept.count)?;
+    Ok(ReadHistory {
+        found,
+        commits: kept.count,
+        form: kept.form,
+        torn: torn.len(),
+    })
+}

@@ -1,0 +1,9 @@
+//! What holds of the signed lines of every history: the law is the contract of a function that does nothing.
+
+ghost use Rattle.changes_command.specs.Laws.{SignsAddUp};
+
+/// The signs add up: for each line and each n, those up to commit n tell how often the line is among the lines after
+/// the first n commits.
+pub fn signs_add_up()
+    ensures { SignsAddUp }
+{}

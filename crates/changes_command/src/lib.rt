@@ -1,0 +1,40 @@
+//! The word `changes`: what each commit of a journal brought and took away, as signed lines on standard output.
+//!
+//! ```text
+//! tables ── base_of ─▶ base ─────────────┐
+//! journal ── next ─▶ commits, some after some ── write_commits ─▶ 2|-1|7|1|.. , 2|1|7|1|.. , ..
+//!                                        └ row store: what an order has when it goes
+//! ```
+//!
+//! The signed lines of a history (`specs/Signed`: `signed_lines`) are the loaded lines, with commit 0, and then, commit
+//! by commit and action by action, the lines that go and those that come. The law of them is the contract of
+//! [`signs_add_up`] (`specs/Laws`): for each line and each n, its signs up to commit n add up to how often it is among
+//! the lines after the first n commits. So whoever keeps them can tell the lines of every moment.
+//!
+//! The contract of [`write_history`] (`specs/Written`): what is written is the text of the signed lines that are asked
+//! for, of the commits that the file keeps, which are a legal history over the base; or why it is not. That of
+//! [`run_changes`]: with status 0 so much was written of the tables that the five texts spell.
+//!
+//! Commits are made again in a row store as the file is read, and forgotten, so memory is that of the live lines. What
+//! an order has when it goes is read off the store, or, where an earlier action of the same refresh has brought or taken
+//! it, off that action.
+//!
+//! ```text
+//! let source = ChangesSource { base, marks: &marks, file };
+//! let read = write_history(alloc, hashing, source, ChangesStart::Behind(2), &mut out)?;
+//! // out: 3|1|9|1|3|4|3|19971215|o|0|1|10|10|0|10|2000|0|19971215|AIR
+//! ```
+#![tactic(auto)]
+
+mod changing;
+mod fault;
+mod history;
+mod laws;
+mod signed;
+mod writing;
+
+pub use changing::{ChangesPlace, changes, run_changes};
+pub use fault::{ChangesFault, ChangesRefusal, NoSuchCommit};
+pub use history::{ChangesSource, ReadHistory, write_history};
+pub use laws::signs_add_up;
+pub use signed::{ChangesStart, Sign};
