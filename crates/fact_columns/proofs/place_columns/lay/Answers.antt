@@ -1,4 +1,4 @@
-use Rattle.std.proofs.Common.{◌≡◌, ◌<◌, ◌∙◌, ap, arith, get_or, length}
+use Rattle.std.proofs.Common.{◌<◌, ◌∙◌, ap, arith, get_or, length}
 use Rattle.std.proofs.lemmas.List.{get_or_default, length-set}
 use Rattle.fact_columns.proofs.LaidLaws.{all_laid, lay_more, lies_within}
 use Rattle.fact_columns.proofs.place_columns.lay.Goals as goal

@@ -1,4 +1,4 @@
-use Rattle.std.proofs.Common.{◌≡◌, ◌<◌, ◌∙◌, ap, arith, get_or, length, map, vec_len}
+use Rattle.std.proofs.Common.{◌≡◌, ◌∙◌, ap, arith, get_or, length, map, vec_len}
 use Rattle.std.specs.List.{range_with_len}
 use Rattle.fact_columns.specs.Columns.{Held, place_at}
 use Rattle.fact_columns.proofs.LaidLaws.{numbers_below, numbers_len}
