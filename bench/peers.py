@@ -1,4 +1,4 @@
-"""The peers that `run` measures: ClickHouse in two forms, PostgreSQL and SQLite, each behind the same calls.
+"""The peers that `run` measures: ClickHouse in three forms, PostgreSQL and SQLite, each behind the same calls.
 
     missing()   the Debian package that is to be installed first, or None
     start()     starts the peer with an empty database in a folder of its own; no service of the system is used
@@ -239,10 +239,25 @@ class ClickHouse(Peer):
 class ClickHouseFlat(ClickHouse):
     """The same server with one wide table that is made from the five."""
     title, queries = "ClickHouse, wide", "queries_clickhouse_flat.sql"
+    order = "d_year, lo_orderdate, lo_orderkey, lo_linenumber"
 
     def load(self, data):
         super().load(data)
         self.script("flat_clickhouse.sql")
 
+    def script(self, name):
+        """Runs the statements of a file, one request each; the wide table is made in this form's order."""
+        given = f"ORDER BY ({ClickHouseFlat.order})"
+        for statement in (HERE / name).read_text().split(";"):
+            if statement.strip():
+                self.post(statement.replace(given, f"ORDER BY ({self.order})"))
 
-PEERS = {"clickhouse": ClickHouse, "clickhouse-flat": ClickHouseFlat, "pg": Postgres, "sqlite": Sqlite}
+
+class ClickHouseLaid(ClickHouseFlat):
+    """The wide table in the order in which ours lays loaded lines."""
+    title = "ClickHouse, wide, our order"
+    order = "s_region, c_region, d_yearmonthnum"
+
+
+PEERS = {"clickhouse": ClickHouse, "clickhouse-flat": ClickHouseFlat, "clickhouse-laid": ClickHouseLaid,
+         "pg": Postgres, "sqlite": Sqlite}

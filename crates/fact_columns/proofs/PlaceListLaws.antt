@@ -3,7 +3,7 @@ use Rattle.std.proofs.Common.{◌≡◌, ◌≢◌, ℕ, ◌+◌, ◌-◌, ◌<�
 use Rattle.std.proofs.Common.{refl, ap, ◌∙◌, sym, arith, append_assoc, append-nil}
 use Rattle.std.specs.List.{range_with_len}
 use Rattle.std.proofs.lemmas.List.{get_or-set_same, get_or-set_other, get_or_push, get_or_append_left}
-use Rattle.std.proofs.lemmas.List.{get_or-append-add, get_or-map, get_or_default, length-map}
+use Rattle.std.proofs.lemmas.List.{ext_get_or, get_or-append-add, get_or-map, get_or_default, length-map}
 use Rattle.std.proofs.lemmas.List.FromFn.{map-range_with_len_more, length-map-range_with_len, get_or-map-range_with_len}
 use Rattle.std.proofs.lemmas.Grind.{same_number_lists}
 use Rattle.fact_columns.specs.declared.place.Place.{Place}
@@ -210,3 +210,59 @@ read_at t h is i d within = grind (arith, get_or-map-range_with_len, zero_add)
 -- an element at an index within
 pub element : (xs : List ℕ) (i x : ℕ) → i < length xs → x ≡ get_or xs i x → x ≡ get_or xs i 0
 element xs i x within is = is ∙ get_or_default xs i x 0 within
+
+-- a column, read in the order of these numbers
+abbrev read_in : List ℕ → List ℕ → List ℕ
+read_in numbers column = map (λ number. get_or column number 0) numbers
+
+read_next : (numbers column : List ℕ) (i : ℕ) → i < length numbers
+    → get_or (read_in numbers column) i 0 ≡ get_or column (get_or numbers i 0) 0
+read_next numbers column i within = get_or-map (λ number. get_or column number 0) numbers i 0 0 within
+
+-- places whose columns are read in the order of these numbers
+pub laid_places : (order customer supplier part date terms price revenue cost customer_class supplier_class part_class
+    date_class : List ℕ) (n m : ℕ) (numbers : List ℕ) (other : Place) → length numbers ≡ m
+    → ((i : ℕ) → i < length numbers → get_or numbers i 0 < n)
+    → map (place_at (read_in numbers order) (read_in numbers customer) (read_in numbers supplier) (read_in numbers part)
+    (read_in numbers date) (read_in numbers terms) (read_in numbers price) (read_in numbers revenue)
+    (read_in numbers cost) (read_in numbers customer_class) (read_in numbers supplier_class)
+    (read_in numbers part_class) (read_in numbers date_class)) (range_with_len 0 m)
+    ≡ map (λ number. get_or (map (place_at order customer supplier part date terms price revenue cost customer_class
+    supplier_class part_class date_class) (range_with_len 0 n)) number other) numbers
+laid_places order customer supplier part date terms price revenue cost customer_class supplier_class part_class
+    date_class n m numbers other as_many below =
+    ext_get_or other _ _ (places_len laid m ∙ sym (length-map numbers pick ∙ as_many)) (λ i within.
+    let here : i < m = omega (arith, within, places_len laid m) in
+    let inside : i < length numbers = omega (arith, here, as_many) in
+    let number : ℕ = get_or numbers i 0 in
+    let read = λ (column : List ℕ). read_next numbers column i inside in
+    get_or-map-range_with_len laid 0 m i i other here (zero_add i)
+    ∙ (λ j. record {
+      order = read order j;
+      customer = read customer j;
+      supplier = read supplier j;
+      part = read part j;
+      date = read date j;
+      terms = read terms j;
+      price = read price j;
+      revenue = read revenue j;
+      cost = read cost j;
+      customer_class = read customer_class j;
+      supplier_class = read supplier_class j;
+      part_class = read part_class j;
+      date_class = read date_class j;
+    })
+    ∙ sym (get_or-map pick numbers i 0 other inside
+    ∙ get_or-map-range_with_len at 0 n number number other (below i inside) (zero_add number))) where
+      laid : ℕ → Place
+      laid = place_at (read_in numbers order) (read_in numbers customer) (read_in numbers supplier) (read_in numbers part)
+          (read_in numbers date) (read_in numbers terms) (read_in numbers price) (read_in numbers revenue)
+          (read_in numbers cost) (read_in numbers customer_class) (read_in numbers supplier_class)
+          (read_in numbers part_class) (read_in numbers date_class)
+
+      at : ℕ → Place
+      at = place_at order customer supplier part date terms price revenue cost customer_class supplier_class part_class
+          date_class
+
+      pick : ℕ → Place
+      pick number = get_or (map at (range_with_len 0 n)) number other

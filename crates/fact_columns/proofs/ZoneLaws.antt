@@ -1,7 +1,7 @@
 -- Zones after a line is written, and after one more.
 use Rattle.std.proofs.Common.{◌≡◌, ◌≢◌, ◌⊎◌, inl, inr, true, false, eqb, ℕ, ◌+◌, ◌<◌, ◌≤◌, ◌/◌, ◌∙◌, List, [], ◌∷◌, ◌++◌, map, set, get_or, length}
-use Rattle.std.proofs.Common.{refl, ap, sym, subst, arith, take}
-use Rattle.std.proofs.lemmas.List.{map-set, map_push, length-map, length-set, length-append, take_all, take-append-le}
+use Rattle.std.proofs.Common.{refl, ap, sym, subst, arith}
+use Rattle.std.proofs.lemmas.List.{map-set, map_push, length-map, length-set, length-append}
 use Rattle.std.proofs.lemmas.List.{get_or-set_same, get_or-set_other, get_or_push, get_or_append_left}
 use Rattle.std.proofs.lemmas.Bool.Decides.{eqb_tells}
 use Rattle.std.proofs.Math.Seq.{map-set_same}
@@ -98,14 +98,6 @@ module _ (old new : Sets) (rows : List ℕ) (keep : KeepSets old new) (h : AreZo
 
 -- of a table, after a write, after one place more, and after a place is freed
 module _ (old new : TableZones) (places : List Place) (keep : KeepAll old new) (h : AreZonesOfPlaces old places) where
-  pub zones_kept : AreZonesOfPlaces new places
-  zones_kept = record {
-    customers = zoned_kept old.customers new.customers _ keep.customers h.customers;
-    suppliers = zoned_kept old.suppliers new.suppliers _ keep.suppliers h.suppliers;
-    parts = zoned_kept old.parts new.parts _ keep.parts h.parts;
-    dates = zoned_kept old.dates new.dates _ keep.dates h.dates;
-  }
-
   within_rows : (f : Place → ℕ) (at : ℕ) → at < length places → at < length (map f places)
   within_rows f at within = omega (arith, within, length-map places f)
 
@@ -204,10 +196,3 @@ table_freed columns later zones at h places room = record {
         room,
       ));
 }
-
--- what stood before others, taken from both
-pub first_taken : (own more all : List Place) (count : ℕ) → count ≡ length own → all ≡ own ++ more
-    → own ≡ take count all
-first_taken own more all count is both =
-    sym (ap (λ places. take count places) both ∙ take-append-le count own more (omega (arith, is))
-    ∙ take_all count own (omega (arith, is)))

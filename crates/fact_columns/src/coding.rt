@@ -1,12 +1,11 @@
 //! Lines in codes.
-ghost use Rattle.std.specs.Prelude.{◌≡◌, ◌++◌, List, Some, flat_map, slice_get, slice_index, IfOk, OnOk};
+ghost use Rattle.std.specs.Prelude.{◌≡◌, ◌++◌, List, Some, flat_map, slice_index, IfOk, OnOk};
 ghost use Rattle.ssb_schema.specs.declared.fact.Fact.{Fact as PlainFact};
 ghost use Rattle.ssb_schema.specs.Facts.{fact_of, facts_of};
 ghost use Rattle.row_store.specs.Lines.{added_by};
 ghost use Rattle.dimension_index.specs.Classes.{classes_of};
 ghost use Rattle.dimension_index.specs.Keys.{position_of};
 ghost use Rattle.fact_columns.specs.Coded.{AreCoded, AreCodesOf, IsCodeOf, IsCoded};
-ghost use Rattle.fact_columns.specs.Laid.{lines_at};
 
 use crate::action::added;
 use crate::place::{Place, terms};
@@ -60,52 +59,39 @@ pub fn coded(index: &DimIndex, line: &Line) -> Result<Place, AllocError>
     })
 }
 
-// The line of a number; an error where there is none.
-fn numbered(lines: &[Line], number: u32) -> Result<&Line, AllocError>
-    ensures { IfOk result (λ line. slice_get lines.now number ≡ Some line.now) }
-{
-    match lines.get(number as usize) {
-        Some(line) => Ok(line),
-        None => Err(AllocError),
-    }
-}
-
-// The lines of these numbers in codes, in columns of their own; an error where there is no such line.
+// Lines in codes, in columns of their own.
 #[tactic(auto, unfolding(crate::specs::Coded::IsCoded))]
 fn table_of_piece(
     alloc: Global,
     index: &DimIndex,
     lines: &[Line],
-    numbers: &[u32],
 ) -> Result<PlaceColumns, AllocError>
-    ensures { IsCoded index.now.dimensions (lines_at lines.now numbers.now) result }
+    ensures { IsCoded index.now.dimensions lines.now result }
 {
     let mut table = PlaceColumns::new(alloc);
-    table.reserve(numbers.len())?;
-    for number in numbers {
-        let line = numbered(lines, *number)?;
+    table.reserve(lines.len())?;
+    for line in lines {
         table.push(coded(index, line)?);
     }
     Ok(table)
 }
 
-/// The lines of these numbers in codes, in columns one behind another, by as many threads as there are processors; an
-/// error in place of columns for which there is no memory, or where the base lacks a row that a line names.
+/// Lines in codes, in columns one behind another, by as many threads as there are processors; an error in place of
+/// columns for which there is no memory, or where the base lacks a row that a line names.
 pub fn coded_pieces(
     rt: &(impl Threads + Sync),
     alloc: Global,
     index: &DimIndex,
     lines: &[Line],
-    numbers: &[u32],
 ) -> Result<Vec<Result<PlaceColumns, AllocError>>, AllocError>
-    ensures { IfOk result (λ pieces. AreCoded index.now.dimensions (lines_at lines.now numbers.now) pieces.items) }
+    ensures { IfOk result (λ pieces. AreCoded index.now.dimensions lines.now pieces.items) }
 {
-    numbers
+    lines
         .par_chunks(PIECE)
         .map(
-            |numbers: &[u32]| -> Result<PlaceColumns, AllocError>
-                ensures { IsCoded index.entry.now.dimensions (lines_at lines.entry.now numbers.now) result }
-            { table_of_piece(alloc, index, lines, numbers) },
+            |lines: &[Line]| -> Result<PlaceColumns, AllocError>
+                ensures { IsCoded index.entry.now.dimensions lines.now result }
+            { table_of_piece(alloc, index, lines) },
         )
         .collect(rt, alloc)
 }

@@ -47,15 +47,15 @@ fn mark_from(columns: &PlaceColumns, zones: &mut TableZones, from: usize)
 }
 
 impl FactTable {
-    /// A table without places, which takes over zones without chunks.
-    pub fn new(alloc: Global, zones: TableZones) -> FactTable
-        requires { AreEmpty zones }
-        ensures { result ≡ record { places = []; room = 0 } }
+    /// A table of these columns, which takes over zones without chunks.
+    pub fn of(columns: PlaceColumns, mut zones: TableZones) -> Result<FactTable, AllocError>
+        requires empty { AreEmpty zones }
+        requires full { columns.room ≡ 0 }
+        ensures { IfOk result (λ table. table.places ≡ columns.places) }
     {
-        FactTable {
-            columns: PlaceColumns::new(alloc),
-            zones,
-        }
+        zones.cover(columns.len())?;
+        mark_from(&columns, &mut zones, 0);
+        Ok(FactTable { columns, zones })
     }
 
     /// How many places there are, live or free.
@@ -127,21 +127,6 @@ impl FactTable {
     {
         self.zones.mark(self.columns.len(), &with);
         self.columns.push(with);
-    }
-
-    /// Puts the places of columns behind those of this table.
-    pub fn append(&mut self, other: &PlaceColumns) -> Result<(), AllocError>
-        ensures places { OnOk result (self.new.places ≡ self.old.places ++ other.now.places) }
-        ensures unchanged { OnErr result (self.new ≡ self.old) }
-    {
-        let from = self.columns.len();
-        let Some(places) = from.checked_add(other.len()) else {
-            return Err(AllocError);
-        };
-        self.zones.cover(places)?;
-        self.columns.append(other)?;
-        mark_from(&self.columns, &mut self.zones, from);
-        Ok(())
     }
 
     /// The columns that queries read: a line's rows by their classes.

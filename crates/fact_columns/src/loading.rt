@@ -7,10 +7,9 @@ ghost use Rattle.ssb_schema.specs.declared.line.LineFields.{LineFields};
 ghost use Rattle.ssb_schema.specs.Facts.{facts_of};
 ghost use Rattle.fact_columns.specs.Spans.{Covers};
 ghost use Rattle.fact_columns.specs.Coded.{AreCoded, AreCodesOf};
-ghost use Rattle.fact_columns.specs.Laid.{lines_at};
 ghost use Rattle.fact_columns.specs.Loading.{IsLoaded};
 
-use crate::clusters::{laid_out, places_of};
+use crate::clusters::laid_out;
 use crate::coding::coded_pieces;
 use crate::fact_table::FactTable;
 use crate::place_columns::PlaceColumns;
@@ -40,44 +39,41 @@ fn batch_end(from: usize, len: usize) -> usize
 
 // Puts columns behind one another; an error at the first that could not be made.
 fn append_all(
-    table: &mut FactTable,
+    columns: &mut PlaceColumns,
     pieces: &[Result<PlaceColumns, AllocError>],
 ) -> Result<(), AllocError>
     ensures { OnOk result ((dimensions : Dimensions) (before : List PlainFact) (lines : List LineFields)
-        → AreCodesOf dimensions before table.old.places → AreCoded dimensions lines pieces.now
-        → AreCodesOf dimensions (before ++ facts_of lines) table.new.places) }
+        → AreCodesOf dimensions before columns.old.places → AreCoded dimensions lines pieces.now
+        → AreCodesOf dimensions (before ++ facts_of lines) columns.new.places) }
 {
     for piece in pieces {
         match piece {
-            Ok(piece) => table.append(piece)?,
+            Ok(piece) => columns.append(piece)?,
             Err(_) => return Err(AllocError),
         }
     }
     Ok(())
 }
 
-// A table of the lines of these numbers, one behind another, coded by as many threads as there are processors.
-fn table_of(
+// The lines in columns, one behind another, coded by as many threads as there are processors.
+fn columns_of(
     rt: &(impl Threads + Sync),
     alloc: Global,
     index: &DimIndex,
     lines: &[Line],
-    numbers: &[u32],
-) -> Result<FactTable, AllocError>
-    ensures { IfOk result (λ table. AreCodesOf index.now.dimensions (facts_of (lines_at lines.now numbers.now))
-        table.places) }
+) -> Result<PlaceColumns, AllocError>
+    ensures { IfOk result (λ columns. AreCodesOf index.now.dimensions (facts_of lines.now) columns.places) }
 {
-    let zones = TableZones::new(alloc, index)?;
-    let mut table = FactTable::new(alloc, zones);
-    table.reserve(numbers.len())?;
+    let mut columns = PlaceColumns::new(alloc);
+    columns.reserve(lines.len())?;
     let mut done = 0;
-    while done < numbers.len() {
-        let end = batch_end(done, numbers.len());
-        let pieces = coded_pieces(rt, alloc, index, lines, &numbers[done..end])?;
-        append_all(&mut table, pieces.as_slice())?;
+    while done < lines.len() {
+        let end = batch_end(done, lines.len());
+        let pieces = coded_pieces(rt, alloc, index, &lines[done..end])?;
+        append_all(&mut columns, pieces.as_slice())?;
         done = end;
     }
-    Ok(table)
+    Ok(columns)
 }
 
 /// Loaded lines in columns, and the place of each, by its number.
@@ -87,7 +83,9 @@ pub struct Loaded {
     pub places: Items<u32>,
 }
 
-/// The lines in columns: those that questions look at together lie together. By as many threads as there are processors.
+/// The lines in columns: those that questions look at together lie together. They are coded in the order in which they
+/// were loaded, by as many threads as there are processors, and then laid: a column is read from its start to its end
+/// and written at as many places as there are clusters, so that caches serve both.
 pub fn laid_lines(
     rt: &(impl Threads + Sync),
     alloc: Global,
@@ -97,10 +95,11 @@ pub fn laid_lines(
     requires { length lines.now < 2 ^ 32 }
     ensures { IfOk result (IsLoaded index.now.dimensions lines.now) }
 {
-    let numbers = laid_out(rt, alloc, index, lines)?;
-    let places = places_of(alloc, &numbers)?;
+    let columns = columns_of(rt, alloc, index, lines)?;
+    let places = laid_out(alloc, index, &columns)?;
+    let laid = columns.laid(&places)?;
     Ok(Loaded {
-        table: table_of(rt, alloc, index, lines, &numbers)?,
+        table: FactTable::of(laid, TableZones::new(alloc, index)?)?,
         places: Items::from_vec(places),
     })
 }

@@ -1,8 +1,9 @@
 //! The columns of the fact table.
 ghost use Rattle.std.specs.Prelude.{◌≡◌, ◌+◌, ◌≤◌, ◌<◌, ◌++◌, [], ◌∷◌, length, set, slice_index_or, IfOk, OnErr, OnOk};
-ghost use Rattle.std.specs.Prelude.{ℕ, vec_len, vec_capacity};
+ghost use Rattle.std.specs.Prelude.{ℕ, List, map, vec_len, vec_capacity};
 ghost use Rattle.fact_columns.specs.declared.place.Place.{Place as PlainPlace};
 ghost use Rattle.fact_columns.specs.Columns.{Held, AreColumnsOf};
+ghost use Rattle.fact_columns.specs.Laid.{AreLaid, IsLayout};
 ghost use Rattle.fact_columns.specs.Places.{freed};
 ghost use Rattle.fact_columns.specs.Watching.{scanned_line};
 ghost use Rattle.fact_columns.specs.Zoned.{AreZonesOfPlaces};
@@ -13,6 +14,7 @@ use crate::table_zones::TableZones;
 use scan_kernel::LineColumns;
 use std::alloc::{AllocError, Global};
 use std::marker::Model;
+use std::mem;
 
 /// The columns of the fact table, each as long as the others. Contracts see the places, and for how many more there is
 /// memory.
@@ -53,6 +55,37 @@ fn extend<T: Copy>(column: &mut Vec<T>, with: &[T])
     ensures capacity { vec_capacity column.old ≤ vec_capacity column.new }
 {
     let _within = column.extend_from_slice(with);
+}
+
+// Puts each element of a column at its place. The spare column is as long; after that it has the elements as they were.
+fn lay<T: Copy>(column: &mut Vec<T>, places: &[u32], spare: &mut Vec<T>)
+    requires long { vec_len column.old ≡ length places.now }
+    requires spare { vec_len spare.old ≡ length places.now }
+    requires laid { AreLaid places.now }
+    ensures laid { (numbers : List ℕ) (other : T) → IsLayout places.now numbers
+        → column.new.items ≡ map (λ number. slice_index_or column.old.items number other) numbers }
+    ensures len { vec_len column.new ≡ length places.now }
+    ensures room { length places.now ≤ vec_capacity column.new }
+    ensures spare { vec_len spare.new ≡ length places.now }
+{
+    for number in 0..places.len() {
+        spare[places[number] as usize] = column[number];
+    }
+    mem::swap(column, spare);
+}
+
+// The same, with a spare column of its own.
+fn lay_apart<T: Copy>(column: &mut Vec<T>, places: &[u32], zero: T) -> Result<(), AllocError>
+    requires long { vec_len column.old ≡ length places.now }
+    requires laid { AreLaid places.now }
+    ensures laid { OnOk result ((numbers : List ℕ) (other : T) → IsLayout places.now numbers
+        → column.new.items ≡ map (λ number. slice_index_or column.old.items number other) numbers) }
+    ensures len { vec_len column.new ≡ length places.now }
+    ensures room { length places.now ≤ vec_capacity column.new }
+{
+    let mut spare = vec![in *column.allocator(); zero; places.len()]?;
+    lay(column, places, &mut spare);
+    Ok(())
 }
 
 impl PlaceColumns {
@@ -226,6 +259,62 @@ impl PlaceColumns {
         extend(&mut self.part_class, other.part_class.as_slice());
         extend(&mut self.date_class, other.date_class.as_slice());
         Ok(())
+    }
+
+    /// These columns, with what stands at each index laid at the place of this number.
+    pub fn laid(self, places: &[u32]) -> Result<PlaceColumns, AllocError>
+        requires long { length self.places ≡ length places.now }
+        requires laid { AreLaid places.now }
+        ensures laid { IfOk result (λ laid. (numbers : List ℕ) (other : PlainPlace) → IsLayout places.now numbers
+            → laid.places ≡ map (λ number. slice_index_or self.places number other) numbers) }
+        ensures room { IfOk result (λ laid. laid.room ≡ 0) }
+    {
+        let PlaceColumns {
+            mut order,
+            mut customer,
+            mut supplier,
+            mut part,
+            mut date,
+            mut terms,
+            mut price,
+            mut revenue,
+            mut cost,
+            mut customer_class,
+            mut supplier_class,
+            mut part_class,
+            mut date_class,
+            capacity: _,
+        } = self;
+        lay_apart(&mut order, places, 0)?;
+        lay_apart(&mut terms, places, 0)?;
+        let mut spare = vec![in *order.allocator(); 0u32; places.len()]?;
+        lay(&mut customer, places, &mut spare);
+        lay(&mut supplier, places, &mut spare);
+        lay(&mut part, places, &mut spare);
+        lay(&mut date, places, &mut spare);
+        lay(&mut price, places, &mut spare);
+        lay(&mut revenue, places, &mut spare);
+        lay(&mut cost, places, &mut spare);
+        lay(&mut customer_class, places, &mut spare);
+        lay(&mut supplier_class, places, &mut spare);
+        lay(&mut part_class, places, &mut spare);
+        lay(&mut date_class, places, &mut spare);
+        Ok(PlaceColumns {
+            order,
+            customer,
+            supplier,
+            part,
+            date,
+            terms,
+            price,
+            revenue,
+            cost,
+            customer_class,
+            supplier_class,
+            part_class,
+            date_class,
+            capacity: places.len(),
+        })
     }
 
     /// The columns that queries read: a line's rows by their classes, with the zones of the places.

@@ -17,3 +17,4 @@ pub mod SparseLaws
 pub mod DealtLaws
 pub mod QuestionLaws
 pub mod WantedLaws
+pub mod PlanLaws

@@ -8,6 +8,7 @@ pub mod SparseRows
 pub mod Zones
 pub mod Places
 pub mod Wanted
+pub mod Plan
 pub mod Sums
 pub mod Totals
 pub mod Tables

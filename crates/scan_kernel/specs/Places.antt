@@ -45,15 +45,17 @@ pub record CanSearch (lines : LineColumns) (masks : Masks) : Type 0 where
   pub dates : Covers masks.dates lines.date.now
   pub terms : All (λ term. term < length masks.terms) lines.terms.now
 
--- the first `count` places are those from `from` up to `to` that some question takes, in order, with their masks
-pub record IsSearch (lines : LineColumns) (masks : Masks) (from to count : ℕ)
-    (old_places places old_found found : List ℕ) : Type 0 where
+-- the first `count` places are those from `from` up to `to` whose mask is not 0, in order, with their masks
+pub record IsSearchBy (mask : ℕ → ℕ) (from to count : ℕ) (old_places places old_found found : List ℕ) : Type 0 where
   pub room : length places ≡ length old_places
   pub marks : length found ≡ length old_found
   pub within : count ≤ length places
-  pub are_found : take count places ≡ filter (λ place. nat_lt 0 (mask_at lines masks place))
-      (range_with_len from (to - from))
-  pub have_masks : take count found ≡ map (mask_at lines masks) (take count places)
+  pub are_found : take count places ≡ filter (λ place. nat_lt 0 (mask place)) (range_with_len from (to - from))
+  pub have_masks : take count found ≡ map mask (take count places)
+
+-- the first `count` places are those from `from` up to `to` that some question takes, in order, with their masks
+abbrev pub IsSearch : LineColumns → Masks → ℕ → ℕ → ℕ → List ℕ → List ℕ → List ℕ → List ℕ → Type 0
+IsSearch lines masks = IsSearchBy (mask_at lines masks)
 
 -- what the group column adds to the number of the group of the line at a place
 abbrev pub part_at : ℕ → GroupColumn → ℕ

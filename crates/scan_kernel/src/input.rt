@@ -1,5 +1,4 @@
 //! What a scan goes over.
-ghost use Rattle.std.specs.Prelude.{length};
 ghost use Rattle.scan_kernel.specs.Wanted.{AreWanted};
 
 use crate::columns::{Grouping, LineColumns};
@@ -12,7 +11,7 @@ pub struct ScanInput<'a> {
     pub lines: &'a LineColumns<'a>,
     pub masks: &'a Masks,
     pub groupings: &'a [Grouping<'a>],
-    /// Of each question the coarse codes of the rows that it takes.
+    /// What each question makes of the rows.
     pub wanted: &'a [Wanted],
-    pub ghost wants: { AreWanted lines.now masks.now (length groupings.now) wanted.now },
+    pub ghost wants: { AreWanted lines.now masks.now wanted.now },
 }

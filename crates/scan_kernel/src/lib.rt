@@ -7,6 +7,7 @@
 //!
 //! ```text
 //! chunk of places ─ its zone shares no code with any question ─▶ left out
+//!                 ─ its zone has no row that these questions leave ─▶ that dimension is not looked up
 //!                 ─ search ─▶ places that some question takes, with their masks
 //!                         ─ deal by the bits of the masks ─▶ the places of each question
 //!   for each question:      its places ─ number ─▶ their groups ─ add ─▶ its totals
@@ -15,8 +16,8 @@
 //!
 //! The contracts: for each question and group the totals are the number of the lines that it takes there, and what they
 //! add to the measure and take away from it, modulo 2^64, also in several threads (`AreBatchTotals` in
-//! `specs/Totals.antt`); no question takes a line of a chunk that is left out (`IsLeftOut` in `specs/Wanted.antt`);
-//! rows made from the counts and sums of any lines, by number, are the answer to the question over those lines
+//! `specs/Totals.antt`); no question takes a line of a chunk that is left out (`IsLeftOut` in `specs/Wanted.antt`), and
+//! what is not looked up of another changes no mask (`Suffices` in `specs/Plan.antt`); rows made from the counts and sums of any lines, by number, are the answer to the question over those lines
 //! (`AnswersAll` in `specs/Dense.antt`, from which the law `answers_lines` has `AnswersLines` of `specs/Scan.antt`; the
 //! answer is that of `ssb_answers`). Where a question has too many groups for a number each, `sparse_totals` walks over
 //! the places for it alone and keeps the sums of the groups that lines have (`specs/Sparse.antt`), and `answer_sparse`
@@ -35,6 +36,7 @@ mod input;
 pub mod laws;
 mod masks;
 mod parts;
+mod plan;
 mod range;
 mod rows;
 mod search;

@@ -109,7 +109,7 @@ pub fn parallel_totals(
         (range_with_len 0 (length lines.now.customer.now)) v.items) }
 {
     let places = lines.customer.len();
-    let wanted = all_wanted(alloc, lines, masks, groupings.len())?;
+    let wanted = all_wanted(alloc, lines, masks)?;
     let input = ScanInput {
         lines,
         masks,

@@ -3,6 +3,7 @@ ghost use Rattle.std.specs.Prelude.{◌≡◌, ℕ, ◌<◌, ◌≤◌, ◌+◌,
 ghost use Rattle.std.specs.List.{range_with_len};
 ghost use Rattle.scan_kernel.specs.Dealt.{AreListsFor};
 ghost use Rattle.scan_kernel.specs.Room.{HasRoom};
+ghost use Rattle.scan_kernel.specs.Plan.{SufficesBetween};
 ghost use Rattle.scan_kernel.specs.Zones.{chunk_size};
 ghost use Rattle.scan_kernel.specs.declared.columns.Grouping.{Grouping};
 ghost use Rattle.scan_kernel.specs.declared.totals.Totals.{Totals};
@@ -12,9 +13,10 @@ use crate::batch::{Dealt, FoundPlaces, add_found};
 use crate::columns::Grouping;
 use crate::input::ScanInput;
 use crate::masks::QUESTIONS_A_PASS;
+use crate::plan::ChunkPlan;
 use crate::search::search;
 use crate::totals::Totals;
-use crate::wanted::may_take;
+use crate::wanted::plan_of;
 use crate::zones::CHUNK;
 use std::alloc::{AllocError, Global};
 
@@ -29,6 +31,7 @@ pub struct Room {
 // Adds places of one chunk, some of which a question may take, to the totals of each question.
 fn add_places_of_chunk(
     input: ScanInput<'_>,
+    plan: ChunkPlan,
     from: usize,
     to: usize,
     room: &mut Room,
@@ -38,20 +41,14 @@ fn add_places_of_chunk(
     requires within { to ≤ length input.lines.now.customer.now }
     requires order { from ≤ to }
     requires room { HasRoom (to - from) room.old }
+    requires suffices { SufficesBetween input.lines.now input.masks.now from to plan }
     requires sizes { HaveSizes input.groupings.now totals.old }
     ensures room { (count : ℕ) → HasRoom count room.old → HasRoom count room.new }
     ensures sizes { HaveSizes input.entry.groupings.now totals.new }
     ensures added { AddsBatch input.entry.lines.now input.entry.masks.now input.entry.groupings.now
         (range_with_len from (to - from)) totals.old totals.new }
 {
-    let count = search(
-        input.lines,
-        input.masks,
-        from,
-        to,
-        &mut room.places,
-        &mut room.masks,
-    );
+    let count = search(input, plan, from, to, &mut room.places, &mut room.masks);
     let found = FoundPlaces {
         from,
         to,
@@ -81,8 +78,9 @@ fn add_chunk(input: ScanInput<'_>, from: usize, to: usize, room: &mut Room, tota
     ensures added { AddsBatch input.entry.lines.now input.entry.masks.now input.entry.groupings.now
         (range_with_len from (to - from)) totals.old totals.new }
 {
-    if may_take(input, from / CHUNK) {
-        add_places_of_chunk(input, from, to, room, totals);
+    let plan = plan_of(input, from / CHUNK);
+    if plan.active != 0 {
+        add_places_of_chunk(input, plan, from, to, room, totals);
     }
 }
 

@@ -1,24 +1,20 @@
 //! The places that some question of a batch takes, with their masks.
-ghost use Rattle.std.specs.Prelude.{◌≡◌, ◌+◌, ◌^◌, ◌<◌, ◌≤◌, is_some, length, slice_index};
-ghost use Rattle.scan_kernel.specs.Places.{tested, mask_in, mask_at, Covers, CanSearch, IsSearch};
+ghost use Rattle.std.specs.Prelude.{ℕ, ◌≡◌, ◌+◌, ◌^◌, ◌<◌, ◌≤◌, is_some, length, slice_index};
+ghost use Rattle.scan_kernel.specs.Places.{tested, mask_in, Covers, CanSearch, IsSearch, IsSearchBy};
+ghost use Rattle.scan_kernel.specs.Plan.{SufficesBetween, active_mask_at, looked_at};
 ghost use Rattle.scan_kernel.specs.Tables.{masks_of};
 
 use crate::columns::LineColumns;
+use crate::input::ScanInput;
 use crate::masks::Masks;
+use crate::plan::{ChunkPlan, TestedDimensions};
 use ssb_schema::Items;
-
-/// Which dimensions some question tests.
-#[derive(Clone, Copy)]
-struct TestedDimensions {
-    customers: bool,
-    suppliers: bool,
-    parts: bool,
-    dates: bool,
-}
 
 /// The masks as slices, of which an untested dimension has none.
 #[derive(Clone, Copy)]
 struct MaskSlices<'a> {
+    // The questions that may take a line; the bits of the others are left out of each mask.
+    active: u16,
     tested: TestedDimensions,
     customers: &'a [u16],
     suppliers: &'a [u16],
@@ -49,13 +45,14 @@ fn line_mask<const C: bool, const S: bool, const P: bool, const D: bool>(
 ) -> u16
     requires within { place < length lines.customer.now }
     requires covers { CanSearch lines (masks_of C S P D tables) }
-    ensures { result ≡ mask_at lines.entry (masks_of C S P D tables.entry) place }
+    ensures { result ≡ active_mask_at lines.entry (masks_of C S P D tables.entry) tables.entry.active place }
 {
-    tables.terms[lines.terms[place] as usize]
+    let mask = tables.terms[lines.terms[place] as usize]
         & mask_in::<C>(tables.customers, lines.customer, place)
         & mask_in::<S>(tables.suppliers, lines.supplier, place)
         & mask_in::<P>(tables.parts, lines.part, place)
-        & mask_in::<D>(tables.dates, lines.date, place)
+        & mask_in::<D>(tables.dates, lines.date, place);
+    tables.active & mask
 }
 
 /// Writes the places from `from` up to `to` that some question takes, with their masks, and says how
@@ -75,8 +72,8 @@ fn find_places<const C: bool, const S: bool, const P: bool, const D: bool>(
     requires room { to ≤ from + length places.old }
     requires marks { length found.old ≡ length places.old }
     requires covers { CanSearch lines (masks_of C S P D tables) }
-    ensures { IsSearch lines.entry (masks_of C S P D tables.entry) from to result places.old places.new found.old
-        found.new }
+    ensures { IsSearchBy (active_mask_at lines.entry (masks_of C S P D tables.entry) tables.entry.active) from to result
+        places.old places.new found.old found.new }
 {
     let mut count = 0usize;
     for at in from..to {
@@ -105,8 +102,8 @@ fn search_with<const C: bool, const S: bool>(
     requires room { to ≤ from + length places.old }
     requires marks { length found.old ≡ length places.old }
     requires covers { CanSearch lines (masks_of C S tables.tested.parts tables.tested.dates tables) }
-    ensures { IsSearch lines.entry (masks_of C S tables.entry.tested.parts tables.entry.tested.dates tables.entry)
-        from to result places.old places.new found.old found.new }
+    ensures { IsSearchBy (active_mask_at lines.entry (masks_of C S tables.entry.tested.parts tables.entry.tested.dates
+        tables.entry) tables.entry.active) from to result places.old places.new found.old found.new }
 {
     match (tables.tested.parts, tables.tested.dates) {
         (true, true) => find_places::<C, S, true, true>(lines, tables, from, to, places, found),
@@ -132,9 +129,9 @@ fn search_tables(
     requires marks { length found.old ≡ length places.old }
     requires covers { CanSearch lines (masks_of tables.tested.customers tables.tested.suppliers tables.tested.parts
         tables.tested.dates tables) }
-    ensures { IsSearch lines.entry (masks_of tables.entry.tested.customers tables.entry.tested.suppliers
-        tables.entry.tested.parts tables.entry.tested.dates tables.entry) from to result places.old places.new
-        found.old found.new }
+    ensures { IsSearchBy (active_mask_at lines.entry (masks_of tables.entry.tested.customers
+        tables.entry.tested.suppliers tables.entry.tested.parts tables.entry.tested.dates tables.entry)
+        tables.entry.active) from to result places.old places.new found.old found.new }
 {
     match (tables.tested.customers, tables.tested.suppliers) {
         (true, true) => search_with::<true, true>(lines, tables, from, to, places, found),
@@ -153,36 +150,60 @@ fn table(masks: &Option<Items<u16>>) -> &[u16]
     }
 }
 
-/// Writes the places from `from` up to `to` that some question takes, with their masks, and says how
-/// many they are. A dimension that is not tested is not looked at.
+// The same masks, none of which has more than 16 bits.
+#[inline(always)]
+fn narrow(masks: &[u16]) -> &[u16]
+    ensures same { result.now ≡ masks.now }
+    ensures narrow { (at : ℕ) → slice_index masks.now at < 2 ^ 16 }
+{
+    masks
+}
+
+// The masks as slices, of the dimensions that a plan looks at.
+fn slices_of(masks: &Masks, plan: ChunkPlan) -> MaskSlices<'_>
+    ensures active { result.active ≡ plan.active }
+    ensures looked_at { masks_of result.tested.customers result.tested.suppliers result.tested.parts
+        result.tested.dates result ≡ looked_at plan.looks_at masks.now }
+    ensures few { result.active < 2 ^ 16 }
+    ensures small { (term : ℕ) → slice_index masks.now.terms term < 2 ^ 16 }
+{
+    let looks_at = plan.looks_at;
+    MaskSlices {
+        active: plan.active,
+        tested: TestedDimensions {
+            customers: looks_at.customers && masks.customers.is_some(),
+            suppliers: looks_at.suppliers && masks.suppliers.is_some(),
+            parts: looks_at.parts && masks.parts.is_some(),
+            dates: looks_at.dates && masks.dates.is_some(),
+        },
+        customers: table(&masks.customers),
+        suppliers: table(&masks.suppliers),
+        parts: table(&masks.parts),
+        dates: table(&masks.dates),
+        terms: narrow(masks.terms.as_slice()),
+    }
+}
+
+/// Writes the places from `from` up to `to` that some question takes, with their masks, and says how many they are.
+/// What the plan does not look at is not looked at: the masks are the same.
 pub fn search(
-    lines: &LineColumns<'_>,
-    masks: &Masks,
+    input: ScanInput<'_>,
+    plan: ChunkPlan,
     from: usize,
     to: usize,
     places: &mut [u32],
     found: &mut [u16],
 ) -> usize
     requires order { from ≤ to }
-    requires within { to ≤ length lines.now.customer.now }
-    requires small { length lines.now.customer.now ≤ 2 ^ 32 }
+    requires within { to ≤ length input.lines.now.customer.now }
+    requires small { length input.lines.now.customer.now ≤ 2 ^ 32 }
     requires room { to ≤ from + length places.old }
     requires marks { length found.old ≡ length places.old }
-    requires covers { CanSearch lines.now masks.now }
-    ensures { IsSearch lines.now masks.now from to result places.old places.new found.old found.new }
+    requires covers { CanSearch input.lines.now input.masks.now }
+    requires suffices { SufficesBetween input.lines.now input.masks.now from to plan }
+    ensures { IsSearch input.entry.lines.now input.entry.masks.now from to result places.old places.new found.old
+        found.new }
 {
-    let tables = MaskSlices {
-        tested: TestedDimensions {
-            customers: masks.customers.is_some(),
-            suppliers: masks.suppliers.is_some(),
-            parts: masks.parts.is_some(),
-            dates: masks.dates.is_some(),
-        },
-        customers: table(&masks.customers),
-        suppliers: table(&masks.suppliers),
-        parts: table(&masks.parts),
-        dates: table(&masks.dates),
-        terms: masks.terms.as_slice(),
-    };
-    search_tables(*lines, tables, from, to, places, found)
+    let tables = slices_of(input.masks, plan);
+    search_tables(*input.lines, tables, from, to, places, found)
 }

@@ -15,13 +15,13 @@ loop-piece-preserved c = λ dimensions before lines old coded.
     let table : Result Held AllocError = Ok c.in-Ok.piece in
     let is : table ≡ get_or c.args.pieces.now i table = search rules in
     subst (AreCodesOf dimensions (before ++ facts_until (i + 1) coded.pieces)) (sym c.in_ok-append-in-Ok.ensures.places)
-    (piece_more dimensions before coded.pieces c.args.pieces.now i c.in-Ok.piece c.loop-piece.table.places coded.coded
+    (piece_more dimensions before coded.pieces c.args.pieces.now i c.in-Ok.piece c.loop-piece.columns.places coded.coded
     c.loop-piece-test.true is (c.loop-piece.invariant dimensions before lines old coded))
 
 pub returns : goal.returns
 returns c = λ dimensions before lines old coded.
     let count = tables_count dimensions coded.pieces c.args.pieces.now coded.coded in
-    subst (λ (f : List Fact). AreCodesOf dimensions (before ++ f) c.loop-piece.table.places)
+    subst (λ (f : List Fact). AreCodesOf dimensions (before ++ f) c.loop-piece.columns.places)
     (ap (λ l. facts_of (flat_map (λ piece. piece) l)) (take_all c.loop-piece.piece-index coded.pieces
     (omega (arith, count, c.loop-piece-test.false))) ∙ ap facts_of coded.whole)
     (c.loop-piece.invariant dimensions before lines old coded)

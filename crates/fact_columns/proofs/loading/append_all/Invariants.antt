@@ -8,5 +8,5 @@ use Rattle.fact_columns.proofs.loading.append_all.Given as goal
 
 abbrev pub invariant-loop-piece : goal.invariant-loop-piece
 invariant-loop-piece l = (dimensions : Dimensions) (before : List Fact) (lines : List LineFields)
-    → AreCodesOf dimensions before l.initial.table.places → (coded : AreCoded dimensions lines l.pieces)
-    → AreCodesOf dimensions (before ++ facts_until l.piece-index coded.pieces) l.table.places
+    → AreCodesOf dimensions before l.initial.columns.places → (coded : AreCoded dimensions lines l.pieces)
+    → AreCodesOf dimensions (before ++ facts_until l.piece-index coded.pieces) l.columns.places

@@ -5,5 +5,5 @@ use Rattle.scan_kernel.proofs.wanted.codes_of.Given as goal
 
 -- the first codes are in, where they are to be
 abbrev pub invariant-loop-code : goal.invariant-loop-code
-invariant-loop-code l = (code : ℕ) → code < l.code → bit_at (get_or l.takers code 0) l.question ≡ 1
+invariant-loop-code l = (code : ℕ) → code < l.code → bit_at (get_or l.masks code 0) l.question ≡ 1
     → HasCode l.set code

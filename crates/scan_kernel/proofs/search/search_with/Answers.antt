@@ -1,0 +1,13 @@
+use Rattle.scan_kernel.proofs.search.search_with.Goals as goal
+
+pub returns-in-true-true : goal.returns-in-true-true
+returns-in-true-true g c = rw (c.in-true-true.is-0, c.in-true-true.is-1) c.find_places.ensures
+
+pub returns-in-true-false : goal.returns-in-true-false
+returns-in-true-false g c = rw (c.in-true-false.is-0, c.in-true-false.is-1) c.find_places-in-true-false.ensures
+
+pub returns-in-false-true : goal.returns-in-false-true
+returns-in-false-true g c = rw (c.in-false-true.is-0, c.in-false-true.is-1) c.find_places-in-false-true.ensures
+
+pub returns-in-false-false : goal.returns-in-false-false
+returns-in-false-false g c = rw (c.in-false-false.is-0, c.in-false-false.is-1) c.find_places-in-false-false.ensures
