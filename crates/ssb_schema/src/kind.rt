@@ -1,9 +1,10 @@
 //! What each column takes, as data, and the one check of a row's values.
 
-ghost use Rattle.std.specs.Prelude.{◌≡◌, ◌+◌, length, map, slice_get};
+ghost use Rattle.std.specs.Prelude.{◌≡◌, ◌+◌, None, length, map, slice_get, true};
 ghost use Rattle.std.specs.List.{list_all};
-ghost use Rattle.ssb_schema.specs.Columns.{Value, Text, is_plain_byte, is_plain, column_fault, first_fault};
-ghost use Rattle.ssb_schema.specs.Columns.{column_kind, kinds_of, row_fault, value_of};
+ghost use Rattle.ssb_schema.specs.Columns.{Value, Number, Text, is_plain_byte, is_plain, column_fault, first_fault};
+ghost use Rattle.ssb_schema.specs.Columns.{column_kind, key, kinds_of, row_fault, value_of};
+ghost use Rattle.ssb_schema.specs.declared.column.Column.{Column};
 ghost use Rattle.ssb_schema.specs.declared.kind.Kind.TheVariants as kind;
 
 use crate::column::Column;
@@ -132,6 +133,20 @@ pub fn text_fault(column: Column, text: &str) -> Option<SchemaFault>
     } else {
         None
     }
+}
+
+/// A column of keys takes each number of 64 bits. The law alone: it does nothing.
+pub(crate) fn key_is_taken(number: u64)
+    ensures { (column : Column) → column_fault column key (Number number) ≡ None }
+{
+    let _number = number;
+}
+
+/// Whether a column of texts takes a text.
+pub(crate) fn takes_text(text: &str) -> bool
+    ensures { result ≡ true → (column : Column) → column_fault column kind.Text (Text text.now) ≡ None }
+{
+    text.len() <= 64 && is_storable(text.as_bytes())
 }
 
 // What is wrong with a value in a column.

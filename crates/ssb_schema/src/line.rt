@@ -1,18 +1,21 @@
 //! Lines of orders, the rows of the fact table.
 
-ghost use Rattle.std.specs.Prelude.{◌≡◌, IfOk, IfErr, None, map};
+ghost use Rattle.std.specs.Prelude.{◌≡◌, IfOk, IfErr, None, map, true};
 ghost use Rattle.ssb_schema.specs.declared.table.Table.TheVariants as table;
 ghost use Rattle.ssb_schema.specs.Columns.{row_fault, value_of};
-ghost use Rattle.ssb_schema.specs.Rows.{line_values};
+ghost use Rattle.ssb_schema.specs.Rows.{IsWithinLimits, line_values};
 
 use crate::cells::Cells;
 use crate::fact::Fact;
-use crate::fault::Refused;
-use crate::kind::Cell;
+use crate::fault::{Refused, SchemaFault};
+use crate::kind::{Cell, check, key_is_taken, takes_text};
 use crate::row::{Fields, Row};
 use crate::table::Table;
 use crate::texts::LineTexts;
 use std::marker::Model;
+
+// The greatest amount.
+const MOST_AMOUNT: u64 = 4_294_967_295;
 
 /// The values of a line, column by column in the order of the benchmark's LINEORDER. Prices are in the file's unit.
 #[derive(Drop)]
@@ -116,12 +119,59 @@ impl Fields for LineFields {
             Cell::Text(self.texts.ship_mode()),
         ])
     }
+
+    // Most lines are taken, and are read by the million: their cells are not made.
+    fn fault(&self) -> Option<SchemaFault> {
+        if self.is_taken() {
+            return None;
+        }
+        check(Table::Lineorder, self.cells().as_slice())
+    }
+}
+
+impl LineFields {
+    // Whether the numbers are within their columns' ranges. A key always is.
+    fn is_within_limits(&self) -> bool
+        ensures { result ≡ true → IsWithinLimits self.now }
+    {
+        1 <= self.line_number
+            && self.line_number <= 7
+            && 1 <= self.quantity
+            && self.quantity <= 50
+            && self.extended_price <= MOST_AMOUNT
+            && self.order_total_price <= MOST_AMOUNT
+            && self.discount <= 10
+            && self.revenue <= MOST_AMOUNT
+            && self.supply_cost <= MOST_AMOUNT
+            && self.tax <= 8
+    }
+
+    // Whether the columns take all values.
+    fn is_taken(&self) -> bool
+        ensures { result ≡ true → row_fault table.Lineorder (line_values self.now) ≡ None }
+    {
+        key_is_taken(self.order_key);
+        key_is_taken(self.customer_key);
+        key_is_taken(self.part_key);
+        key_is_taken(self.supplier_key);
+        key_is_taken(self.order_date);
+        key_is_taken(self.commit_date);
+        if !self.is_within_limits() {
+            return false;
+        }
+        if !takes_text(self.texts.order_priority()) {
+            return false;
+        }
+        if !takes_text(self.texts.ship_priority()) {
+            return false;
+        }
+        takes_text(self.texts.ship_mode())
+    }
 }
 
 impl Line {
     ghost use Rattle.ssb_schema.specs.Facts.{fact_of, IsFactWithinLimits};
     ghost use Rattle.ssb_schema.specs.Refusals.{fault_of};
-    ghost use Rattle.ssb_schema.specs.Rows.{IsWithinLimits};
 
     /// A line of these values, or the first fault in the order of its columns, with the values.
     pub fn new(fields: LineFields) -> Result<Line, Refused<LineFields>>
