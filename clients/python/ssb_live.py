@@ -32,6 +32,7 @@ import collections.abc
 import contextlib
 import errno
 import fcntl
+import functools
 import math
 import operator
 import os
@@ -41,6 +42,7 @@ import select
 import stat
 import threading
 import time
+import warnings
 
 threadsafety = 2            # threads may share a connection: it has one request under way, and the others wait
 TIMEOUT = 60.0              # seconds
@@ -51,6 +53,7 @@ UNKNOWN, ITS_FAULT = b"x\n", b"fault: 70 BadLine 1\n"
 READ_ONLY = b"fault: 68 ReadOnly\n"
 ASKED = 64                  # requests of the greeting of a server that takes no refreshes
 GREETING = 8192             # bytes that the replies to a greeting have at most
+MOST_TOLD = 30              # values of a column that a warning tells
 
 LINEORDER = ("LO_ORDERKEY", "LO_LINENUMBER", "LO_CUSTKEY", "LO_PARTKEY", "LO_SUPPKEY", "LO_ORDERDATE",
              "LO_ORDERPRIORITY", "LO_SHIPPRIORITY", "LO_QUANTITY", "LO_EXTENDEDPRICE", "LO_ORDTOTALPRICE",
@@ -58,6 +61,16 @@ LINEORDER = ("LO_ORDERKEY", "LO_LINENUMBER", "LO_CUSTKEY", "LO_PARTKEY", "LO_SUP
 TEXTS = {"LO_ORDERPRIORITY", "LO_SHIPMODE"}
 MEASURES = ("LO_REVENUE", "LO_REVENUE-LO_SUPPLYCOST", "LO_EXTENDEDPRICE*LO_DISCOUNT", "LO_QUANTITY", "COUNT")
 NUMBERS = {"D_YEAR", "D_YEARMONTHNUM", "D_WEEKNUMINYEAR", *MEASURES}
+KEYS = {42: "LO_CUSTKEY", 43: "LO_SUPPKEY", 44: "LO_PARTKEY", 45: "LO_ORDERDATE"}
+# The columns that the constants of the thirteen are values of; no column where a constant is the end of a range.
+TESTED = {
+    "Q1.1": ("D_YEAR",), "Q1.2": ("D_YEARMONTHNUM",), "Q1.3": ("D_WEEKNUMINYEAR", "D_YEAR"),
+    "Q2.1": ("P_CATEGORY", "S_REGION"), "Q2.2": (None, None, "S_REGION"), "Q2.3": ("P_BRAND1", "S_REGION"),
+    "Q3.1": ("C_REGION", "S_REGION"), "Q3.2": ("C_NATION", "S_NATION"),
+    "Q3.3": ("C_CITY", "C_CITY", "S_CITY", "S_CITY"), "Q3.4": ("C_CITY", "C_CITY", "S_CITY", "S_CITY", "D_YEARMONTH"),
+    "Q4.1": ("C_REGION", "S_REGION", "P_MFGR", "P_MFGR"),
+    "Q4.2": ("C_REGION", "S_REGION", "P_MFGR", "P_MFGR", "D_YEAR", "D_YEAR"),
+    "Q4.3": ("C_REGION", "S_NATION", "D_YEAR", "D_YEAR", "P_CATEGORY")}
 # The printed columns of the thirteen; those of star stand in its constants.
 COLUMNS = {
     "Q1": ("LO_EXTENDEDPRICE*LO_DISCOUNT",), "Q2": ("LO_REVENUE", "D_YEAR", "P_BRAND1"),
@@ -94,20 +107,52 @@ class OperationalError(DatabaseError):
 
 
 class Fault(ProgrammingError):
-    """The server found a fault in the request, and did nothing: its `number`, and its `text`, as `70 BadLine 1`."""
+    """The server found a fault in the request, and did nothing: its `number`, and its `text`, as `70 BadLine 1`. Where
+    it is told of a record, that is `record`; where it is told of a column, `column` and the `value` that was sent."""
 
     def __init__(self, text):
         super().__init__(text)
         self.text, self.number = text, int(text.split(" ", 1)[0])
+        self.record = self.column = self.value = None
+
+    def __str__(self):
+        if self.column:
+            return f"{self.text}: {self.column} is {self.value}"
+        return self.text if self.record is None else f"{self.text}: {self.record}"
+
+    def look_at(self, records):
+        """Takes from the records of the request what the fault is told of."""
+        found = re.match(r"7\d \w+ (\d+)(?: 1[01] \w+ (\w+))?", self.text)
+        if found and 0 < int(found[1]) <= len(records):
+            self.record = records[int(found[1]) - 1]
+            if found[2] in LINEORDER:
+                self.column, self.value = found[2], self.record.split("|")[1 + LINEORDER.index(found[2])]
 
 
 class Refused(IntegrityError):
     """The refresh was refused after `at` commits, for its action `action` (from 1), and changed nothing. The cause has
-    a `number` and a `text`, as `47 Absent 77`."""
+    a `number` and a `text`, as `47 Absent 77`. Where a line names no row of a dimension, `column` is the column of the
+    dimension's key, and `values` has the keys that the order's lines have there."""
 
     def __init__(self, at, action, text):
         super().__init__(f"action {action}: {text}")
         self.at, self.action, self.text, self.number = at, action, text, int(text.split(" ", 1)[0])
+        self.column, self.values = KEYS.get(self.number), []
+
+    def __str__(self):
+        told = f"action {self.action}: {self.text}"
+        return f"{told}: {self.column} is {' or '.join(self.values)}" if self.values else told
+
+    def look_at(self, records):
+        """Takes from the records of the request what the refusal is told of."""
+        begun = [place for place, record in enumerate(records) if not record.startswith("line|")][1:]
+        if self.column and self.action < len(begun):
+            lines = records[begun[self.action - 1] + 1:begun[self.action]]
+            self.values = sorted({line.split("|")[1 + LINEORDER.index(self.column)] for line in lines})
+
+
+class UnknownValue(UserWarning):
+    """A question was answered by no rows, or by no sum, and looks for a value that no line has."""
 
 
 class ReadOnly(OperationalError):
@@ -147,6 +192,10 @@ class Answer(collections.abc.Sequence):
         import pandas
         return pandas.DataFrame(self.rows, columns=list(self.columns))
 
+    def is_empty(self):
+        """Whether it has no rows, or is a sum of no lines."""
+        return not self.rows or self.rows[0] == (None,)
+
     def __repr__(self):
         return f"<{self.name} at {self.at}: {len(self.rows)} rows of {', '.join(self.columns)}>"
 
@@ -157,6 +206,23 @@ def columns_of(name, constants=()):
         groups = tuple(it for it in constants[1:] if "=" not in it)
         return (*groups, *constants[:1])
     return COLUMNS.get(name) or COLUMNS.get(name[:2], ())
+
+
+def tests_of(name, constants):
+    """The columns and the values that a question looks for; of a range of star its ends, as they are sent."""
+    if name == "star":
+        return [tuple(it.split("=", 1)) for it in constants[1:] if "=" in it and not it.startswith(("LO_", "ORDER="))]
+    return [(column, value) for column, value in zip(TESTED.get(name, ()), constants) if column]
+
+
+def holds(value, values, column):
+    """Whether a column that has these values has the one of a test, or one in its range."""
+    first, is_range, last = value.partition("..")
+    if not is_range:
+        return value in values
+    if column in NUMBERS and first.isdigit() and last.isdigit():
+        return any(int(first) <= int(it) <= int(last) for it in values)
+    return any(first <= it <= last for it in values)
 
 
 def field_of(value):
@@ -310,12 +376,13 @@ def connect(into, out, timeout=TIMEOUT):
 
 
 class Connection:
-    """A session of a client. Each call returns or raises within `timeout` seconds, which can be set at any time."""
+    """A session of a client. Each call returns or raises within `timeout` seconds, which can be set at any time. While
+    `warns` is true, as at the beginning, an empty answer to what no line has is followed by a warning."""
 
     def __init__(self, into, out, timeout=TIMEOUT):
         self.into = self.out = None
         self.paths, self.timeout = (os.fspath(into), os.fspath(out)), timeout
-        self._turn, self._seen = threading.Lock(), 0
+        self._turn, self._seen, self.warns = threading.Lock(), 0, True
         self._connect(time.monotonic() + timeout)
 
     # what a user calls
@@ -323,7 +390,7 @@ class Connection:
     def ask(self, name, *constants):
         """The answer to a question: one of the thirteen, with all its constants or none, or `star` with its own."""
         question = question_of((name, *constants))
-        return self._request([record_of(question)], 1, lambda text: self._answers([question], text))[0]
+        return self._ask([record_of(question)], [question])[0]
 
     def ask_together(self, questions):
         """The answers to 1 to 16 questions, all after the same commits. Each question is a name, or a name with its
@@ -331,8 +398,7 @@ class Connection:
         questions = list(map(question_of, questions))
         if not questions:
             raise ProgrammingError("nothing is asked")
-        records = ["ask", *map(record_of, questions), "answer"]
-        return self._request(records, len(questions), lambda text: self._answers(questions, text))
+        return self._ask(["ask", *map(record_of, questions), "answer"], questions)
 
     def refresh(self):
         """A refresh, for a `with` block: it is committed at the block's end, or Refused is raised there."""
@@ -369,15 +435,40 @@ class Connection:
 
     # requests and their replies
 
-    def _request(self, records, replies, read):
+    def _ask(self, records, questions):
+        """The answers to questions, which these records ask, and a warning of what they look for that no line has."""
+        deadline = time.monotonic() + self.timeout
+        answers = self._request(records, len(questions), lambda text: self._answers(questions, text), deadline)
+        for answer in answers if self.warns else ():
+            if answer.is_empty():
+                self._warn(answer, deadline)
+        return answers
+
+    def _warn(self, answer, deadline):
+        """Warns of each value that a question looks for, where no line has it. The values that lines have are asked
+        for, by a question more for each column."""
+        for column, value in tests_of(answer.name, answer.constants):
+            asked = ("star", ("COUNT", column))
+            read = functools.partial(self._answers, [asked])
+            values = [str(row[0]) for row in self._request([record_of(asked)], 1, read, deadline)[0]]
+            if not holds(value, values, column):
+                told = ": " + ", ".join(values) if len(values) <= MOST_TOLD else ""
+                warnings.warn(f"no line has {column} {value}; its {len(values)} values{told}", UnknownValue, 4)
+
+    def _request(self, records, replies, read, deadline=None):
         """Sends the records of a request, and gives what `read` makes of its replies."""
         request = "".join(f"{record}\n" for record in records).encode(errors="surrogatepass")
         if len(request) > MOST_BYTES:
             raise ProgrammingError(f"a request has at most {MOST_BYTES:,} bytes, and this one has {len(request):,}")
-        return self._exchange(request, replies, lambda text: read(text.decode(errors="surrogateescape")))
+        try:
+            return self._exchange(request, replies, lambda text: read(text.decode(errors="surrogateescape")), deadline)
+        except (Fault, Refused) as told:
+            told.look_at(records)
+            raise
 
-    def _exchange(self, request, replies, read):
-        deadline, expected = time.monotonic() + self.timeout, Replies(replies, request.startswith(b"ask\n"))
+    def _exchange(self, request, replies, read, deadline=None):
+        expected = Replies(replies, request.startswith(b"ask\n"))
+        deadline = deadline or time.monotonic() + self.timeout
         self._take_turn(deadline)
         try:
             self._send_and_read(request, expected.take, deadline)

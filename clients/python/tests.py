@@ -17,6 +17,7 @@ import tempfile
 import threading
 import time
 import unittest
+import warnings
 
 sys.dont_write_bytecode = True
 HERE = pathlib.Path(__file__).resolve().parent
@@ -139,6 +140,22 @@ class Answers(Trial):
         self.assertEqual(self.live.ask("Q1.1", 1995, 1, 3, 0, 24).rows, [(None,)])
         self.assertEqual(self.live.ask("star", "COUNT", "D_YEAR", "D_YEAR=1995").rows, [])
 
+    def test_a_value_that_no_line_has_is_warned_of(self):
+        cases = [(("star", "COUNT", "C_REGION=Asia"), "no line has C_REGION Asia; its 2 values: AMERICA, ASIA$"),
+                 (("star", "COUNT", "D_YEAR", "D_YEAR=1995..1993"), "no line has D_YEAR 1995..1993; its 2 values"),
+                 (("Q2.1", "MFGR#99", "ASIA"), "no line has P_CATEGORY MFGR#99"),
+                 (("Q3.1", "ASIA", "EUROPE", 1992, 1997), "no line has S_REGION EUROPE; its 1 values: ASIA")]
+        for question, text in cases:
+            with self.assertWarnsRegex(ssb_live.UnknownValue, text):
+                self.live.ask(*question)
+        with self.assertWarnsRegex(ssb_live.UnknownValue, cases[0][1]):
+            self.live.ask_together(["Q1.1", cases[0][0]])
+        with warnings.catch_warnings():
+            warnings.simplefilter("error")
+            self.live.ask("star", "COUNT", "C_REGION=AMERICA", "D_YEAR=1994")      # both are there, in no one line
+            self.live.warns = False
+            self.live.ask(*cases[0][0])
+
     def test_columns_and_rows_are_those_of_the_program_itself(self):
         questions = [(f"Q{name}",) for name in "1.1 1.2 1.3 2.1 2.2 2.3 3.1 3.2 3.3 3.4 4.1 4.2 4.3".split()]
         for question in [*questions, ("Q3.1", "ASIA", "ASIA", 1992, 1994), BY_NATION, (*BY_NATION, "ORDER=SUM")]:
@@ -148,10 +165,11 @@ class Answers(Trial):
             self.assertEqual([list(answer.columns), list(map(list, answer))], [told["columns"], told["rows"]], question)
 
     def test_a_fault_is_raised_and_the_connection_goes_on(self):
-        for question, number in [(("Q9.9",), 70), (("star",), 70), (("Q1.1", 1993), 70)]:
-            with self.raises(ssb_live.Fault, "70 BadLine 1") as told:
+        for question, record in [(("Q9.9",), "query|Q9.9"), (("star",), "query|star"),
+                                 (("Q1.1", 1993), "query|Q1.1|1993")]:
+            with self.raises(ssb_live.Fault, f"70 BadLine 1: {record}".replace("|", ".")) as told:
                 self.live.ask(*question)
-            self.assertEqual(told.exception.number, number)
+            self.assertEqual((told.exception.number, told.exception.record), (70, record))
         self.assertEqual(self.live.ask("Q1.1").rows, [(Q1_1,)])
 
     def test_what_would_be_another_request_is_not_sent(self):
@@ -284,7 +302,21 @@ class Refreshes(Trial):
         for work, text in cases:
             with self.raises(ssb_live.Fault, text), self.live.refresh() as refresh:
                 work(refresh)
+        with self.raises(ssb_live.Fault, "73 Row 5 10 OutOfRange LO_DISCOUNT: LO_DISCOUNT is 11") as told:
+            with self.live.refresh() as refresh:
+                refresh.withdraw(7)
+                refresh.add(line(9), line(9, number=2, discount=11))
+        self.assertEqual((told.exception.column, told.exception.value), ("LO_DISCOUNT", "11"))
+        self.assertEqual(told.exception.text, "73 Row 5 10 OutOfRange LO_DISCOUNT")
         self.assertEqual(self.live.ask("Q1.1").at, 0)
+
+    def test_a_refusal_names_the_key_that_no_row_has(self):
+        with self.raises(ssb_live.Refused, "action 2: 45 UnknownDate: LO_ORDERDATE is 20260101") as told:
+            with self.live.refresh() as refresh:
+                refresh.withdraw(7)
+                refresh.add(line(9, date=20260101))
+                refresh.withdraw(8)
+        self.assertEqual((told.exception.column, told.exception.values), ("LO_ORDERDATE", ["20260101"]))
 
     def test_a_value_of_another_type_is_not_sent(self):
         cases = [("LO_DISCOUNT", 0.1, "LO_DISCOUNT: 0.1 is no whole number"), ("LO_TAX", None, "LO_TAX: None is no"),
