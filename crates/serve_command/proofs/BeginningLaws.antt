@@ -13,9 +13,9 @@ use Rattle.ssb_base.specs.Base.{Tables}
 use Rattle.journal.proofs.MomentLaws.{leaves}
 use Rattle.journal.specs.Disk.{LeavesOnly, Only}
 use Rattle.journal.specs.Groups.{recovered as recovered_groups}
-use Rattle.ssb_journal.proofs.CountLaws.{beginning_of_longer}
+use Rattle.ssb_journal.proofs.CountLaws.{beginning_of_longer, have_first}
 use Rattle.ssb_journal.proofs.KeptLaws.{spell_none}
-use Rattle.ssb_journal.specs.Counts.{Begun, IsLeft, KeepsBeginning, KeepsFirst, KeepsSince}
+use Rattle.ssb_journal.specs.Counts.{Begun, HaveFirst, IsLeft, KeepsBeginning, KeepsFirst, KeepsSince}
 use Rattle.ssb_journal.specs.Kept.{IsAsItWasOrNew, KeepsCommits, SpellCommits}
 use Rattle.ssb_journal.specs.Opening.{IsKept}
 use Rattle.ssb_journal.specs.Texts.{AreSealed}
@@ -166,6 +166,22 @@ kept_unwritten moment left_since may_leave seen found disk marks kept groups log
       written = λ whole. absurd cc;
     }
 
+-- and they are promised
+pub promised_unwritten : (marks : List TableMark) (kept : KeptCommits) (log : List CommitRecord) (count : ℕ)
+    (file : List ℕ) (promised : List (List ℕ))
+    → ((marks : List TableMark) (commits log : List CommitRecord) (file : List ℕ)
+    → KeepsCommits marks commits file → IsPrefix commits log → KeepsFirst (length commits) log file)
+    → IsKept marks (recovered_groups file) kept → kept.is_new ≡ false → promised ≡ recovered_groups file
+    → log ≡ kept.commits.items → count ≡ length kept.commits.items → HaveFirst count log promised
+promised_unwritten marks kept log count file promised first (inl new_one) old are same many = absurd cc
+promised_unwritten marks kept log count file promised first (inr old_one) old are same many =
+    have_first count log file promised
+    (keeps_first marks kept.commits.items log count file first same many (record {
+      texts = old_one.1.texts;
+      is_journal = (kept.form, old_one.1.sealed);
+      spelled = old_one.1.spelled;
+    })) are
+
 -- and so does one at any moment since then
 pub kept_since : {D : Type 0} (moment : D → ℕ) (left_since : D → ℕ → List ℕ → Type 0) (found begun disk : D)
     (marks : List TableMark) (kept : KeptCommits) (groups : List (List ℕ)) (least : ℕ) (seen : List CommitRecord)
@@ -184,11 +200,9 @@ kept_since moment left_since found begun disk marks kept groups least seen first
     (λ file left. as_it_was marks kept groups has.log file first is begins left))
     (λ file keeps. (has.log, begins, keeps)))
 
--- that a journal was out, or memory ran out, tells nothing of its commits
-pub unserved_fault : (why : JournaledFault) → (why ≡ fault.Disturbed) ⊎ (why ≡ fault.OutOfMemory)
-    → IsUnservedFault why
-unserved_fault why is =
-    ⊎_elim (λ one. subst IsUnservedFault (sym one) tt) (λ other. subst IsUnservedFault (sym other) tt) is
+-- that memory ran out tells nothing of its commits
+pub unserved_fault : (why : JournaledFault) → why ≡ fault.OutOfMemory → IsUnservedFault why
+unserved_fault why is = subst IsUnservedFault (sym is) tt
 
 -- no server was opened
 pub run_fault : (clients dispatchers : ℕ) (why : OpenFault) (told : RunFault) → told ≡ fault_of why

@@ -3,15 +3,16 @@ use Rattle.std.specs.Prelude.{ℕ, List, false}
 use Rattle.row_store.specs.History.{CommitRecord}
 use Rattle.serve_command.specs.declared.journaled_run.BegunFile.{BegunFile}
 use Rattle.serve_command.specs.declared.journaled_run.BegunFile.TheVariants.{Open, ReadOnly}
-use Rattle.ssb_journal.specs.Counts.{IsLeft, KeepsFirst}
+use Rattle.ssb_journal.specs.Counts.{HaveFirst, IsLeft, KeepsFirst}
 
 abbrev pub disk_of : {D : Type 0} → BegunFile D → D
 disk_of (Open journal) = journal
 disk_of (ReadOnly disk) = disk
 
 -- it keeps the first commits of a log, so many of them: an open journal is one of just these; of one that is read alone
--- whatever crashes leaves at least these
-abbrev pub KeepsBegun : {D : Type 0} → (D → List ℕ → Type 0) → (D → List ℕ) → ℕ → List CommitRecord → BegunFile D
-    → Type 0
-KeepsBegun may_leave seen count log (Open journal) = KeepsFirst count log (seen journal)
-KeepsBegun may_leave seen count log (ReadOnly disk) = IsLeft (may_leave disk) (seen disk) count log false
+-- whatever crashes leaves at least these, and they are promised
+abbrev pub KeepsBegun : {D : Type 0} → (D → List ℕ → Type 0) → (D → List ℕ) → (D → List (List ℕ)) → ℕ
+    → List CommitRecord → BegunFile D → Type 0
+KeepsBegun may_leave seen promised count log (Open journal) = KeepsFirst count log (seen journal)
+KeepsBegun may_leave seen promised count log (ReadOnly disk) =
+    IsLeft (may_leave disk) (seen disk) count log false × HaveFirst count log (promised disk)
