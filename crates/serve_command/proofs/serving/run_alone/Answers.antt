@@ -41,6 +41,6 @@ returns-clause-ended g c = λ texts are.
     ) in
     let popped = only_popped _ _ _ c.in-Some.ensures.items count in
     let alone = is_alone _ _ texts _ _ _ _ _ _ (c.in_ok-run.ensures.run texts are) pushed popped in
-    ended_alone _ _ _ _ texts _ _ _ _ _ _ _ _ _ alone alone.by.spoken
+    ended_alone _ _ _ _ texts _ _ _ _ _ _ _ _ _ _ alone alone.by.spoken
     (told_alone g.P.Disk.Disk.may_leave g.P.Disk.Disk.seen (λ one. one.told) c.in_ok-run.run'.kept _ _ _
     c.in_ok-run.ensures.kept c.in_ok-run.ensures.told popped)
