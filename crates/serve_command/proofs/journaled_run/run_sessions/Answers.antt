@@ -17,7 +17,7 @@ returns-in-Ok-clause-since g c =
     since_begun_on g.D.Disk.moment g.D.Disk.left_since g.K.LogStart.begun (disk_of c.args.begun.file) left.disk
     c.args.begun.count left.count left.reader.seen c.requires.begun c.left_of-left.ensures.since
 
-pub returns-clause-since_err : goal.returns-in-Err-clause-since_err
+pub returns-clause-since_err : goal.returns-clause-since_err
 returns-clause-since_err g c =
     let left = c.left_of-left.result in record {
       count = left.count;

@@ -31,7 +31,7 @@ returns-in-Ok-clause-shown g c =
     rw (take_at c.show_all.new.clients _ seats.clients.len many)
     (subst (λ l. AllHaveSeen l c.show_all.new.clients) seen c.in-Ok.ensures.seen)
 
-pub returns-clause-file : goal.returns-in-Err-clause-file
+pub returns-clause-file : goal.returns-clause-file
 returns-clause-file g c =
     let opened = c.finish-opened.result in
     let file = g.U.Whole.Disk.seen opened.found in
