@@ -1,6 +1,6 @@
 use Rattle.std.proofs.Common.{◌<◌, arith, inr, length, refl}
 use Rattle.ssb_journal.proofs.KeptLaws.{no_trace, batch_spelled}
-use Rattle.ssb_journal.proofs.commits.batch_of.Goals as goal
+use Rattle.ssb_journal.proofs.commits.batch_of_records.Goals as goal
 
 pub returns-in-Err : goal.returns-in-Err
 returns-in-Err c =
