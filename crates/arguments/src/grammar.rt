@@ -1,6 +1,6 @@
 //! Which words there are, as clap takes them.
 
-use crate::help::{AUDIT_HELP, EXPORT_HELP, QUERY_HELP, RUN_HELP, SERVE_HELP};
+use crate::help::{AUDIT_HELP, CHANGES_HELP, EXPORT_HELP, QUERY_HELP, RUN_HELP, SERVE_HELP};
 use clap::builder::ValueParser;
 use clap::{Arg, ArgAction, Command, value_parser};
 use std::alloc::{AllocError, Global};
@@ -414,6 +414,36 @@ fn export_command<'a>(alloc: Global) -> Result<Command<'a>, AllocError> {
     with_telling(alloc, command)
 }
 
+// The words of `changes`.
+fn changes_command<'a>(alloc: Global) -> Result<Command<'a>, AllocError> {
+    let journal = path_argument(
+        alloc,
+        "journal",
+        "FILE",
+        "The journal of a server over these tables; it is not changed",
+    );
+    let after = Arg::new(alloc, "after")
+        .long("after")
+        .value_name("N")
+        .help("Begins behind commit N; without it all commits are written")
+        .value_parser(value_parser!(u64))
+        .action(ArgAction::Set);
+    let base = flag(
+        alloc,
+        "base",
+        "The loaded lines first, as those of commit 0",
+    )
+    .conflicts_with("after")?;
+    let command = over_tables(
+        alloc,
+        "changes",
+        "Writes the lines that each commit of a journal brought, and those that it took away",
+        CHANGES_HELP,
+    )?;
+    let command = command.arg(journal.required(true))?.arg(after)?.arg(base)?;
+    with_telling(alloc, command)
+}
+
 /// All words of the program, where a question is explained or not.
 pub fn command<'a>(alloc: Global, explains: bool) -> Result<Command<'a>, AllocError> {
     Command::new(alloc, "ssb_live")
@@ -426,5 +456,6 @@ pub fn command<'a>(alloc: Global, explains: bool) -> Result<Command<'a>, AllocEr
         .subcommand(run_command(alloc)?)?
         .subcommand(serve_command(alloc)?)?
         .subcommand(audit_command(alloc)?)?
-        .subcommand(export_command(alloc)?)
+        .subcommand(export_command(alloc)?)?
+        .subcommand(changes_command(alloc)?)
 }

@@ -151,6 +151,21 @@ lineorder.tbl has all five. If an export fails, delete by hand what it has left 
 Example:
   ssb_live export --data tables --journal orders.journal --to tables-2";
 
+/// What `changes --help` shows.
+pub const CHANGES_HELP: &str = "\
+Reads the commits that 'ssb_live serve --journal' kept in FILE, with the same five table files of a folder, and prints
+what they changed, for other systems. A line 'N|1|' and the 17 fields of a line order: commit N brought this line. A
+line 'N|-1|' and the fields: commit N took it away, by a withdrawal, or as one of the lines that an amended order had.
+Of each line the signs up to commit N add up to 1 where it is live after N commits, and to 0 where it is not.
+
+With --base the loaded lines come first, as those of commit 0. With --after N the commits behind the first N are
+written, so that a system which has some gets the others. FILE is not changed; a server goes on meanwhile only where
+FILE is a copy.
+
+Examples:
+  ssb_live changes --data tables --journal orders.journal --base
+  ssb_live changes --data tables --journal orders.journal --after 1204";
+
 /// What the word `help` shows on the terminal of a live session.
 pub const TERMINAL_HELP: &str = help_with_questions!(
     "\

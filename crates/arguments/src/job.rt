@@ -28,6 +28,8 @@ pub enum Job<'a> {
     Audit(AuditWords<'a>),
     /// The tables after a journal's commits.
     Export(ExportWords<'a>),
+    /// What a journal's commits changed.
+    Changes(ChangesWords<'a>),
 }
 
 /// How answers are written.
@@ -177,6 +179,26 @@ pub struct ExportWords<'a> {
     pub hints: HintsWord,
 }
 
+/// From where on changes are written.
+#[derive(Clone, Copy)]
+pub enum StartWord {
+    /// From the loaded lines on.
+    Base,
+    /// Behind the first commits, so many of them.
+    After(u64),
+}
+
+/// The words of `changes`.
+#[derive(Drop)]
+pub struct ChangesWords<'a> {
+    pub data: &'a str,
+    pub layout: TableLayout,
+    pub journal: &'a str,
+    pub start: StartWord,
+    pub quiet: bool,
+    pub hints: HintsWord,
+}
+
 impl<'a> Job<'a> {
     /// What the words say of help below a fault.
     pub fn hints(&self) -> HintsWord {
@@ -188,6 +210,7 @@ impl<'a> Job<'a> {
             Job::Serve(words) => words.hints,
             Job::Audit(words) => words.hints,
             Job::Export(words) => words.hints,
+            Job::Changes(words) => words.hints,
         }
     }
 }
@@ -410,6 +433,25 @@ fn export_words<'a>(alloc: Global, matches: &ArgMatches<'a>) -> Result<ExportWor
     })
 }
 
+// From where on the words ask for changes; the grammar lets no two words through.
+fn start_of(matches: &ArgMatches<'_>) -> StartWord {
+    if matches.get_flag("base") {
+        return StartWord::Base;
+    }
+    StartWord::After(matches.get_one::<u64>("after").unwrap_or(0))
+}
+
+fn changes_words<'a>(alloc: Global, matches: &ArgMatches<'a>) -> Result<ChangesWords<'a>, Notice> {
+    Ok(ChangesWords {
+        data: word_of(matches, "data"),
+        layout: layout_of(alloc, matches)?,
+        journal: word_of(matches, "journal"),
+        start: start_of(matches),
+        quiet: matches.get_flag("quiet"),
+        hints: hints_of(matches),
+    })
+}
+
 /// What these words ask for, the program's name first, where the environment has this variable COLUMNS, or none; else
 /// what is told in place of that.
 pub fn job_of<'a>(
@@ -424,6 +466,7 @@ pub fn job_of<'a>(
         Some(("serve", words)) => Job::Serve(serve_words(alloc, words)?),
         Some(("audit", words)) => Job::Audit(audit_words(alloc, words)?),
         Some(("export", words)) => Job::Export(export_words(alloc, words)?),
+        Some(("changes", words)) => Job::Changes(changes_words(alloc, words)?),
         Some((_, words)) => query_job(alloc, words, columns)?,
         None => Job::Script,
     })

@@ -602,6 +602,46 @@ where
     Ok(run_export(rt, hashing, tables, &place, err))
 }
 
+// Writes what the commits of a journal changed, over the files of a folder.
+fn write_changes<R, F: Files + AllocGlobal, W: Write, E: Write>(
+    rt: &R,
+    files: &F,
+    words: &arguments::ChangesWords<'_>,
+    out: &mut W,
+    err: &mut E,
+) -> Result<u8, Fault>
+where
+    R: RandomSource + Threads + Sync + AllocGlobal,
+    F::File: JournalFile,
+{
+    let tables = open_tables(files, words.data)?;
+    if let Err(fault) = named_journal::check_is_there(files, words.journal) {
+        let refusal = changes_command::ChangesRefusal::Journal(fault);
+        return Ok(changes_command::ChangesFault::Found(refusal).tell(err));
+    }
+    let hashing = hashing_of(rt)?;
+    let bytes = TableBytes::new();
+    let tables = TableFiles {
+        tables: count_tables(&bytes, tables),
+        layout: words.layout,
+    };
+    let path = String::from_str(files.alloc(), words.journal)?;
+    let journal = ReadPath {
+        files,
+        path: path.as_str(),
+    };
+    let place = changes_command::ChangesPlace {
+        journal: &journal,
+        bytes: &bytes,
+        start: match words.start {
+            arguments::StartWord::Base => changes_command::ChangesStart::Loaded,
+            arguments::StartWord::After(count) => changes_command::ChangesStart::Behind(count),
+        },
+        tells: !words.quiet,
+    };
+    Ok(changes_command::run_changes(rt, hashing, tables, &place, out, err))
+}
+
 // Serves the person at a terminal over the built-in tables, without a journal.
 fn serve_small<R, F, I: Read + Drop + Send, W: Write + Drop + Send, E: Print + Sync>(
     rt: &R,
@@ -690,6 +730,7 @@ where
         }
         Job::Audit(words) => check_trace(rt, files, words, terminal, &mut output, err),
         Job::Export(words) => export_tables(rt, files, words, terminal, err),
+        Job::Changes(words) => write_changes(rt, files, words, &mut output, err),
     }
 }
 

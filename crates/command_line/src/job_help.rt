@@ -52,6 +52,11 @@ fn named_by<'a>(job: &'a Job<'_>) -> Named<'a> {
             journal: Some(words.journal),
             ..nothing
         },
+        Job::Changes(words) => Named {
+            data: Some(tables_named(words.data, words.layout)),
+            journal: Some(words.journal),
+            ..nothing
+        },
     }
 }
 

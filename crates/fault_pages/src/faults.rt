@@ -1,6 +1,7 @@
 //! Every fault that has a number, with the values that the page's words in capitals stand for.
 
 use crate::help::push_help;
+use changes_command::NoSuchCommit;
 use export_command::NotEmpty;
 use journal_file::{NoJournal, OpenError};
 use query_command::{BoardLineFault, NoReports};
@@ -274,6 +275,16 @@ impl ListsFaults for NoJournal<&'static str> {
     }
 }
 
+impl ListsFaults for NoSuchCommit {
+    fn first() -> NoSuchCommit {
+        NoSuchCommit { number: 3 }
+    }
+
+    fn next(&self) -> Option<NoSuchCommit> {
+        None
+    }
+}
+
 impl ListsFaults for NotEmpty {
     fn first() -> NotEmpty {
         NotEmpty
@@ -379,6 +390,7 @@ pub fn all_lines(alloc: Global) -> Result<Vec<String>, AllocError> {
     push_lines::<OpenError>(alloc, &mut lines)?;
     push_lines::<NoJournal<&'static str>>(alloc, &mut lines)?;
     push_lines::<NotEmpty>(alloc, &mut lines)?;
+    push_lines::<NoSuchCommit>(alloc, &mut lines)?;
     push_lines::<ReadOnly>(alloc, &mut lines)?;
     push_lines::<PathFault<&'static str>>(alloc, &mut lines)?;
     push_lines::<QuestionsError>(alloc, &mut lines)?;
