@@ -245,6 +245,18 @@ fn system_argument<'a>(alloc: Global) -> Result<Arg<'a>, AllocError> {
         .requires_arg("explain")
 }
 
+// The commit as of which a statement's rows are.
+fn as_of_argument<'a>(alloc: Global) -> Result<Arg<'a>, AllocError> {
+    Arg::new(alloc, "as-of")
+        .long("as-of")
+        .value_name("N")
+        .help("With --explain --sql: over the table of signed lines, as of commit N")
+        .value_parser(value_parser!(u64))
+        .action(ArgAction::Set)
+        .requires_arg("explain")?
+        .requires_arg("sql")
+}
+
 // The words of `query`, where it explains a question or answers it.
 fn query_command<'a>(alloc: Global, explains: bool) -> Result<Command<'a>, AllocError> {
     let data = data_argument(alloc)
@@ -264,6 +276,7 @@ fn query_command<'a>(alloc: Global, explains: bool) -> Result<Command<'a>, Alloc
         .arg(width_argument(alloc))?
         .arg(explain_argument(alloc)?)?
         .arg(sql_argument(alloc, explains)?)?
+        .arg(as_of_argument(alloc)?)?
         .arg(times_argument(
             alloc,
             "Reports on standard error how many seconds each step took",

@@ -4,7 +4,7 @@ use crate::grammar::{command, width_of};
 use crate::notice::Notice;
 use clap::ArgMatches;
 use clap::error::ErrorKind;
-use ssb_explain::System;
+use ssb_explain::{ReadLines, SqlTarget, System};
 use ssb_text::{Delimiter, TableLayout};
 use std::alloc::{AllocError, Global};
 
@@ -121,8 +121,8 @@ pub struct ExplainWords<'a> {
     pub layout: TableLayout,
     pub name: &'a str,
     pub constants: Vec<&'a str>,
-    /// The system whose SQL is written; none where words are.
-    pub sql: Option<System>,
+    /// The system whose SQL is written, and over which lines; none where words are.
+    pub sql: Option<SqlTarget>,
     pub quiet: bool,
     pub hints: HintsWord,
 }
@@ -357,13 +357,23 @@ fn system_of(matches: &ArgMatches<'_>) -> Option<System> {
     }
 }
 
+// What a statement is written for, where one is asked for.
+fn target_of(matches: &ArgMatches<'_>) -> Option<SqlTarget> {
+    let system = system_of(matches)?;
+    let lines = match matches.get_one::<u64>("as-of") {
+        Some(commits) => ReadLines::AsOf(commits),
+        None => ReadLines::Lineorder,
+    };
+    Some(SqlTarget { system, lines })
+}
+
 fn explain_words<'a>(alloc: Global, matches: &ArgMatches<'a>) -> Result<ExplainWords<'a>, Notice> {
     Ok(ExplainWords {
         data: matches.get_str("data"),
         layout: layout_of(alloc, matches)?,
         name: word_of(matches, "name"),
         constants: words_of(alloc, matches, "constants")?,
-        sql: system_of(matches),
+        sql: target_of(matches),
         quiet: matches.get_flag("quiet"),
         hints: hints_of(matches),
     })
