@@ -156,7 +156,7 @@ fn board_argument<'a>(alloc: Global) -> Result<Arg<'a>, AllocError> {
         alloc,
         "board",
         "FILE",
-        "The questions of FILE in place of one: 1 to 64 lines 'Title|NAME|CONSTANT..', each answer under its title",
+        "The questions of FILE in place of one: 1 to 64 lines 'Title|NAME|CONSTANT..' or 'Title|sql|TEXT', each report under its title",
     )
     .conflicts_with("all")?
     .conflicts_with("explain")
@@ -226,8 +226,8 @@ fn sql_argument<'a>(alloc: Global, explains: bool) -> Result<Arg<'a>, AllocError
         .long("sql")
         .value_name("TEXT")
         .help(
-            "The rows of a statement of SQL in place of a question; with --explain SYSTEM in its place: sqlite, \
-             postgresql or clickhouse, in whose SQL the question is written",
+            "The rows of statements of SQL, parted by ';', in place of a question; -: those of standard input; with \
+             --explain SYSTEM in its place: sqlite, postgresql or clickhouse, in whose SQL the question is written",
         )
         .action(ArgAction::Set)
         .conflicts_with("all")?

@@ -57,8 +57,11 @@ spells it. JSON has one object a line. An empty line parts the answers, but not 
 sums, each as long as its sum is great; that of a negative sum is drawn with another sign. HTML is a page for a browser,
 with tables and bars.
 
-With --board it prints the answers to the questions of FILE, in order, each under its title. A line of FILE is
-'Title|NAME' or 'Title|NAME|CONSTANT..'; there are 1 to 64.
+With --board it prints the reports that FILE asks for, in order, each under its title. A line of FILE is 'Title|NAME',
+'Title|NAME|CONSTANT..' or 'Title|sql|TEXT'; there are 1 to 64.
+
+With --sql it prints the rows of statements of SQL: one SELECT each, of group columns, COUNT, SUM and AVG over lineorder
+and its dimensions, with WHERE, GROUP BY, HAVING, ORDER BY and LIMIT.
 
 With --explain it prints what is asked, and needs no tables: a request of star that asks the same, the printed columns,
 and what the rows are ordered by. With --data DIR also how many rows of each dimension the tests take, and how many
@@ -72,6 +75,9 @@ Examples:
   ssb_live query --data tables --format bars star LO_REVENUE D_YEAR C_REGION=ASIA
   ssb_live query --data tables --all --times
   ssb_live query --data tables --board morning.board --format html > morning.html
+  ssb_live query --data tables --sql 'SELECT d_year, sum(lo_revenue), count(*) FROM lineorder JOIN date
+    ON lo_orderdate = d_datekey GROUP BY d_year ORDER BY 2 DESC LIMIT 3'
+  ssb_live query --data tables --format table --sql - < morning.sql
   ssb_live query --explain Q2.1
   ssb_live query --explain --sql postgresql star COUNT C_REGION"
 );

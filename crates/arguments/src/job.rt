@@ -101,7 +101,7 @@ pub struct QueryWords<'a> {
     /// The file of the questions; none where the words have them.
     pub board: Option<&'a str>,
     pub format: FormatWord,
-    /// The text of a statement, in the place of a question.
+    /// The text of statements, in the place of a question; `-` where standard input has it.
     pub sql: Option<&'a str>,
     /// Empty where all are asked, those of a board, or a statement.
     pub name: &'a str,
@@ -267,19 +267,6 @@ fn check_width(alloc: Global, matches: &ArgMatches<'_>) -> Result<(), Notice> {
     Err(Notice::from(fault))
 }
 
-// Looks whether a statement is to be drawn, which has several numbers a row.
-fn check_format(alloc: Global, matches: &ArgMatches<'_>) -> Result<(), Notice> {
-    let format = word_of(matches, "format");
-    if !matches.contains_id("sql") || (format != "bars" && format != "html") {
-        return Ok(());
-    }
-    let told = format!(in alloc;
-        "the argument '--sql <TEXT>' cannot be used with '--format {format}'"
-    )?;
-    let fault = command(alloc, false)?.error(ErrorKind::ArgumentConflict, told.as_str())?;
-    Err(Notice::from(fault))
-}
-
 // What parts the fields of the tables: a bar, or what the words have.
 fn delimiter_of(alloc: Global, matches: &ArgMatches<'_>) -> Result<Delimiter, Notice> {
     let Some(word) = matches.get_str("delimiter") else {
@@ -355,7 +342,6 @@ fn query_job<'a>(
     if matches.get_flag("explain") {
         Ok(Job::Explain(explain_words(alloc, matches)?))
     } else {
-        check_format(alloc, matches)?;
         Ok(Job::Query(query_words(alloc, matches, columns)?))
     }
 }

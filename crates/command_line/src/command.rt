@@ -1,52 +1,108 @@
 //! What the words of a command line do.
 
-use crate::attending::{attend_clients, serve_one};
+use crate::attending::attend_clients;
+use crate::attending::serve_one;
 use crate::commits_screen::serve_shown;
 use crate::job_help::tell_help;
-use crate::metrics::{MetricsFile, push_metrics};
+use crate::metrics::MetricsFile;
+use crate::metrics::push_metrics;
+use crate::named_journal;
 use crate::named_journal::NamedJournal;
-use crate::streams::{Streams, tell};
+use crate::pipes;
+use crate::streams::Streams;
+use crate::streams::tell;
 use crate::terminal_view::TerminalView;
-use crate::{named_journal, pipes};
-use arguments::{
-    AuditWords, ExplainWords, ExportWords, FormatWord, HintsWord, Job, JournalWord, QueryWords,
-    RunWords, ServeWords, StandingWord, job_of,
-};
+use arguments::AuditWords;
+use arguments::ExplainWords;
+use arguments::ExportWords;
+use arguments::FormatWord;
+use arguments::HintsWord;
+use arguments::Job;
+use arguments::JournalWord;
+use arguments::QueryWords;
+use arguments::RunWords;
+use arguments::ServeWords;
+use arguments::StandingWord;
+use arguments::job_of;
 use audit_command::run_audit;
-use export_command::{ExportFault, ExportPlace, ExportRefusal, run_export};
-use journal_file::{JournalFile, torn_path};
-use journal_opening::{JournalPath, ReadPath};
-use query_command::{
-    QuestionWords, Settings, run_all, run_board, run_explain, run_explain_over, run_query,
-    run_statement, standard_questions,
-};
-use run_command::{RunInput, RunSettings, demo, open_trace, run_scripts};
-use serve_command::{
-    Attendant, EndPaths, JournalPlace, MOST_CLIENTS, PathClients, ServeFault, ServeRefusal,
-    ServeSettings, StreamClient, report_no_pipes,
-};
+use export_command::ExportFault;
+use export_command::ExportPlace;
+use export_command::ExportRefusal;
+use export_command::run_export;
+use journal_file::JournalFile;
+use journal_file::torn_path;
+use journal_opening::JournalPath;
+use journal_opening::ReadPath;
+use query_command::NoStatement;
+use query_command::QuestionWords;
+use query_command::Settings;
+use query_command::run_all;
+use query_command::run_board;
+use query_command::run_explain;
+use query_command::run_explain_over;
+use query_command::run_query;
+use query_command::run_statements;
+use query_command::standard_questions;
+use query_command::statements_text;
+use run_command::RunInput;
+use run_command::RunSettings;
+use run_command::demo;
+use run_command::open_trace;
+use run_command::run_scripts;
+use serve_command::Attendant;
+use serve_command::EndPaths;
+use serve_command::JournalPlace;
+use serve_command::MOST_CLIENTS;
+use serve_command::PathClients;
+use serve_command::ServeFault;
+use serve_command::ServeRefusal;
+use serve_command::ServeSettings;
+use serve_command::StreamClient;
+use serve_command::report_no_pipes;
 use server_figures::LiveFigures;
-use ssb_files::{
-    Fault, InputSource, PathUse, Screen, TableBytes, UsedPath, check_paths, count_tables,
-    find_tables, open_file, open_files, open_tables, read_standing, watch, watch_scripts,
-    watch_tables,
-};
+use ssb_files::Fault;
+use ssb_files::InputSource;
+use ssb_files::JobFault;
+use ssb_files::PathUse;
+use ssb_files::Screen;
+use ssb_files::TableBytes;
+use ssb_files::UsedPath;
+use ssb_files::check_paths;
+use ssb_files::count_tables;
+use ssb_files::find_tables;
+use ssb_files::open_file;
+use ssb_files::open_files;
+use ssb_files::open_tables;
+use ssb_files::read_standing;
+use ssb_files::watch;
+use ssb_files::watch_scripts;
+use ssb_files::watch_tables;
 use ssb_formats::Format;
-use ssb_hints::{
-    FailedCalls, FaultLines, Observed, ObservedFiles, STANDARD_INPUT, STANDARD_OUTPUT,
-};
+use ssb_hints::FailedCalls;
+use ssb_hints::FaultLines;
+use ssb_hints::Observed;
+use ssb_hints::ObservedFiles;
+use ssb_hints::STANDARD_INPUT;
+use ssb_hints::STANDARD_OUTPUT;
 use ssb_questions::Question;
-use ssb_text::{TableFiles, Tables};
+use ssb_text::TableFiles;
+use ssb_text::Tables;
 use std::alloc::Global;
 use std::hash::RandomState;
 use std::io;
-use std::io::{BufWriter, Print, Read, Write};
+use std::io::BufWriter;
+use std::io::Print;
+use std::io::Read;
+use std::io::Write;
 use std::random::RandomSource;
 use std::rt::Files;
-use std::sync::{Arc, Wait};
+use std::sync::Arc;
+use std::sync::Wait;
 use std::thread::Threads;
 use std::time::Clock;
-use terminal::{HelpedOutput, Prompted, TypedRequest};
+use terminal::HelpedOutput;
+use terminal::Prompted;
+use terminal::TypedRequest;
 
 // The terminal, where there is one and the words let it show the progress of a load, which begins now.
 fn screen_of<'a, C: Clock, P: Print>(
@@ -93,11 +149,30 @@ fn open_board<F: Files + AllocGlobal>(
     }
 }
 
-// Answers one question, all, or those of a board, over the files of a folder.
+// The words of `query`, and the text of the statements that are asked in place of a question.
+#[derive(Clone, Copy)]
+struct AskedWords<'w, 'a> {
+    words: &'w QueryWords<'a>,
+    statements: Option<&'w str>,
+}
+
+// The text of statements, where the words say that the input has it.
+fn statements_on<I: Read + Drop>(
+    alloc: Global,
+    words: &QueryWords<'_>,
+    input: I,
+) -> Result<Option<String>, NoStatement> {
+    match words.sql {
+        Some("-") => Ok(Some(statements_text(alloc, input)?)),
+        _ => Ok(None),
+    }
+}
+
+// Answers one question, all, those of a board, or statements, over the files of a folder.
 fn answer_query<R, F: Files + AllocGlobal, P: Print, W: Write, E: Write>(
     rt: &R,
     files: &F,
-    words: &QueryWords<'_>,
+    asked: AskedWords<'_, '_>,
     terminal: Option<&P>,
     out: &mut W,
     err: &mut E,
@@ -105,6 +180,7 @@ fn answer_query<R, F: Files + AllocGlobal, P: Print, W: Write, E: Write>(
 where
     R: Clock + RandomSource + Threads + Sync + AllocGlobal,
 {
+    let words = asked.words;
     let tables = open_tables(files, words.data)?;
     let board = open_board(files, words)?;
     let hashing = hashing_of(rt)?;
@@ -124,14 +200,14 @@ where
     if words.all {
         return Ok(run_all(rt, settings, tables, out, err));
     }
-    if let Some(text) = words.sql {
-        return Ok(run_statement(rt, settings, tables, text, out, err));
+    if let Some(text) = asked.statements {
+        return Ok(run_statements(rt, settings, tables, text, out, err));
     }
-    let asked = QuestionWords {
+    let question = QuestionWords {
         name: words.name,
         constants: words.constants.as_slice(),
     };
-    Ok(run_query(rt, settings, tables, asked, out, err))
+    Ok(run_query(rt, settings, tables, question, out, err))
 }
 
 // Where the questions that are to stand come from.
@@ -674,7 +750,18 @@ where
     pipes::report_pipes(files, job, err)?;
     match job {
         Job::Script => report_script(rt, input, &mut output, err),
-        Job::Query(words) => answer_query(rt, files, words, terminal, &mut output, err),
+        Job::Query(words) => {
+            let read = match statements_on(rt.alloc(), words, input) {
+                Ok(read) => read,
+                Err(fault) => return Ok(JobFault::Found(fault).tell(err)),
+            };
+            let statements = match &read {
+                Some(text) => Some(text.as_str()),
+                None => words.sql,
+            };
+            let asked = AskedWords { words, statements };
+            answer_query(rt, files, asked, terminal, &mut output, err)
+        }
         Job::Explain(words) => explain_query(rt, files, words, terminal, &mut output, err),
         Job::Run(words) => report_scripts(rt, files, words, terminal, &mut output, err),
         Job::Serve(words) => {

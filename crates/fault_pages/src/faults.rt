@@ -13,7 +13,7 @@ use ssb_questions::{ConstantsFault, NoSuchQuery, Query};
 use ssb_schema::{C_CITY, SchemaFault, Table};
 use ssb_script::{QuestionsError, RequestError, ScriptError};
 use ssb_server::OpenFault;
-use ssb_sql::{Place, SqlFault};
+use ssb_sql::{SqlFault, TextPlace};
 use ssb_text::LoadError;
 use std::alloc::{AllocError, Global};
 use std::fmt::Display;
@@ -95,14 +95,15 @@ impl ListsFaults for BoardLineFault {
         BoardLineFault::NoTitle
     }
 
-    // What is wrong with a question has the number that it has anywhere.
+    // What is wrong with a question or a statement has the number that it has anywhere.
     fn next(&self) -> Option<BoardLineFault> {
         match self {
             BoardLineFault::NoTitle => Some(BoardLineFault::NotUtf8),
             BoardLineFault::NotUtf8 => Some(BoardLineFault::TooManyReports),
             BoardLineFault::TooManyReports
             | BoardLineFault::NoSuchQuery(_)
-            | BoardLineFault::Constants(_) => None,
+            | BoardLineFault::Constants(_)
+            | BoardLineFault::Sql(_) => None,
         }
     }
 }
@@ -117,7 +118,7 @@ impl ListsFaults for NoReports {
     }
 }
 
-const SQL_PLACE: Place = Place { line: 2, column: 4 };
+const SQL_PLACE: TextPlace = TextPlace { line: 2, column: 4 };
 
 impl ListsFaults for SqlFault {
     fn first() -> SqlFault {
