@@ -5,5 +5,4 @@ pub mod Explained
 pub mod Board
 pub mod ReportsAsked
 pub mod BoardReported
-pub mod BoardReported
 pub mod Statement
