@@ -101,7 +101,7 @@ impl<'a, C: Clock, I: Read + Drop, E: Write + Drop, S: ShowsOnDemand> Prompted<'
                 let since_reply = self.watch.since_reply();
                 self.shows.show_status(since_reply, &mut self.screen);
             }
-            TerminalWord::Quit | TerminalWord::Exit => {
+            TerminalWord::Quit => {
                 self.has_ended = true;
                 return Ok(());
             }

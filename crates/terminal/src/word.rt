@@ -1,12 +1,11 @@
 //! The words that are the terminal's own.
 
 ghost use Rattle.std.specs.Prelude.{◌≡◌};
-ghost use Rattle.terminal.specs.Typed.{spelling_of, word_typed};
-ghost use Rattle.terminal.specs.Typed as spec;
+ghost use Rattle.terminal.specs.Typed.{said_by, spelling_of, word_typed};
 
-use crate::fields::trimmed;
+use crate::fields::{are_alike, said};
 
-/// A word that a line at a terminal has alone, and that no session reads.
+/// What a line at a terminal says that no session reads.
 #[derive(Clone, Copy, Debug, PartialEq, Eq)]
 pub enum TerminalWord {
     /// Help is shown.
@@ -17,48 +16,97 @@ pub enum TerminalWord {
     Status,
     /// The input ends.
     Quit,
-    /// The same.
-    Exit,
 }
 
-/// All words.
-pub(crate) const WORDS: [TerminalWord; 5] = [
-    TerminalWord::Help,
-    TerminalWord::Timing,
-    TerminalWord::Status,
-    TerminalWord::Quit,
-    TerminalWord::Exit,
+/// A spelling of a word: its own, or one by which other programs have it.
+#[derive(Clone, Copy, Debug, PartialEq, Eq)]
+pub enum Spelling {
+    Help,
+    QuestionMark,
+    PointHelp,
+    StrokeMark,
+    StrokeHelp,
+    Timing,
+    StrokeTiming,
+    Status,
+    Quit,
+    StrokeQuit,
+    PointQuit,
+    Exit,
+    PointExit,
+}
+
+/// All spellings.
+pub(crate) const SPELLINGS: [Spelling; 13] = [
+    Spelling::Help,
+    Spelling::QuestionMark,
+    Spelling::PointHelp,
+    Spelling::StrokeMark,
+    Spelling::StrokeHelp,
+    Spelling::Timing,
+    Spelling::StrokeTiming,
+    Spelling::Status,
+    Spelling::Quit,
+    Spelling::StrokeQuit,
+    Spelling::PointQuit,
+    Spelling::Exit,
+    Spelling::PointExit,
 ];
 
-/// Whether two texts have the same letters, in any case.
-pub(crate) fn are_alike(one: &[u8], other: &[u8]) -> bool
-    ensures { result ≡ spec.are_alike one.now other.now }
-{
-    one.eq_ignore_ascii_case(other)
-}
-
-impl TerminalWord {
-    // How it is spelled.
-    fn spelling(self) -> &'static [u8]
+impl Spelling {
+    // Its letters.
+    fn letters(self) -> &'static [u8]
         ensures { result.now ≡ spelling_of self }
     {
         match self {
-            TerminalWord::Help => b"help",
-            TerminalWord::Timing => b"timing",
-            TerminalWord::Status => b"status",
-            TerminalWord::Quit => b"quit",
-            TerminalWord::Exit => b"exit",
+            Spelling::Help => b"help",
+            Spelling::QuestionMark => b"?",
+            Spelling::PointHelp => b".help",
+            Spelling::StrokeMark => b"\\?",
+            Spelling::StrokeHelp => b"\\h",
+            Spelling::Timing => b"timing",
+            Spelling::StrokeTiming => b"\\timing",
+            Spelling::Status => b"status",
+            Spelling::Quit => b"quit",
+            Spelling::StrokeQuit => b"\\q",
+            Spelling::PointQuit => b".quit",
+            Spelling::Exit => b"exit",
+            Spelling::PointExit => b".exit",
         }
     }
 
-    /// The word that a line has alone, in any case, with or without blanks around it.
+    // The word that it spells.
+    fn word(self) -> TerminalWord
+        ensures { result ≡ said_by self }
+    {
+        match self {
+            Spelling::Help => TerminalWord::Help,
+            Spelling::QuestionMark => TerminalWord::Help,
+            Spelling::PointHelp => TerminalWord::Help,
+            Spelling::StrokeMark => TerminalWord::Help,
+            Spelling::StrokeHelp => TerminalWord::Help,
+            Spelling::Timing => TerminalWord::Timing,
+            Spelling::StrokeTiming => TerminalWord::Timing,
+            Spelling::Status => TerminalWord::Status,
+            Spelling::Quit => TerminalWord::Quit,
+            Spelling::StrokeQuit => TerminalWord::Quit,
+            Spelling::PointQuit => TerminalWord::Quit,
+            Spelling::Exit => TerminalWord::Quit,
+            Spelling::PointExit => TerminalWord::Quit,
+        }
+    }
+}
+
+impl TerminalWord {
+    /// The word that a line has alone, in any case, with or without blanks around it, and a `;` behind it.
     pub fn typed(line: &[u8]) -> Option<TerminalWord>
         ensures { result ≡ word_typed line.now }
     {
-        let text = trimmed(line);
-        WORDS
+        let text = said(line);
+        let spelling = SPELLINGS
             .iter()
             .copied()
-            .find(|word| are_alike(word.spelling(), text))
+            .find(|spelling| are_alike(spelling.letters(), text))?;
+        Some(spelling.word())
     }
 }
