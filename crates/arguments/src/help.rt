@@ -154,16 +154,18 @@ Example:
 /// What the word `help` shows on the terminal of a live session.
 pub const TERMINAL_HELP: &str = help_with_questions!(
     "\
-Q1.1 asks with the benchmark's constants, and Q1.1 1994 1 3 0 24 with these. Names may be in any case. Where a constant
-has a blank in it, the fields are parted by bars: star|COUNT|C_REGION=MIDDLE EAST. ask, then 1 to 16 questions, then
-answer asks them together: all are answered after the same commits. begin, then add or amend with line|.. records, and
-withdraw|KEY, then commit is one refresh; nothing of it is done without the commit.
+Q1.1 asks with the benchmark's constants, and Q1.1 1994 1 3 0 24 with these. Names may be in any case. A constant with a
+blank in it stands in quotes: star COUNT 'C_REGION=MIDDLE EAST'; or bars part the fields: star|COUNT|C_REGION=MIDDLE
+EAST. ask, then 1 to 16 questions, then answer asks them together: all are answered after the same commits. begin, then
+add or amend with line|.. records, and withdraw KEY, then commit is one refresh; nothing of it is done without commit.
 
   abort       drops the refresh, or the questions, that were begun
   format csv  from then on replies are written so; also table, json, markdown and bars, and report, as at the beginning
   timing      from then on shows how many seconds each reply took; again: no more
   status      shows what the server has done, its memory, and how long ago the last reply came
-  help        shows this
+  help star   shows questions of your own, with examples
+  help begin  shows a refresh, and the 17 fields of a line
+  help, ?     show this
   quit, exit  end the session, as Ctrl-D does; a refresh without its commit is then fault: 71 NoCommit, and not done
 
 Ctrl-C ends the program at once: a refresh without its commit is not done. Without a journal all commits end with it.
@@ -173,3 +175,40 @@ The queries, and their constants in this order:
 ",
     ""
 );
+
+/// What the words `help star` show there.
+pub const STAR_HELP: &str = "\
+star asks a question of your own: a measure, then the columns to group by, then tests, and ORDER=SUM at the end where
+the largest sum is to stand first.
+
+  star COUNT                                  the number of lines
+  star LO_REVENUE D_YEAR                      the revenue of each year
+  star LO_REVENUE C_NATION C_REGION=ASIA ORDER=SUM
+                                              that of each nation in Asia, the largest first
+  star LO_QUANTITY P_MFGR D_YEAR=1993..1995 LO_DISCOUNT=10
+                                              the pieces of each manufacturer from 1993 to 1995, at 10 % discount
+  star COUNT D_YEAR 'C_REGION=MIDDLE EAST' C_REGION=ASIA
+                                              a value with a blank in quotes; two values: lines that have one of these
+
+The measure is LO_REVENUE, LO_REVENUE-LO_SUPPLYCOST, LO_EXTENDEDPRICE*LO_DISCOUNT, LO_QUANTITY or COUNT. The columns are
+C_CITY, C_NATION, C_REGION of customers, S_CITY, S_NATION, S_REGION of suppliers, P_MFGR, P_CATEGORY, P_BRAND1 of parts,
+and D_YEAR, D_YEARMONTHNUM, D_YEARMONTH, D_WEEKNUMINYEAR. LO_QUANTITY and LO_DISCOUNT can be tested too. To see which
+values a column has, group by it: star COUNT C_REGION.
+";
+
+/// What the words `help begin` show there.
+pub const REFRESH_HELP: &str = "\
+A refresh adds, amends and withdraws whole orders. All of it is done at its commit, or nothing of it.
+
+  begin
+  add
+  line|9|1|3|4|3|19930615|5-LOW|0|10|1000000|1000000|2|980000|600000|0|19930701|AIR
+  withdraw 7
+  commit
+
+add makes an order of the 1 to 7 lines below it; amend puts such an order in the place of the one with its key; withdraw
+removes the order of a key. The fields of a line are, in this order: LO_ORDERKEY, LO_LINENUMBER, LO_CUSTKEY, LO_PARTKEY,
+LO_SUPPKEY, LO_ORDERDATE, LO_ORDERPRIORITY, LO_SHIPPRIORITY, LO_QUANTITY, LO_EXTENDEDPRICE, LO_ORDTOTALPRICE,
+LO_DISCOUNT, LO_REVENUE, LO_SUPPLYCOST, LO_TAX, LO_COMMITDATE, LO_SHIPMODE. Its customer, part, supplier and order date
+are rows of the load. abort in the place of commit drops the refresh.
+";

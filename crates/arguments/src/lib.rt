@@ -21,7 +21,7 @@ mod help;
 mod job;
 mod notice;
 
-pub use help::TERMINAL_HELP;
+pub use help::{REFRESH_HELP, STAR_HELP, TERMINAL_HELP};
 pub use job::{
     AuditWords, ExplainWords, ExportWords, FormatWord, HintsWord, Job, JournalWord, QueryWords,
     RunWords, ServeWords, StandingWord, job_of,

@@ -1,52 +1,109 @@
 //! What the words of a command line do.
 
-use crate::attending::{attend_clients, serve_one};
+use crate::attending::attend_clients;
+use crate::attending::serve_one;
 use crate::commits_screen::serve_shown;
+use crate::job_help;
 use crate::job_help::tell_help;
-use crate::metrics::{MetricsFile, push_metrics};
+use crate::job_help::tell_notes;
+use crate::metrics::MetricsFile;
+use crate::metrics::push_metrics;
+use crate::named_journal;
 use crate::named_journal::NamedJournal;
-use crate::streams::{Streams, tell};
+use crate::pipes;
+use crate::streams::Streams;
+use crate::streams::tell;
 use crate::terminal_view::TerminalView;
-use crate::{named_journal, pipes};
-use arguments::{
-    AuditWords, ExplainWords, ExportWords, FormatWord, HintsWord, Job, JournalWord, QueryWords,
-    RunWords, ServeWords, StandingWord, job_of,
-};
+use arguments::AuditWords;
+use arguments::ExplainWords;
+use arguments::ExportWords;
+use arguments::FormatWord;
+use arguments::HintsWord;
+use arguments::Job;
+use arguments::JournalWord;
+use arguments::QueryWords;
+use arguments::RunWords;
+use arguments::ServeWords;
+use arguments::StandingWord;
+use arguments::job_of;
 use audit_command::run_audit;
-use export_command::{ExportFault, ExportPlace, ExportRefusal, run_export};
-use journal_file::{JournalFile, torn_path};
-use journal_opening::{JournalPath, ReadPath};
-use query_command::{
-    QuestionWords, Settings, run_all, run_board, run_explain, run_explain_over, run_query,
-    run_statement, standard_questions,
-};
-use run_command::{RunInput, RunSettings, demo, open_trace, run_scripts};
-use serve_command::{
-    Attendant, EndPaths, JournalPlace, MOST_CLIENTS, PathClients, ServeFault, ServeRefusal,
-    ServeSettings, StreamClient, report_no_pipes,
-};
+use export_command::ExportFault;
+use export_command::ExportPlace;
+use export_command::ExportRefusal;
+use export_command::run_export;
+use journal_file::JournalFile;
+use journal_file::torn_path;
+use journal_opening::JournalPath;
+use journal_opening::ReadPath;
+use query_command::QuestionWords;
+use query_command::Settings;
+use query_command::run_all;
+use query_command::run_board;
+use query_command::run_explain;
+use query_command::run_explain_over;
+use query_command::run_query;
+use query_command::run_statement;
+use query_command::standard_questions;
+use run_command::RunInput;
+use run_command::RunSettings;
+use run_command::demo;
+use run_command::open_trace;
+use run_command::run_scripts;
+use serve_command::Attendant;
+use serve_command::EndPaths;
+use serve_command::JournalPlace;
+use serve_command::MOST_CLIENTS;
+use serve_command::PathClients;
+use serve_command::ServeFault;
+use serve_command::ServeRefusal;
+use serve_command::ServeSettings;
+use serve_command::StreamClient;
+use serve_command::report_no_pipes;
 use server_figures::LiveFigures;
-use ssb_files::{
-    Fault, InputSource, PathUse, Screen, TableBytes, UsedPath, check_paths, count_tables,
-    find_tables, open_file, open_files, open_tables, read_standing, watch, watch_scripts,
-    watch_tables,
-};
+use ssb_files::Fault;
+use ssb_files::InputSource;
+use ssb_files::PathUse;
+use ssb_files::Screen;
+use ssb_files::TableBytes;
+use ssb_files::UsedPath;
+use ssb_files::check_paths;
+use ssb_files::count_tables;
+use ssb_files::find_tables;
+use ssb_files::open_file;
+use ssb_files::open_files;
+use ssb_files::open_tables;
+use ssb_files::read_standing;
+use ssb_files::watch;
+use ssb_files::watch_scripts;
+use ssb_files::watch_tables;
 use ssb_formats::Format;
-use ssb_hints::{
-    FailedCalls, FaultLines, Observed, ObservedFiles, STANDARD_INPUT, STANDARD_OUTPUT,
-};
+use ssb_hints::FailedCalls;
+use ssb_hints::FaultLines;
+use ssb_hints::Observed;
+use ssb_hints::ObservedFiles;
+use ssb_hints::ReportedOutput;
+use ssb_hints::Reports;
+use ssb_hints::STANDARD_INPUT;
+use ssb_hints::STANDARD_OUTPUT;
 use ssb_questions::Question;
-use ssb_text::{TableFiles, Tables};
+use ssb_text::TableFiles;
+use ssb_text::Tables;
 use std::alloc::Global;
 use std::hash::RandomState;
 use std::io;
-use std::io::{BufWriter, Print, Read, Write};
+use std::io::BufWriter;
+use std::io::Print;
+use std::io::Read;
+use std::io::Write;
 use std::random::RandomSource;
 use std::rt::Files;
-use std::sync::{Arc, Wait};
+use std::sync::Arc;
+use std::sync::Wait;
 use std::thread::Threads;
 use std::time::Clock;
-use terminal::{HelpedOutput, Prompted, TypedRequest};
+use terminal::HelpedOutput;
+use terminal::Prompted;
+use terminal::TypedRequest;
 
 // The terminal, where there is one and the words let it show the progress of a load, which begins now.
 fn screen_of<'a, C: Clock, P: Print>(
@@ -398,7 +455,7 @@ fn serve_typed<R, F, T, I: Read + Drop + Send, W: Write + Drop + Send, E: Print 
     settings: ServeSettings,
     tables: TableFiles<T>,
     place: Option<JournalPlace<'_, JournalPath<'_, F>>>,
-    view: &TerminalView<'_, F>,
+    view: &TerminalView<'_, '_, F>,
     streams: Streams<'_, I, W, E>,
 ) -> u8
 where
@@ -410,17 +467,13 @@ where
 {
     let alloc = rt.alloc();
     let errors = streams.errors;
-    let request = TypedRequest::new(alloc);
+    let is_helped = view.hints.are_told(streams.shows_progress);
+    let request = TypedRequest::new(alloc, is_helped);
     let screen = io::writer(errors);
     let Ok(input) = Prompted::new(alloc, rt, streams.input, screen, view, &request) else {
         return Fault::OutOfMemory.tell(&mut io::writer(errors));
     };
-    let helped = if view.hints.are_told(streams.shows_progress) {
-        Some(&request)
-    } else {
-        None
-    };
-    let output = HelpedOutput::new(alloc, streams.output, io::writer(errors), helped);
+    let output = HelpedOutput::new(alloc, streams.output, io::writer(errors), &request, view);
     let client = StreamClient { input, output };
     serve_one(rt, settings, tables, place, client, errors).status
 }
@@ -476,7 +529,12 @@ where
         return attend_clients(rt, settings, tables, place, clients, errors);
     }
     if streams.is_typed {
-        let Ok(view) = TerminalView::of(files, &settings, words.hints) else {
+        let Ok(view) = TerminalView::of(
+            files,
+            &settings,
+            Some(job_help::tables_of(words)),
+            words.hints,
+        ) else {
             return Fault::OutOfMemory.tell(&mut io::writer(errors));
         };
         return serve_typed(rt, settings, tables, place, &view, streams);
@@ -622,7 +680,7 @@ where
         figures: Arc::new(rt.alloc(), LiveFigures::new())?,
         tells_ready: false,
     };
-    let view = TerminalView::of(files, &settings, hints)?;
+    let view = TerminalView::of(files, &settings, None, hints)?;
     let bytes = TableBytes::new();
     let path = named_journal::journal_path(files, None);
     let place = named_journal::journal_place(path.as_ref(), &bytes, false);
@@ -716,10 +774,13 @@ where
     let failed = FailedCalls::new(rt.alloc());
     let files = ObservedFiles::new(files, &failed);
     let faults = FaultLines::new(rt.alloc(), errors);
+    let reports = Reports::new(rt.alloc());
+    let kept = if is_helped { Some(&reports) } else { None };
+    let output = ReportedOutput::new(streams.output, kept);
     let streams = Streams {
         input: Observed::new(STANDARD_INPUT, streams.input, &failed),
         is_typed: streams.is_typed,
-        output: Observed::new(STANDARD_OUTPUT, streams.output, &failed),
+        output: Observed::new(STANDARD_OUTPUT, output, &failed),
         errors: &faults,
         shows_progress: streams.shows_progress,
         columns: streams.columns,
@@ -729,7 +790,11 @@ where
         Err(fault) => fault.tell(&mut io::writer(&faults)),
     };
     if is_helped {
-        tell_help(&files, job, &faults, status, &mut io::writer(errors));
+        let err = &mut io::writer(errors);
+        match status {
+            0 => tell_notes(&files, job, &reports, err),
+            _ => tell_help(&files, job, &faults, err),
+        }
     }
     status
 }

@@ -39,6 +39,8 @@ spelling_of spelled.QuestionMark = codes "?"
 spelling_of spelled.PointHelp = codes ".help"
 spelling_of spelled.StrokeMark = codes "\\?"
 spelling_of spelled.StrokeHelp = codes "\\h"
+spelling_of spelled.HelpStar = codes "help star"
+spelling_of spelled.HelpBegin = codes "help begin"
 spelling_of spelled.Timing = codes "timing"
 spelling_of spelled.StrokeTiming = codes "\\timing"
 spelling_of spelled.Status = codes "status"
@@ -55,6 +57,8 @@ said_by spelled.QuestionMark = word.Help
 said_by spelled.PointHelp = word.Help
 said_by spelled.StrokeMark = word.Help
 said_by spelled.StrokeHelp = word.Help
+said_by spelled.HelpStar = word.HelpStar
+said_by spelled.HelpBegin = word.HelpBegin
 said_by spelled.Timing = word.Timing
 said_by spelled.StrokeTiming = word.Timing
 said_by spelled.Status = word.Status
@@ -66,7 +70,7 @@ said_by spelled.PointExit = word.Quit
 
 abbrev pub spellings : List Spelling
 spellings = spelled.Help ∷ spelled.QuestionMark ∷ spelled.PointHelp ∷ spelled.StrokeMark ∷ spelled.StrokeHelp
-    ∷ spelled.Timing ∷ spelled.StrokeTiming ∷ spelled.Status ∷ spelled.Quit
+    ∷ spelled.HelpStar ∷ spelled.HelpBegin ∷ spelled.Timing ∷ spelled.StrokeTiming ∷ spelled.Status ∷ spelled.Quit
     ∷ spelled.StrokeQuit ∷ spelled.PointQuit ∷ spelled.Exit ∷ spelled.PointExit ∷ []
 
 abbrev pub is_bar : ℕ → Bool

@@ -18,9 +18,9 @@
 //! contract.
 //!
 //! ```text
-//! let request = TypedRequest::new(rt.alloc());
+//! let request = TypedRequest::new(rt.alloc(), true);
 //! let input = Prompted::new(rt.alloc(), rt, terminal, screen, &shows, &request)?; // what the session is to read
-//! let output = HelpedOutput::new(rt.alloc(), output, screen, Some(&request));     // what it is to write to
+//! let output = HelpedOutput::new(rt.alloc(), output, screen, &request, &shows); // what it is to write to
 //! ```
 #![tactic(auto)]
 

@@ -96,6 +96,16 @@ impl<'a, C: Clock, I: Read + Drop, E: Write + Drop, S: ShowsOnDemand> Prompted<'
             TerminalWord::Help => {
                 let _ = self.screen.write_all(self.shows.help().as_bytes());
             }
+            TerminalWord::HelpStar => {
+                let _ = self
+                    .screen
+                    .write_all(self.shows.help_with_star().as_bytes());
+            }
+            TerminalWord::HelpBegin => {
+                let _ = self
+                    .screen
+                    .write_all(self.shows.help_with_refreshes().as_bytes());
+            }
             TerminalWord::Timing => self.watch.switch(&mut self.screen),
             TerminalWord::Status => {
                 let since_reply = self.watch.since_reply();
@@ -122,6 +132,7 @@ impl<'a, C: Clock, I: Read + Drop, E: Write + Drop, S: ShowsOnDemand> Prompted<'
             }
         } else {
             self.begun = begun_behind(self.begun, line);
+            self.request.help_in_block(&mut self.screen);
         }
         Ok(())
     }

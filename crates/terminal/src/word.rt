@@ -10,6 +10,10 @@ use crate::fields::{are_alike, said};
 pub enum TerminalWord {
     /// Help is shown.
     Help,
+    /// Help with questions of one's own is shown.
+    HelpStar,
+    /// Help with refreshes is shown.
+    HelpBegin,
     /// From then on, or no more, it is shown how long a reply took.
     Timing,
     /// How the server does is shown.
@@ -26,6 +30,8 @@ pub enum Spelling {
     PointHelp,
     StrokeMark,
     StrokeHelp,
+    HelpStar,
+    HelpBegin,
     Timing,
     StrokeTiming,
     Status,
@@ -37,12 +43,14 @@ pub enum Spelling {
 }
 
 /// All spellings.
-pub(crate) const SPELLINGS: [Spelling; 13] = [
+pub(crate) const SPELLINGS: [Spelling; 15] = [
     Spelling::Help,
     Spelling::QuestionMark,
     Spelling::PointHelp,
     Spelling::StrokeMark,
     Spelling::StrokeHelp,
+    Spelling::HelpStar,
+    Spelling::HelpBegin,
     Spelling::Timing,
     Spelling::StrokeTiming,
     Spelling::Status,
@@ -64,6 +72,8 @@ impl Spelling {
             Spelling::PointHelp => b".help",
             Spelling::StrokeMark => b"\\?",
             Spelling::StrokeHelp => b"\\h",
+            Spelling::HelpStar => b"help star",
+            Spelling::HelpBegin => b"help begin",
             Spelling::Timing => b"timing",
             Spelling::StrokeTiming => b"\\timing",
             Spelling::Status => b"status",
@@ -85,6 +95,8 @@ impl Spelling {
             Spelling::PointHelp => TerminalWord::Help,
             Spelling::StrokeMark => TerminalWord::Help,
             Spelling::StrokeHelp => TerminalWord::Help,
+            Spelling::HelpStar => TerminalWord::HelpStar,
+            Spelling::HelpBegin => TerminalWord::HelpBegin,
             Spelling::Timing => TerminalWord::Timing,
             Spelling::StrokeTiming => TerminalWord::Timing,
             Spelling::Status => TerminalWord::Status,
