@@ -34,7 +34,7 @@ started done [] = refl
 started done (b ∷ text) = refl
 
 -- past a field and its bar
-past_field : (done : List (List ℕ)) (text field behind : List ℕ) → BeginsWithField text field behind
+pub past_field : (done : List (List ℕ)) (text field behind : List ℕ) → BeginsWithField text field behind
     → next_record record_config st.InField done [] text
     ≡ next_record record_config st.InField (done ++ field ∷ []) [] behind
 past_field done text field behind begins =
@@ -42,7 +42,7 @@ past_field done text field behind begins =
     ∙ started (done ++ field ∷ []) behind)
 
 -- from the start of a record into its first field
-first_field : (text field behind : List ℕ) → BeginsWithField text field behind
+pub first_field : (text field behind : List ℕ) → BeginsWithField text field behind
     → next_record record_config st.StartRecord [] [] text ≡ next_record record_config st.InField [] [] text
 unfolding next_record
 first_field text [] behind begins = rw begins.parted refl
@@ -188,6 +188,7 @@ begins_with_row {n} {values} {text} {next} {behind} begins last =
     record {
       fields = all.fields;
       first = first_field text begins.field next begins.begins ∙ all.read [];
+      last = all.read;
       columns = all.columns;
       spelled = all.spelled [] refl;
       fewer = omega (
@@ -205,6 +206,7 @@ unfolding row_of
 begins_with_line text values behind row sound = record {
   fields = row.fields;
   first = row.first;
+  last = row.last;
   spelled = rw (row.columns, row.spelled, sound) refl;
   fewer = row.fewer;
 }

@@ -22,6 +22,7 @@ pub mod WrittenLaws
 pub mod OneListLaws
 pub mod RecordTextLaws
 pub mod DirectLaws
+pub mod WordedLaws
 pub mod FieldTextLaws
 pub mod NumberTextLaws
 pub mod ColumnTextLaws

@@ -46,10 +46,17 @@ abbrev pub FirstRecord : List ℕ → List (List ℕ) → List ℕ → Type 0
 FirstRecord text fields behind =
     next_record record_config st.StartRecord [] [] text ≡ Some (fields, st.StartRecord, behind)
 
--- the first record of a text has a line's columns, which spell these values, and behind it are these, fewer bytes
+-- the same of a record that was begun: whatever fields stand before the text, these follow them
+abbrev pub LastFields : List ℕ → List (List ℕ) → List ℕ → Type 0
+LastFields text fields behind = (before : List (List ℕ))
+    → next_record record_config st.InField before [] text ≡ Some (before ++ fields, st.StartRecord, behind)
+
+-- the first record of a text has a line's columns, which spell these values, and behind it are these, fewer bytes; they
+-- are the last columns of a record that was begun, too
 pub record BeginsWithRow (text : List ℕ) (values : List Value) (behind : List ℕ) : Type 0 where
   pub fields : List (List ℕ)
   pub first : FirstRecord text fields behind
+  pub last : LastFields text fields behind
   pub columns : has_columns (length (kinds_of table.Lineorder)) fields ≡ true
   pub spelled : values_from table.Lineorder 0 (kinds_of table.Lineorder) fields ≡ Ok values
   pub fewer : length behind < length text
@@ -58,5 +65,35 @@ pub record BeginsWithRow (text : List ℕ) (values : List Value) (behind : List 
 pub record BeginsWithLine (text : List ℕ) (values : List Value) (behind : List ℕ) : Type 0 where
   pub fields : List (List ℕ)
   pub first : FirstRecord text fields behind
+  pub last : LastFields text fields behind
   pub spelled : row_of table.Lineorder fields ≡ Ok values
   pub fewer : length behind < length text
+
+-- a text begins with the last field of a record, which ends with a line feed and spells this number
+pub record EndsWithNumber (text : List ℕ) (number : ℕ) (behind : List ℕ) : Type 0 where
+  pub field : List ℕ
+  pub parted : text ≡ field ++ 10 ∷ behind
+  pub plain : list_all is_plain_byte field ≡ true
+  pub spelled : number_of (without_spaces field) ≡ Some number
+
+-- a word that a record may begin with
+pub record IsWord (word : List ℕ) : Type 0 where
+  pub some : 0 < length word
+  pub plain : list_all is_plain_byte word ≡ true
+
+-- a text's first record has these fields, and behind it are these, fewer bytes
+pub record BeginsWithRecord (text : List ℕ) (fields : List (List ℕ)) (behind : List ℕ) : Type 0 where
+  pub first : FirstRecord text fields behind
+  pub fewer : length behind < length text
+
+-- a text's first record has this word and one more field, which spells this number
+pub record BeginsWithNumbered (word text : List ℕ) (number : ℕ) (behind : List ℕ) : Type 0 where
+  pub field : List ℕ
+  pub begins : BeginsWithRecord text (word ∷ field ∷ []) behind
+  pub spelled : number_of (without_spaces field) ≡ Some number
+
+-- a text's first record has this word, and then the columns of a line of these values
+pub record BeginsWithLined (word text : List ℕ) (values : List Value) (behind : List ℕ) : Type 0 where
+  pub fields : List (List ℕ)
+  pub begins : BeginsWithRecord text (word ∷ fields) behind
+  pub spelled : row_of table.Lineorder fields ≡ Ok values

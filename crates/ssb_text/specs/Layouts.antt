@@ -1,6 +1,6 @@
 -- How the files of tables are laid out, and the text of a table's rows, whatever the layout.
 use Rattle.std.specs.Prelude.{◌≡◌, ◌≢◌, ◌⊎◌, ℕ, ◌+◌, ◌<◌, Bool, true, false, ◌||◌, ◌&&◌, not, ◌==◌, List, ◌∷◌, ◌++◌}
-use Rattle.std.specs.Prelude.{length, map, count_by, if◌then◌else◌, Option, Some, option_map}
+use Rattle.std.specs.Prelude.{[], codes, length, map, count_by, if◌then◌else◌, Option, Some, option_map}
 use Rattle.std.specs.Char.{is_ascii, is_ascii_alphanumeric}
 use Rattle.std.specs.List.{AllByRecursion}
 use Rattle.ssb_schema.specs.Columns.{kinds_of}
@@ -22,6 +22,10 @@ is_quote b = (b == 34) || (b == 39)
 -- whether a byte can part fields: it is of ASCII, and no digit, letter, quote or end of a line
 abbrev pub can_part : ℕ → Bool
 can_part b = is_ascii b && (not (is_ascii_alphanumeric b) && (not (is_quote b) && not (ends_line b)))
+
+-- a word names a delimiter, by its byte: the byte itself, or a tab by its name
+abbrev pub Names : List ℕ → ℕ → Type 0
+Names word byte = (word ≡ byte ∷ []) ⊎ (((word ≡ codes "tab") ⊎ (word ≡ codes "\\t")) × (byte ≡ 9))
 
 -- whether a byte parts fields: it is the delimiter or a bar
 abbrev pub parts : Delimiter → ℕ → Bool

@@ -49,8 +49,8 @@ fn ends_field(byte: u8) -> bool
     byte == BAR || byte == b'\n' || byte == b'\r'
 }
 
-// How many bytes the first field of a text has.
-fn field_length(text: &[u8]) -> usize
+/// How many bytes the first field of a text has.
+pub(crate) fn field_length(text: &[u8]) -> usize
     ensures within { result ≤ length text.now }
     ensures plain { list_all is_plain_byte (take result text.now) ≡ true }
 {
@@ -138,8 +138,8 @@ fn take_fields(alloc: Global, text: &[u8]) -> Option<(LineFields, &[u8])>
     Some((fields, text))
 }
 
-// The first line of a text, and what stands behind it.
-fn take_line(alloc: Global, text: &[u8]) -> Option<(Line, &[u8])>
+/// The first line of a text, and what stands behind it.
+pub(crate) fn take_line(alloc: Global, text: &[u8]) -> Option<(Line, &[u8])>
     ensures { IfSome result (λ taken. BeginsWithLine text.now (line_values taken.0) taken.1.now) }
 {
     let (fields, behind) = take_fields(alloc, text)?;
@@ -149,8 +149,8 @@ fn take_line(alloc: Global, text: &[u8]) -> Option<(Line, &[u8])>
     }
 }
 
-// Whether a text may begin with a byte order mark, which its records are without.
-fn may_be_marked(text: &[u8]) -> bool
+/// Whether a text may begin with a byte order mark, which its records are without.
+pub fn may_be_marked(text: &[u8]) -> bool
     ensures { result ≡ false → HasNoMark text.now }
 {
     match text.split_first() {

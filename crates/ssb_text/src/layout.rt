@@ -2,6 +2,7 @@
 
 ghost use Rattle.std.specs.Prelude.{◌≡◌, IfSome, true};
 ghost use Rattle.ssb_text.specs.Layouts as spec;
+ghost use Rattle.ssb_text.specs.Layouts.{Names};
 
 /// The byte of a bar.
 pub(crate) const BAR: u8 = b'|';
@@ -46,7 +47,8 @@ impl Delimiter {
 
     /// The delimiter that a word names: the character itself, or `tab` or `\t`.
     pub fn of_word(word: &str) -> Option<Delimiter>
-        ensures { IfSome result (λ delimiter. spec.can_part delimiter.byte ≡ true) }
+        ensures named { IfSome result (λ delimiter. Names word.now delimiter.byte) }
+        ensures parts { IfSome result (λ delimiter. spec.can_part delimiter.byte ≡ true) }
     {
         match word {
             "tab" | "\\t" => Some(Delimiter { byte: TAB }),

@@ -16,6 +16,9 @@
 //! [`records_of_appended`]. Nor does it say that a block in which nothing is odd is read directly off its bytes: what
 //! is read so are its records (`specs/Direct`).
 //!
+//! [`take_word`], [`take_numbered`] and [`take_lined`] read the first record of a text directly too, where it begins with
+//! a word; who is given nothing by them asks a reader of records.
+//!
 //! Files in another layout, with another delimiter or a line of heads above the rows, are [`TableFiles`]: their rows
 //! ([`TableFiles::into_rows`]) are read as those of any file, with a bar in the place of each delimiter
 //! (`specs/Layouts`).
@@ -65,8 +68,10 @@ mod spelling;
 mod supplier;
 mod table;
 mod table_files;
+mod worded;
 
 pub use barred::Barred;
+pub use direct::may_be_marked;
 pub use error::{LineFault, LoadError};
 pub use fields::{field_at, has_columns, trimmed_at};
 pub use law::{has_its_lines, records_of_appended, records_of_lines, tables_are_read_back};
@@ -80,3 +85,4 @@ pub use row::TableRow;
 pub use rows::{are_table_rows, write_row, write_rows};
 pub use spelling::{text, trimmed};
 pub use table_files::TableFiles;
+pub use worded::{take_lined, take_numbered, take_word};

@@ -12,6 +12,6 @@ pub mod LegalTraceLaws
 pub mod HeldLaws
 pub mod CommitLaws
 pub mod InOrderLaws
+pub mod DirectLaws
 pub mod OneReadingLaws
 pub mod ReadingLaws
-pub mod TogetherLaws

@@ -32,7 +32,7 @@ all-both : (one other : List (List (List ℕ))) → AllByRecursion IsReadable on
 all-both [] other a b = b
 all-both (fields ∷ one) other a b = (a.0, all-both one other a.1 b)
 
-said-both : (one other : List (List (List ℕ))) (first later : List TraceLine) → AreLines one first
+pub said-both : (one other : List (List (List ℕ))) (first later : List TraceLine) → AreLines one first
     → AreLines other later → AreLines (one ++ other) (first ++ later)
 said-both [] other [] later a b = b
 said-both [] other (line ∷ first) later a b = absurd a

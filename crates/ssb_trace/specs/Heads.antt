@@ -7,9 +7,13 @@ use Rattle.ssb_text.specs.Spelling.{field}
 use Rattle.ssb_script.specs.Lines.{question_at}
 use Rattle.ssb_trace.specs.declared.heads.AnswerHead.{AnswerHead}
 
--- the number of a client, 1 to 16
+-- the client of a number, 1 to 16
+abbrev pub client_numbered : ℕ → Option ℕ
+client_numbered n = if nat_le 1 n && nat_le n 16 then Some n else None
+
+-- the number of a client
 abbrev pub client_of : List ℕ → Option ℕ
-client_of bytes = option_and_then (λ n. if nat_le 1 n && nat_le n 16 then Some n else None) (number_of bytes)
+client_of bytes = option_and_then client_numbered (number_of bytes)
 
 -- the client whose commit a record begins
 abbrev pub commit_of : List (List ℕ) → Option ℕ

@@ -7,5 +7,5 @@ pub mod Laws
 pub mod Rows
 pub mod Steps
 pub mod Traces
+pub mod Direct
 pub mod TraceText
-pub mod Together

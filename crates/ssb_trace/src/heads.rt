@@ -23,16 +23,22 @@ pub struct AnswerHead {
     pub count: u64,
 }
 
-// The number of a client, 1 to 16.
-fn client_of(bytes: &[u8]) -> Option<u32>
-    ensures { result ≡ spec.client_of bytes.now }
+/// The client of a number, 1 to 16.
+pub(crate) fn client_numbered(number: u64) -> Option<u32>
+    ensures { result ≡ spec.client_numbered number }
 {
-    let n = number(bytes)?;
-    if 1 <= n && n <= 16 {
-        Some(n as u32)
+    if 1 <= number && number <= 16 {
+        Some(number as u32)
     } else {
         None
     }
+}
+
+// The number of a client.
+fn client_of(bytes: &[u8]) -> Option<u32>
+    ensures { result ≡ spec.client_of bytes.now }
+{
+    client_numbered(number(bytes)?)
 }
 
 /// The client whose commit a record begins, if it spells one.

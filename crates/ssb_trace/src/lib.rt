@@ -15,9 +15,12 @@
 //! want of memory may come before it. The law of both, [`legal_trace_is_read_back`]: the text of a legal trace of clients
 //! 1 to 16 spells that trace and no other, so an audit of the text is an audit of the run.
 //!
+//! [`read_directly`] gives the commits of a text as they are written, without a reader of records, and knows no fault:
+//! where it gives none, [`read_trace`] tells what the text spells.
+//!
 //! The definitions stand in `specs/`: `TraceText` (what is written); `Heads`, `Rows` and `Lines` (what one record says),
-//! `Entries` and `Traces` (what a text spells, and its first fault); `Allowed` and `RoundTrip` (which traces are read
-//! back).
+//! `Entries` and `Traces` (what a text spells, and its first fault); `Direct` (what is read directly); `Allowed` and
+//! `RoundTrip` (which traces are read back).
 //!
 //! `write_trace(&mut bytes, &trace)?` and then `read_trace(alloc, bytes.as_slice(), 1_000_000)?` give an equal trace.
 #![tactic(auto)]
@@ -26,6 +29,7 @@ mod answers;
 mod commits;
 mod committed;
 mod control;
+mod direct;
 mod entry;
 mod heads;
 mod held;
@@ -40,6 +44,7 @@ mod word;
 mod writing;
 
 pub use committed::commits_are_allowed;
+pub use direct::read_directly;
 pub use heads::{AnswerHead, client_of_commit, head_of};
 pub use held::{legal_trace_is_read_back, question_is_allowed};
 pub use laws::one_reading;

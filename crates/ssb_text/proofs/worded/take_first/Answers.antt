@@ -1,0 +1,15 @@
+use Rattle.std.proofs.Common.{sym}
+use Rattle.std.proofs.lemmas.Option.{IfSome_then}
+use Rattle.std.specs.Cmp.Lexicographic.{same_text}
+use Rattle.ssb_text.proofs.WordedLaws.{parted_at}
+use Rattle.ssb_text.proofs.worded.take_first.Goals as goal
+
+pub returns : goal.returns
+returns c =
+    let text = c.args.text.now in
+    let word = c.args.word.now in
+    let cases = c.in_ok-strip_prefix.ensures.cases in
+    IfSome_then c.take_byte.result c.take_byte.ensures (λ behind next. record {
+      parted = parted_at text word _ behind.now 124 (same_text _ word (sym cases.0)) cases.1 next;
+      plain = c.requires.plain;
+    })
