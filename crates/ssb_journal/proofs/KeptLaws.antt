@@ -32,6 +32,14 @@ all_zip_push R [] (b ∷ ys) x y all one = absurd all
 all_zip_push R (a ∷ xs) [] x y all one = absurd all
 all_zip_push R (a ∷ xs) (b ∷ ys) x y all one = (all.0, all_zip_push R xs ys x y all.1 one)
 
+-- the same of lists one behind the other
+pub zip_both : {A B : Type 0} (R : A → B → Type 0) (xs zs : List A) (ys ws : List B) → AllZip R xs ys → AllZip R zs ws
+    → AllZip R (xs ++ zs) (ys ++ ws)
+zip_both R [] zs [] ws a b = b
+zip_both R [] zs (y ∷ ys) ws a b = absurd a
+zip_both R (x ∷ xs) zs [] ws a b = absurd a
+zip_both R (x ∷ xs) zs (y ∷ ys) ws a b = (a.0, zip_both R xs zs ys ws a.1 b)
+
 -- one text more
 pub spell_more : (texts : List (List ℕ)) (commits : List CommitRecord) (text : List ℕ) (batch : List CommitRecord) → SpellCommits texts commits → SpellsBatch text batch → SpellCommits (texts ++ text ∷ []) (commits ++ batch)
 spell_more texts commits text batch so_far one = record {

@@ -4,6 +4,5 @@ mod NewerLaws
 pub mod KeptLaws
 pub mod CountLaws
 mod NewLaws
-mod TogetherLaws
 mod ReadingLaws
 mod ReplayLaws

@@ -14,6 +14,7 @@ use Rattle.journal.specs.Reading.{HasFirst}
 use Rattle.row_store.specs.History.{CommitRecord}
 use Rattle.ssb_journal.specs.Gathered.{AreNext, IsFaultBehind, IsFirstGroupFault}
 use Rattle.ssb_journal.specs.Heads.{head_text}
+use Rattle.ssb_journal.proofs.KeptLaws.{zip_both}
 use Rattle.ssb_journal.specs.Kept.{BeginsWithCommits, IsFirstNoBatch, SpellCommits, SpellsBatch}
 use Rattle.ssb_journal.specs.Opening.{AreKept, IsKept, IsOpenFault}
 use Rattle.ssb_journal.specs.Reading.{are_all_read, IsReading, IsToldNext}
@@ -24,7 +25,6 @@ use Rattle.ssb_journal.specs.declared.fault.JournalFault.TheVariants.{Damaged, N
 use Rattle.ssb_journal.specs.declared.head.HeadForm.{HeadForm}
 use Rattle.ssb_journal.specs.declared.head.TableMark.{TableMark}
 use Rattle.ssb_journal.specs.declared.kept.KeptCommits.{KeptCommits}
-use Rattle.ssb_journal.proofs.TogetherLaws.{zip_both}
 
 -- texts, and more texts behind them
 spell_both : (texts more : List (List ℕ)) (commits batch : List CommitRecord) → SpellCommits texts commits

@@ -8,22 +8,29 @@ use std::alloc::{AllocError, Global};
 /// How many bytes the line of a checksum has: 32 digits and the end of the line.
 pub const CHECKSUM_LINE: usize = 33;
 
+// How many digits a checksum has.
+const DIGITS: usize = 32;
+
 // The line of a text's checksum.
-fn checksum_line(alloc: Global, text: &[u8]) -> Result<Vec<u8>, AllocError>
-    ensures { IfOk result (λ line. line.items ≡ checksum_line text.now) }
+fn checksum_line(text: &[u8]) -> [u8; CHECKSUM_LINE]
+    ensures { result ≡ checksum_line text.now }
 {
     let digest = Md5::digest(text);
-    let digits = hex::encode(alloc, digest.as_slice())?;
-    let mut line = digits.into_bytes();
-    line.push(b'\n')?;
-    Ok(line)
+    let mut line = [b'\n'; CHECKSUM_LINE];
+    match hex::encode_to_slice(digest.as_slice(), &mut line[..DIGITS]) {
+        Ok(()) => line,
+        // A checksum has so many digits.
+        Err(_) => unreachable!(),
+    }
 }
 
 /// A text behind the line of its checksum.
 pub fn seal(alloc: Global, text: &[u8]) -> Result<Vec<u8>, AllocError>
     ensures { IfOk result (λ group. group.items ≡ sealed text.now) }
 {
-    let mut group = checksum_line(alloc, text)?;
+    let line = checksum_line(text);
+    let mut group = Vec::with_capacity(alloc, text.len().saturating_add(CHECKSUM_LINE))?;
+    group.extend_from_slice(&line)?;
     group.extend_from_slice(text)?;
     Ok(group)
 }
@@ -37,10 +44,9 @@ pub(crate) fn unseal(alloc: Global, group: &[u8]) -> Result<Option<Vec<u8>>, All
         return Ok(None);
     }
     let text = &group[CHECKSUM_LINE..];
-    let line = checksum_line(alloc, text)?;
+    let line = checksum_line(text);
     if group.starts_with(&line) {
-        Ok(Some(text.to_vec(alloc)?))
-    } else {
-        Ok(None)
+        return Ok(Some(text.to_vec(alloc)?));
     }
+    Ok(None)
 }

@@ -40,7 +40,7 @@
 //! let journal = begin::<D, Keeper>(alloc, &marks, found, kept.is_new, &torn)?;
 //! let shared = SharedJournal::new(JournaledLog::new(journal, source, count));
 //! let on_disk = shared.reach(rt, alloc, receipt.number)?;       // in each thread; then it is told
-//! let left = shared.into_left();                                // when no thread shares it any more
+//! let left = shared.into_left(rt);                              // when no thread shares it any more
 //! ```
 #![tactic(auto)]
 

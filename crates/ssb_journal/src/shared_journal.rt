@@ -27,9 +27,11 @@ enum Whereabouts<D, J, F> {
     // With one who appends. So many commits were on the disk before.
     Away(OnDisk<D>),
     // It has failed, and this is left of it.
-    Failed(JournalFailed, Option<F>),
+    Failed(JournalFailed, F),
     // It is not written any more: this is what the disk keeps.
     ReadOnly(F),
+    // With one who looks at it, or it was given up: there is nothing more.
+    Nowhere,
 }
 
 // What is left to do for one who needs commits on the disk.
@@ -63,10 +65,7 @@ impl<D: Disk + Drop, L: LogSource + Drop> Whereabouts<D, JournaledLog<D, L>, Lef
     fn turn(&mut self, commits: u64) -> JournalTurn<D, JournaledLog<D, L>>
         ensures { HasEnough commits result }
     {
-        match mem::replace(
-            self,
-            Whereabouts::Failed(JournalFailed { cause: None }, None),
-        ) {
+        match mem::replace(self, Whereabouts::Nowhere) {
             Whereabouts::Here(log) => {
                 let on_disk = log.on_disk();
                 if on_disk.commits() >= commits {
@@ -94,6 +93,21 @@ impl<D: Disk + Drop, L: LogSource + Drop> Whereabouts<D, JournaledLog<D, L>, Lef
                 *self = Whereabouts::ReadOnly(left);
                 turn
             },
+            Whereabouts::Nowhere => JournalTurn::Failed(JournalFailed { cause: None }),
+        }
+    }
+
+    // What is left of it, where nobody has it out.
+    fn give_up(&mut self) -> Option<LeftLog<D, L>> {
+        match mem::replace(self, Whereabouts::Nowhere) {
+            Whereabouts::Here(log) => Some(log.into_left()),
+            Whereabouts::Failed(_, left) => Some(left),
+            Whereabouts::ReadOnly(left) => Some(left),
+            Whereabouts::Away(on_disk) => {
+                *self = Whereabouts::Away(on_disk);
+                None
+            },
+            Whereabouts::Nowhere => None,
         }
     }
 }
@@ -143,7 +157,7 @@ impl<D: Disk + Drop, L: LogSource + Drop> SharedJournal<D, L> {
             Ok(log) => log,
             Err((error, left)) => {
                 let failed = JournalFailed { cause: Some(error) };
-                self.put_back(rt, Whereabouts::Failed(failed, Some(left)));
+                self.put_back(rt, Whereabouts::Failed(failed, left));
                 return Err(failed);
             },
         };
@@ -180,14 +194,15 @@ impl<D: Disk + Drop, L: LogSource + Drop> SharedJournal<D, L> {
         unreachable!()
     }
 
-    /// What is left of the journal and its log, when no thread shares it any more; none where one has it out.
-    pub fn into_left(self) -> Option<LeftLog<D, L>> {
-        let SharedJournal { place, changed: _ } = self;
-        match place.into_inner() {
-            Whereabouts::Here(log) => Some(log.into_left()),
-            Whereabouts::Away(_) => None,
-            Whereabouts::Failed(_, left) => left,
-            Whereabouts::ReadOnly(left) => Some(left),
+    /// What is left of the journal and its log, when no thread shares it any more. It waits until nobody has it out.
+    pub fn into_left<R: Wait>(self, rt: &R) -> LeftLog<D, L> {
+        let mut place = self.place.lock(rt);
+        for _ in rt.forever() {
+            match place.give_up() {
+                Some(left) => return left,
+                None => place = self.changed.wait(rt, place),
+            }
         }
+        unreachable!()
     }
 }

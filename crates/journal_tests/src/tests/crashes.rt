@@ -23,7 +23,7 @@ fn disk_of_run(rt: &impl Wait, alloc: Global) -> Result<TearingDisk, Fail> {
     for number in 1..=COMMITS {
         shared.reach(rt, alloc, number as u64)?;
     }
-    disk_left(shared)
+    Ok(disk_left(rt, shared))
 }
 
 // A group counts once the third of its calls has begun, which opens its gate, or is as if it had not; it is told behind

@@ -30,7 +30,7 @@ fn run_refused(
             Err(_) => return Err(Fail::from("another cause")),
         }
     }
-    Ok((told, disk_left(shared)?))
+    Ok((told, disk_left(rt, shared)))
 }
 
 #[test]

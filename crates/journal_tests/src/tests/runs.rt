@@ -18,7 +18,7 @@ use ssb_text::TableLayout;
 use ssb_trace::write_trace;
 use std::alloc::{AllocError, Global};
 use std::io;
-use std::sync::Arc;
+use std::sync::{Arc, Wait};
 use std::test::Fail;
 use test_fixtures::adding;
 
@@ -169,13 +169,11 @@ pub(crate) fn mended(alloc: Global, bytes: &[u8]) -> Result<Journal<TearingDisk>
 
 /// The disk of a journal that no thread shares any more.
 pub(crate) fn disk_left(
+    rt: &impl Wait,
     shared: SharedJournal<TearingDisk, OwnLog<'_>>,
-) -> Result<TearingDisk, Fail> {
-    let Some(left) = shared.into_left() else {
-        return Err(Fail::from("the journal is away"));
-    };
-    let (disk, _, _, _) = left.into_parts();
-    Ok(disk)
+) -> TearingDisk {
+    let (disk, _, _, _) = shared.into_left(rt).into_parts();
+    disk
 }
 
 /// The disk of a file that is opened again, to whose commits these are appended.
