@@ -14,7 +14,7 @@ use std::alloc::{AllocError, Global};
 use std::marker::Model;
 use std::sync::Wait;
 use std::time::Clock;
-use stream_sessions::{Acknowledges, Nothing, Service, Speaker, Speaks, serve_requests};
+use stream_sessions::{Acknowledges, Nothing, Service, Speaker, Speaks, ToldWith, serve_requests};
 
 /// A script that a client is to be served, and whether its requests' times are taken.
 #[derive(Drop)]
@@ -93,16 +93,14 @@ impl<R: Wait + Clock> Speaks<R, Nothing> for ScriptSpeaker {
         acknowledger: &K,
         server: &Server<W>,
         client: &mut Client<W>,
-    ) -> Option<ScriptSession> {
+    ) -> (Option<ScriptSession>, ToldWith<Nothing>) {
         let service = Service {
             rt,
             alloc,
             acknowledger,
             server,
         };
-        match speak_script(&service, client, self) {
-            Ok(session) => Some(session),
-            Err(_) => None,
-        }
+        let session = speak_script(&service, client, self).ok();
+        (session, ToldWith::nothing())
     }
 }

@@ -1,18 +1,16 @@
 -- A server with a journal begins where the journal ends, and is opened with quiet clients and a reader of its log.
-use Rattle.std.proofs.Common.{◌≡◌, ◌⊎◌, inl, inr, ⊎_elim, ℕ, List, [], ◌∷◌, ◌++◌, length, Result}
-use Rattle.std.proofs.Common.{◌≤◌, Some, ap, false, refl, sym, ◌∙◌, arith}
+use Rattle.std.proofs.Common.{◌≡◌, inl, inr, ⊎_elim, ℕ, List, [], ◌∷◌, ◌++◌, length}
+use Rattle.std.proofs.Common.{◌≤◌, Some, false, refl, sym, ◌∙◌, arith}
 use Rattle.std.proofs.Common.{subst}
-use Rattle.std.specs.Prelude.{All, IfOk}
+use Rattle.std.specs.Prelude.{All}
 use Rattle.std.specs.List.{range_with_len}
 use Rattle.std.proofs.lemmas.List.Elements.{All-map, All-pop}
 use Rattle.history.specs.Tokens.{TableRecord, TokenRecord, new_token, new_dispatchers}
 use Rattle.history_core.specs.declared.event.Who.TheVariants.{Dispatcher}
 use Rattle.row_store.proofs.PrefixLaws.{begins_with_itself}
 use Rattle.row_store.specs.History.{CommitRecord, IsPrefix}
-use Rattle.ssb_base.specs.Base.{Tables}
 use Rattle.journal.proofs.MomentLaws.{leaves}
-use Rattle.journal.specs.Disk.{LeavesOnly, Only}
-use Rattle.journal.specs.Groups.{recovered as recovered_groups}
+use Rattle.journal.specs.Disk.{LeavesOnly}
 use Rattle.ssb_journal.proofs.CountLaws.{beginning_of_longer}
 use Rattle.ssb_journal.proofs.KeptLaws.{spell_none}
 use Rattle.ssb_journal.specs.Counts.{Begun, IsLeft, KeepsBeginning, KeepsFirst, KeepsSince}
@@ -29,7 +27,7 @@ use Rattle.ssb_server.specs.declared.opening.OpenFault.TheVariants as opening
 use Rattle.ssb_serving.specs.RunFaults.{IsRunFault, fault_of}
 use Rattle.ssb_serving.specs.Members.{IsStill}
 use Rattle.ssb_serving.specs.declared.run_fault.RunFault.{RunFault}
-use Rattle.serve_command.specs.JournaledRun.{HasKept, IsBegunOn, IsFoundOrKept, IsJournaledRun, IsUnservedFault}
+use Rattle.serve_command.specs.JournaledRun.{HasKept, IsBegunOn, IsFoundOrKept, IsUnservedFault}
 use Rattle.serve_command.specs.JournaledRun.{KeepsAll, KeepsRecovered, begun_on}
 use Rattle.serve_command.specs.declared.unserved.JournaledFault.{JournaledFault}
 use Rattle.serve_command.specs.declared.unserved.JournaledFault.TheVariants as fault
@@ -184,11 +182,9 @@ kept_since moment left_since found begun disk marks kept groups least seen first
     (λ file left. as_it_was marks kept groups has.log file first is begins left))
     (λ file keeps. (has.log, begins, keeps)))
 
--- that a journal was out, or memory ran out, tells nothing of its commits
-pub unserved_fault : (why : JournaledFault) → (why ≡ fault.Disturbed) ⊎ (why ≡ fault.OutOfMemory)
-    → IsUnservedFault why
-unserved_fault why is =
-    ⊎_elim (λ one. subst IsUnservedFault (sym one) tt) (λ other. subst IsUnservedFault (sym other) tt) is
+-- that memory ran out tells nothing of its commits
+pub unserved_fault : (why : JournaledFault) → why ≡ fault.OutOfMemory → IsUnservedFault why
+unserved_fault why is = subst IsUnservedFault (sym is) tt
 
 -- no server was opened
 pub run_fault : (clients dispatchers : ℕ) (why : OpenFault) (told : RunFault) → told ≡ fault_of why

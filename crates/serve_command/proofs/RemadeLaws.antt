@@ -1,7 +1,7 @@
 -- A journal's file that is read while its commits are made again: who takes part, and what is told of the file.
 use Rattle.std.proofs.Common.{◌≡◌, ℕ, List, [], ◌∷◌, ◌++◌, length, get_or, set, Option, None, Some, refl, sym, ap}
 use Rattle.std.proofs.Common.{◌∙◌, subst, arith, inl, inr, drop, append-nil}
-use Rattle.std.specs.Prelude.{◌≢◌, All, IfSome, false, nat_eq}
+use Rattle.std.specs.Prelude.{All, IfSome, false, nat_eq}
 use Rattle.std.proofs.Math.Seq.{drop-append_seam}
 use Rattle.std.proofs.lemmas.List.Elements.{All-nil, All-cons, All-head, All-tail}
 use Rattle.history.specs.Tokens.{TableRecord, TokenRecord, new_clients, new_dispatchers}

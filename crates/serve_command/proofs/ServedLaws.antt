@@ -17,7 +17,7 @@ use Rattle.row_store.specs.Legal.{IsLegal}
 use Rattle.serve_command.specs.Journals.{GoesOnFrom, IsMet, Journal, clients_in}
 use Rattle.serve_command.specs.Served.{EndsAlone, HasEndedAlone, HasHadSessions, IsRunOver, IsServedBy, IsServer}
 use Rattle.serve_command.specs.Served.{ServesClients}
-use Rattle.serve_command.specs.Sessions.{HasLeft, HasStreamed}
+use Rattle.serve_command.specs.Sessions.{HasLeft, HasStreamed, SessionRecord}
 use Rattle.serve_command.specs.declared.speakers.PathLeft.{PathLeft}
 use Rattle.ssb_base.specs.Base.{Tables}
 use Rattle.ssb_files.specs.Loaded.{IsLoadedToServe}
@@ -25,6 +25,7 @@ use Rattle.ssb_journal.specs.declared.head.TableMark.{TableMark}
 use Rattle.ssb_schema.specs.declared.table.Table.{Table}
 use Rattle.ssb_serving.proofs.PlaceLaws.{all_at, get_below}
 use Rattle.ssb_serving.specs.Streams.{IsStreamRun}
+use Rattle.stream_sessions.specs.Events.{Event}
 use Rattle.stream_sessions.specs.declared.outcome.Served.{Served}
 use Rattle.stream_sessions.specs.declared.outcome.SessionError.{SessionError}
 
@@ -193,13 +194,14 @@ is_alone {L = L} Spoken journal texts speakers speaker dispatchers left one log 
 pub ended_alone : {S L : Type 0} (Spoken : S → TokenRecord → TokenRecord → L → Type 0)
     (outcome : Result Served SessionError) (takes : Bool) (journal : Journal) (texts : Table → List ℕ) (dispatchers told : ℕ)
     (unread before after : Option (List ℕ)) (AreKept : List CommitRecord → ℕ → Type 0) (log : List CommitRecord)
-    (speaker : S) (one : L) (alone : IsAlone Spoken journal texts dispatchers log speaker one)
-    → HasStreamed (number_of alone.by.client.who) alone.by.client alone.closed unread before after outcome told takes
+    (speaker : S) (one : L) (events : List Event) (alone : IsAlone Spoken journal texts dispatchers log speaker one)
+    → HasStreamed (number_of alone.by.client.who) alone.by.client alone.closed unread before after outcome events told takes
     → AreKept log told → HasEndedAlone outcome takes journal texts dispatchers unread before after AreKept
-ended_alone Spoken outcome takes journal texts dispatchers told unread before after AreKept log speaker one alone had kept =
+ended_alone Spoken outcome takes journal texts dispatchers told unread before after AreKept log speaker one events alone had
+    kept =
     let by = alone.by in
     let streamed = subst
-    (λ (w : Who). HasStreamed (number_of w) by.client alone.closed unread before after outcome told takes)
+    (λ (w : Who). HasStreamed (number_of w) by.client alone.closed unread before after outcome events told takes)
     (met_number journal alone.server.table alone.server.kept 1 by.client by.met) had in record {
       server = alone.server;
       client = by.client;
@@ -207,7 +209,7 @@ ended_alone Spoken outcome takes journal texts dispatchers told unread before af
       is_closed = alone.is_closed;
       met = by.met;
       ended = streamed.ended;
-      events = streamed.events;
+      events = events;
       conversed = streamed.conversed;
       begins = by.begins;
       made = by.made;
@@ -251,19 +253,20 @@ all_served shown all result is well same =
     (AllPass-from_list_all (λ (left : PathLeft). left.was_served) shown (sym is ∙ well))
 
 -- one of the clients of a run, by its place
-had_at : {S : Type 0} (status : ℕ) (journal : Journal) (table : TableRecord) (kept log : List CommitRecord)
+had_at : {S : Type 0} (Was : SessionRecord → Type 0) (status : ℕ) (journal : Journal) (table : TableRecord) (kept log : List CommitRecord)
     (AreKept : List CommitRecord → ℕ → Type 0) (place : ℕ) (speaker : S) (closed : TokenRecord) (left : PathLeft)
-    → IsServedBy (λ (s : S) old new one. HasLeft (number_of old.who) old new one) journal table kept log (place + 1)
+    → IsServedBy (λ (s : S) old new one. HasLeft Was (number_of old.who) old new one) journal table kept log (place + 1)
     speaker closed left
     → AreKept log left.told → (status ≡ 0 → IsTrue left.was_served)
-    → ((status ≡ 0) ⊎ IsNone journal → left.took_refreshes ≡ true) → HasHadSessions status journal table kept log AreKept (place + 1) closed
-had_at status journal table kept log AreKept place speaker closed left by told well took =
-    let had = subst (λ (w : Who). HasLeft (number_of w) by.client closed left)
+    → ((status ≡ 0) ⊎ IsNone journal → left.took_refreshes ≡ true) → HasHadSessions status journal table kept log Was AreKept (place + 1) closed
+had_at Was status journal table kept log AreKept place speaker closed left by told well took =
+    let had = subst (λ (w : Who). HasLeft Was (number_of w) by.client closed left)
     (met_number journal table kept (place + 1) by.client by.met) by.spoken in record {
       client = by.client;
       met = by.met;
       sessions = had.sessions;
       are = had.are;
+      were = had.were;
       well = λ zero. had.ended (well zero);
       took = λ so. had.took_are (took so);
       begins = by.begins;
@@ -271,20 +274,20 @@ had_at status journal table kept log AreKept place speaker closed left by told w
       told = subst (AreKept log) had.told_is told;
     }
 
-serves_all : {S : Type 0} (status : ℕ) (journal : Journal) (texts : Table → List ℕ) (speakers : List S)
+serves_all : {S : Type 0} (Was : SessionRecord → Type 0) (status : ℕ) (journal : Journal) (texts : Table → List ℕ) (speakers : List S)
     (dispatchers : ℕ) (left : List PathLeft) (log : List CommitRecord) (AreKept : List CommitRecord → ℕ → Type 0)
-    → IsRunOver (λ (s : S) old new one. HasLeft (number_of old.who) old new one) journal texts speakers dispatchers left
+    → IsRunOver (λ (s : S) old new one. HasLeft Was (number_of old.who) old new one) journal texts speakers dispatchers left
     log
     → ((place : ℕ) (one : PathLeft) → slice_get left place ≡ Some one → AreKept log one.told)
     → (status ≡ 0 → All (λ one. IsTrue one.was_served) left)
     → ((status ≡ 0) ⊎ IsNone journal → All (λ one. one.took_refreshes ≡ true) left)
-    → ServesClients status journal texts (length speakers) dispatchers AreKept
-serves_all status journal texts speakers dispatchers left log AreKept over told well took = record {
+    → ServesClients status journal texts (length speakers) dispatchers Was AreKept
+serves_all Was status journal texts speakers dispatchers left log AreKept over told well took = record {
   server = over.server;
   served = λ i client within here.
       let speaker = get_below speakers i within in
       let one = get_below left i (omega (arith, within, over.one_left)) in
-      had_at status journal over.server.table over.server.kept over.server.log AreKept i speaker.0 client one.0
+      had_at Was status journal over.server.table over.server.kept over.server.log AreKept i speaker.0 client one.0
       (over.served i speaker.0 client one.0 speaker.1 here one.1)
       (subst (λ (l : List CommitRecord). AreKept l one.0.told) (sym over.log_is) (told i one.0 one.1))
       (λ zero. all_at (λ (l : PathLeft). IsTrue l.was_served) left i one.0 (well zero) one.1)
@@ -292,15 +295,15 @@ serves_all status journal texts speakers dispatchers left log AreKept over told 
 }
 
 -- all clients of a run
-pub serves_clients : {S : Type 0} (status : ℕ) (journal : Journal) (texts : Table → List ℕ) (speakers : List S)
+pub serves_clients : {S : Type 0} (Was : SessionRecord → Type 0) (status : ℕ) (journal : Journal) (texts : Table → List ℕ) (speakers : List S)
     (clients dispatchers : ℕ) (left : List PathLeft) (log : List CommitRecord)
     (AreKept : List CommitRecord → ℕ → Type 0)
-    → IsRunOver (λ (s : S) old new one. HasLeft (number_of old.who) old new one) journal texts speakers dispatchers left
+    → IsRunOver (λ (s : S) old new one. HasLeft Was (number_of old.who) old new one) journal texts speakers dispatchers left
     log → length speakers ≡ clients
     → ((place : ℕ) (one : PathLeft) → slice_get left place ≡ Some one → AreKept log one.told)
     → (status ≡ 0 → All (λ one. IsTrue one.was_served) left)
     → ((status ≡ 0) ⊎ IsNone journal → All (λ one. one.took_refreshes ≡ true) left)
-    → ServesClients status journal texts clients dispatchers AreKept
-serves_clients status journal texts speakers clients dispatchers left log AreKept over many told well took =
-    subst (λ (n : ℕ). ServesClients status journal texts n dispatchers AreKept) many
-    (serves_all status journal texts speakers dispatchers left log AreKept over told well took)
+    → ServesClients status journal texts clients dispatchers Was AreKept
+serves_clients Was status journal texts speakers clients dispatchers left log AreKept over many told well took =
+    subst (λ (n : ℕ). ServesClients status journal texts n dispatchers Was AreKept) many
+    (serves_all Was status journal texts speakers dispatchers left log AreKept over told well took)

@@ -2,13 +2,13 @@
 use Rattle.std.proofs.Common.{◌≡◌, ◌∙◌, ℕ, Bool, max, true, false, ◌&&◌, List, [], ◌∷◌, Option, None, Some, Result, Ok, Err}
 use Rattle.std.proofs.Common.{inl, inr, refl, sym, subst, ap, arith}
 use Rattle.std.proofs.Math.Nat.{max-zero}
-use Rattle.std.specs.Prelude.{IfOk, IfErr, OnOk, IsOk}
+use Rattle.std.specs.Prelude.{IfOk, IfErr, IsOk}
 use Rattle.std.specs.Io.Buffered.{reader_buffer, reader_capacity, reader_inner, reader_remaining}
 use Rattle.std.specs.Io.KnownBytes.{Consumes, prepend_known}
 use Rattle.std.specs.declared.io.buffered.BufReader.{BufReader}
 use Rattle.history.specs.Tokens.{TokenRecord}
-use Rattle.serve_command.specs.Sessions.{AreSessions, HasConversed, HasEnded, HasHad, HasLeft, HasServedOnce}
-use Rattle.serve_command.specs.Sessions.{HasStreamed, most_told}
+use Rattle.serve_command.specs.Sessions.{AreSessions, HasEnded, HasHad, HasLeft, HasServedOnce}
+use Rattle.serve_command.specs.Sessions.{HasStreamed, IsBetween, SessionRecord, most_told}
 use Rattle.serve_command.specs.declared.speakers.OnceLeft.{OnceLeft}
 use Rattle.serve_command.specs.declared.speakers.SessionEnd.TheVariants.{Last}
 use Rattle.ssb_script.proofs.RequestLaws.{nothing_is_unfinished}
@@ -69,10 +69,9 @@ not_begun takes number client unread before = (
 -- nothing was read, written or done
 pub nothing_streamed : (takes : Bool) (number : ℕ) (client : TokenRecord) (unread before : Option (List ℕ))
     → HasStreamed number client client unread before before
-    (Err (record { answered = 0; fault = fault.OutOfMemory })) 0 takes
+    (Err (record { answered = 0; fault = fault.OutOfMemory })) [] 0 takes
 nothing_streamed takes number client unread before = record {
   ended = not_begun takes number client unread before;
-  events = [];
   conversed = (first_format, (false, [], (refl, refl, refl), λ other. refl));
   told_is = refl;
 }
@@ -112,92 +111,98 @@ pub has_streamed : (outcome : Result Served SessionError) (takes : Bool) (number
     → IfOk outcome (λ served. InSession takes old new (λ first last. Serves served number first last was rest before now))
     → IfErr outcome (λ error. InSession takes old new (λ first last. Breaks error number first last was rest before now))
     → InSession takes old new (λ first last. ConversesTo outcome number first last events)
-    → told ≡ most_covered events → HasStreamed number old new unread before after outcome told takes
+    → told ≡ most_covered events → HasStreamed number old new unread before after outcome events told takes
 has_streamed outcome takes number told old new unread before after was rest now events same same_then serves breaks
     conversed told_is = record {
       ended = has_ended outcome takes number old new unread was rest before before after now same refl (sym same_then)
           serves breaks;
-      events = events;
       conversed = conversed;
       told_is = told_is;
     }
 
 -- and what follows it
-pub served_once : (outcome : Result Served SessionError) (number : ℕ) (old new : TokenRecord)
-    (unread before after : Option (List ℕ)) (once : OnceLeft)
-    → HasStreamed number old new unread before after outcome once.told once.took_refreshes
-    → (once.end ≡ Last → IsOk outcome) → HasServedOnce number old new once
-served_once outcome number old new unread before after once streamed last = inl (
+pub served_once : {F : Type 0} (remaining contents : F → Option (List ℕ)) (input output : F)
+    (outcome : Result Served SessionError) (number : ℕ) (old new : TokenRecord) (after : Option (List ℕ))
+    (events : List Event) (once : OnceLeft)
+    → HasStreamed number old new (remaining input) (contents output) after outcome events once.told once.took_refreshes
+    → (once.end ≡ Last → IsOk outcome) → HasServedOnce (IsBetween remaining contents) number old new once
+served_once remaining contents input output outcome number old new after events once streamed last = inl (
   record {
     outcome = outcome;
     takes_refreshes = once.took_refreshes;
-    unread = unread;
-    before = before;
+    unread = remaining input;
+    before = contents output;
     after = after;
-    events = streamed.events;
+    events = events;
   },
   record { ended = streamed.ended; conversed = streamed.conversed },
   last,
   streamed.told_is,
   refl,
+  record { input = input; output = output; unread_is = refl; before_is = refl },
 )
-
--- the same of the same number
-pub of_number : (was number : ℕ) (old new : TokenRecord) (once : OnceLeft) → was ≡ number
-    → HasServedOnce was old new once → HasServedOnce number old new once
-of_number was number old new once same served = subst (λ (n : ℕ). HasServedOnce n old new once) same served
-
--- no session so far
-pub none_had : (number : ℕ) (old : TokenRecord) → HasHad number old old 0 true
-none_had number old = record { sessions = []; are = refl; told_is = refl; took_are = λ is. tt }
 
 both_true : (a b : Bool) → (a && b) ≡ true → (a ≡ true) × (b ≡ true)
 both_true true true is = (refl, refl)
 both_true true false is = absurd cc
 both_true false b is = absurd cc
 
--- one more, or none
-pub one_more : (number told most : ℕ) (took now : Bool) (old between new : TokenRecord) (once : OnceLeft)
-    → most ≡ max told once.told → now ≡ (took && once.took_refreshes) → HasHad number old between told took
-    → HasServedOnce number between new once → HasHad number old new most now
-one_more number told most took now old between new once is took_is had (inl one) = record {
-  sessions = one.0 ∷ had.sessions;
-  are = (between, had.are, one.1);
-  told_is = is ∙ ap (λ (n : ℕ). max n once.told) had.told_is
-      ∙ ap (λ (n : ℕ). max (most_told had.sessions) n) one.3;
-  took_are = λ yes.
-      let both = both_true took once.took_refreshes (sym took_is ∙ yes) in
-      (one.4 ∙ both.1, had.took_are both.0);
-}
-one_more number told most took now old between new once is took_is had (inr none) = record {
-  sessions = had.sessions;
-  are = subst (λ (now : TokenRecord). AreSessions number old had.sessions now) (sym none.1) had.are;
-  told_is = is ∙ ap (λ (n : ℕ). max told n) none.2 ∙ max-zero told ∙ had.told_is;
-  took_are = λ yes. had.took_are (both_true took once.took_refreshes (sym took_is ∙ yes)).0;
-}
+module _ (Was : SessionRecord → Type 0) where
+  -- the same of the same number
+  pub of_number : (was number : ℕ) (old new : TokenRecord) (once : OnceLeft) → was ≡ number
+      → HasServedOnce Was was old new once → HasServedOnce Was number old new once
+  of_number was number old new once same served = subst (λ (n : ℕ). HasServedOnce Was n old new once) same served
 
--- the last of them
-pub left_at_last : (number told most : ℕ) (took now : Bool) (old between new : TokenRecord) (once : OnceLeft)
-    → most ≡ max told once.told → now ≡ (took && once.took_refreshes) → HasHad number old between told took
-    → HasServedOnce number between new once → once.end ≡ Last
-    → HasLeft number old new (record { was_served = true; told = most; took_refreshes = now })
-unfolding one_more
-left_at_last number told most took now old between new once is took_is had (inl one) last =
-    let has = one_more number told most took now old between new once is took_is had (inl one) in record {
-      sessions = has.sessions;
-      are = has.are;
-      told_is = has.told_is;
-      took_are = has.took_are;
-      ended = λ yes. one.2 last;
-    }
-left_at_last number told most took now old between new once is took_is had (inr none) last = absurd (none.0 last)
+  -- no session so far
+  pub none_had : (number : ℕ) (old : TokenRecord) → HasHad Was number old old 0 true
+  none_had number old = record { sessions = []; are = refl; were = tt; told_is = refl; took_are = λ is. tt }
 
-pub left_broken : (number told : ℕ) (took : Bool) (old new : TokenRecord) → HasHad number old new told took
-    → HasLeft number old new (record { was_served = false; told = told; took_refreshes = took })
-left_broken number told took old new had = record {
-  sessions = had.sessions;
-  are = had.are;
-  told_is = had.told_is;
-  took_are = had.took_are;
-  ended = λ is. absurd cc;
-}
+  -- one more, or none
+  pub one_more : (number told most : ℕ) (took now : Bool) (old between new : TokenRecord) (once : OnceLeft)
+      → most ≡ max told once.told → now ≡ (took && once.took_refreshes) → HasHad Was number old between told took
+      → HasServedOnce Was number between new once → HasHad Was number old new most now
+  one_more number told most took now old between new once is took_is had (inl one) = record {
+    sessions = one.0 ∷ had.sessions;
+    are = (between, had.are, one.1);
+    were = (one.5, had.were);
+    told_is = is ∙ ap (λ (n : ℕ). max n once.told) had.told_is
+        ∙ ap (λ (n : ℕ). max (most_told had.sessions) n) one.3;
+    took_are = λ yes.
+        let both = both_true took once.took_refreshes (sym took_is ∙ yes) in
+        (one.4 ∙ both.1, had.took_are both.0);
+  }
+  one_more number told most took now old between new once is took_is had (inr none) = record {
+    sessions = had.sessions;
+    are = subst (λ (now : TokenRecord). AreSessions number old had.sessions now) (sym none.1) had.are;
+    were = had.were;
+    told_is = is ∙ ap (λ (n : ℕ). max told n) none.2 ∙ max-zero told ∙ had.told_is;
+    took_are = λ yes. had.took_are (both_true took once.took_refreshes (sym took_is ∙ yes)).0;
+  }
+
+  -- the last of them
+  pub left_at_last : (number told most : ℕ) (took now : Bool) (old between new : TokenRecord) (once : OnceLeft)
+      → most ≡ max told once.told → now ≡ (took && once.took_refreshes) → HasHad Was number old between told took
+      → HasServedOnce Was number between new once → once.end ≡ Last
+      → HasLeft Was number old new (record { was_served = true; told = most; took_refreshes = now })
+  unfolding one_more
+  left_at_last number told most took now old between new once is took_is had (inl one) last =
+      let has = one_more number told most took now old between new once is took_is had (inl one) in record {
+        sessions = has.sessions;
+        are = has.are;
+        were = has.were;
+        told_is = has.told_is;
+        took_are = has.took_are;
+        ended = λ yes. one.2 last;
+      }
+  left_at_last number told most took now old between new once is took_is had (inr none) last = absurd (none.0 last)
+
+  pub left_broken : (number told : ℕ) (took : Bool) (old new : TokenRecord) → HasHad Was number old new told took
+      → HasLeft Was number old new (record { was_served = false; told = told; took_refreshes = took })
+  left_broken number told took old new had = record {
+    sessions = had.sessions;
+    are = had.are;
+    were = had.were;
+    told_is = had.told_is;
+    took_are = had.took_are;
+    ended = λ is. absurd cc;
+  }

@@ -10,9 +10,9 @@ disk_of (Open journal) = journal
 disk_of (ReadOnly disk) = disk
 
 -- it keeps the first commits of a log, so many of them: an open journal is one of just these; of one that is read alone
--- whatever crashes leaves at least these, and its disk has promised them
-abbrev pub KeepsBegun : {D : Type 0} → (D → List ℕ → Type 0) → (D → List ℕ) → (D → List (List ℕ)) → ℕ → List CommitRecord
-    → BegunFile D → Type 0
+-- whatever crashes leaves at least these, and they are promised
+abbrev pub KeepsBegun : {D : Type 0} → (D → List ℕ → Type 0) → (D → List ℕ) → (D → List (List ℕ)) → ℕ
+    → List CommitRecord → BegunFile D → Type 0
 KeepsBegun may_leave seen promised count log (Open journal) = KeepsFirst count log (seen journal)
 KeepsBegun may_leave seen promised count log (ReadOnly disk) =
     IsLeft (may_leave disk) (seen disk) count log false × HaveFirst count log (promised disk)

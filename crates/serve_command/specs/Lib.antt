@@ -4,6 +4,7 @@ pub mod Reading
 pub mod Seated
 pub mod Remade
 pub mod JournaledRun
+pub mod LeftFiles
 pub mod Journals
 pub mod Sessions
 pub mod Served

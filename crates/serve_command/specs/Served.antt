@@ -1,6 +1,7 @@
 -- What a live server over table files leaves, with a journal or without one.
-use Rattle.std.specs.Prelude.{◌≡◌, ◌≢◌, ◌<◌, ◌≤◌, ◌⊎◌, ℕ, ◌+◌, List, [], length, Option, Some, Result, IsErr, IsOk}
+use Rattle.std.specs.Prelude.{◌≡◌, ◌≢◌, ◌<◌, ◌≤◌, ◌⊎◌, ℕ, ◌+◌, List, length, Option, Some, Result, IsErr, IsOk}
 use Rattle.std.specs.Prelude.{Bool, IsNone, IsSome, slice_get, true}
+use Rattle.std.specs.List.{AllByRecursion}
 use Rattle.history.specs.Closing.{IsLogOf}
 use Rattle.history.specs.Tokens.{TableRecord, TokenRecord}
 use Rattle.history_core.specs.OwnCommits.{IsOfClients, commits_of}
@@ -88,24 +89,26 @@ pub record EndsAlone (status : ℕ) (journal : Journal) (texts : Table → List 
   pub well : status ≡ 0 → IsOk outcome
   pub broke : status ≢ 0 → IsErr outcome ⊎ IsSome journal
 
--- a client of such a server had these sessions, and with status 0 the last of them was served to its end; they took
--- refreshes, with status 0, and without a journal. What it sees then is a beginning of the log, and its commits are those of its number in the log. As many commits as it was told of
--- at most are kept
+-- a client of such a server had these sessions, each of which was such a one, and with status 0 the last of them was
+-- served to its end; they took refreshes, with status 0, and without a journal. What it sees then is a beginning of the
+-- log, and its commits are those of its number in the log. As many commits as it was told of at most are kept
 pub record HasHadSessions (status : ℕ) (journal : Journal) (table : TableRecord) (kept log : List CommitRecord)
-    (AreKept : List CommitRecord → ℕ → Type 0) (number : ℕ) (closed : TokenRecord) : Type 0 where
+    (Was : SessionRecord → Type 0) (AreKept : List CommitRecord → ℕ → Type 0) (number : ℕ) (closed : TokenRecord)
+    : Type 0 where
   pub client : TokenRecord
   pub met : IsMet journal table kept number client
   pub sessions : List SessionRecord
   pub are : AreSessions number client sessions closed
+  pub were : AllByRecursion Was sessions
   pub well : status ≡ 0 → EndWell sessions
   pub took : (status ≡ 0) ⊎ IsNone journal → TookRefreshes sessions
   pub begins : IsPrefix closed.seen log
   pub made : closed.mine ≡ commits_of number log
   pub told : AreKept log (most_told sessions)
 
--- so many clients of such a server had sessions
+-- so many clients of such a server had sessions, each of which was such a one
 pub record ServesClients (status : ℕ) (journal : Journal) (texts : Table → List ℕ) (clients dispatchers : ℕ)
-    (AreKept : List CommitRecord → ℕ → Type 0) : Type 0 where
+    (Was : SessionRecord → Type 0) (AreKept : List CommitRecord → ℕ → Type 0) : Type 0 where
   pub server : IsServer journal texts clients dispatchers
   pub served : (i : ℕ) (client : TokenRecord) → i < clients → slice_get server.closed i ≡ Some client
-      → HasHadSessions status journal server.table server.kept server.log AreKept (i + 1) client
+      → HasHadSessions status journal server.table server.kept server.log Was AreKept (i + 1) client

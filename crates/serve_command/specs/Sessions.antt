@@ -1,5 +1,6 @@
 -- How the sessions of a client over streams ended, and what went over their wires.
 use Rattle.std.specs.Prelude.{◌≡◌, ◌≢◌, ◌⊎◌, ℕ, Bool, max, true, List, [], ◌∷◌, Option, Result, Ok, Err, IsOk}
+use Rattle.std.specs.List.{AllByRecursion}
 use Rattle.history.specs.Tokens.{TokenRecord}
 use Rattle.serve_command.specs.declared.speakers.OnceLeft.{OnceLeft}
 use Rattle.serve_command.specs.declared.speakers.PathLeft.{PathLeft}
@@ -50,6 +51,13 @@ AreSessions number old [] new = new ≡ old
 AreSessions number old (session ∷ earlier) new =
     (between : TokenRecord) × AreSessions number old earlier between × IsSession number between new session
 
+-- it was between two such ends, as they were opened: one was read, and the other written
+pub record IsBetween {F : Type 0} (remaining contents : F → Option (List ℕ)) (session : SessionRecord) : Type 0 where
+  pub input : F
+  pub output : F
+  pub unread_is : session.unread ≡ remaining input
+  pub before_is : session.before ≡ contents output
+
 -- the last of them was served to its end
 abbrev pub EndWell : List SessionRecord → Type 0
 EndWell [] = ⊥
@@ -65,35 +73,39 @@ abbrev pub most_told : List SessionRecord → ℕ
 most_told [] = 0
 most_told (session ∷ earlier) = max (most_told earlier) (most_covered session.events)
 
--- a client has had sessions, which told of so many commits at most, and took refreshes, where that is said
-pub record HasHad (number : ℕ) (old new : TokenRecord) (told : ℕ) (took : Bool) : Type 0 where
-  pub sessions : List SessionRecord
-  pub are : AreSessions number old sessions new
-  pub told_is : told ≡ most_told sessions
-  pub took_are : took ≡ true → TookRefreshes sessions
+-- a client has had sessions, each of which was such a one; they told of so many commits at most, and took refreshes,
+-- where that is said
+pub record HasHad (Was : SessionRecord → Type 0) (number : ℕ) (old new : TokenRecord) (told : ℕ) (took : Bool) : Type 0
+  where
+    pub sessions : List SessionRecord
+    pub are : AreSessions number old sessions new
+    pub were : AllByRecursion Was sessions
+    pub told_is : told ≡ most_told sessions
+    pub took_are : took ≡ true → TookRefreshes sessions
 
 -- it leaves just what they told of at most; where it says that they took refreshes, they did; where it says that it was
 -- served, the last of them was served to its end
-pub record HasLeft (number : ℕ) (old new : TokenRecord) (left : PathLeft) : Type 0 where
+pub record HasLeft (Was : SessionRecord → Type 0) (number : ℕ) (old new : TokenRecord) (left : PathLeft) : Type 0 where
   pub sessions : List SessionRecord
   pub are : AreSessions number old sessions new
+  pub were : AllByRecursion Was sessions
   pub told_is : left.told ≡ most_told sessions
   pub took_are : left.took_refreshes ≡ true → TookRefreshes sessions
   pub ended : left.was_served ≡ true → EndWell sessions
 
--- a client was served over a reader and a writer: its session ended so, what went over the wire is a conversation, it
--- told of so many commits at most, and took refreshes or did not
+-- a client was served over a reader and a writer: its session ended so, what went over the wire between them is a
+-- conversation, it told of so many commits at most, and took refreshes or did not
 pub record HasStreamed (number : ℕ) (old new : TokenRecord) (unread before after : Option (List ℕ))
-    (outcome : Result Served SessionError) (told : ℕ) (takes : Bool) : Type 0 where
+    (outcome : Result Served SessionError) (events : List Event) (told : ℕ) (takes : Bool) : Type 0 where
   pub ended : HasEnded outcome takes number old new unread before after
-  pub events : List Event
   pub conversed : HasConversed outcome takes number old new events
   pub told_is : told ≡ most_covered events
 
--- a session told of so many commits at most, took refreshes or did not, and what follows it: nothing does where it was
--- served to its end over ends that are not opened again; or there was none, since its ends could not be opened
-abbrev pub HasServedOnce : ℕ → TokenRecord → TokenRecord → OnceLeft → Type 0
-HasServedOnce number old new once =
+-- a session was such a one, told of so many commits at most, took refreshes or did not, and what follows it: nothing does
+-- where it was served to its end over ends that are not opened again; or there was none, since its ends could not be
+-- opened
+abbrev pub HasServedOnce : (SessionRecord → Type 0) → ℕ → TokenRecord → TokenRecord → OnceLeft → Type 0
+HasServedOnce Was number old new once =
     ((session : SessionRecord) × IsSession number old new session × (once.end ≡ Last → IsOk session.outcome)
-    × (once.told ≡ most_covered session.events) × (session.takes_refreshes ≡ once.took_refreshes))
+    × (once.told ≡ most_covered session.events) × (session.takes_refreshes ≡ once.took_refreshes) × Was session)
     ⊎ ((once.end ≢ Last) × (new ≡ old) × (once.told ≡ 0))

@@ -3,6 +3,7 @@
 ghost use Rattle.std.specs.Prelude.{◌≡◌, ◌≢◌, ◌⊎◌, ◌≤◌, [], All, IfOk, IfErr, OnOk, vec_len};
 ghost use Rattle.journal_opening.specs.declared.start.JournalStart.TheVariants.{Begins};
 ghost use Rattle.serve_command.specs.Journals.{GoesOnFrom, KeepsNone, RefusesFile};
+ghost use Rattle.serve_command.specs.LeftFiles.{IsLeftFile, KeepsFound, KeepsLog};
 ghost use Rattle.serve_command.specs.Status.{refusal_status, serving_status};
 ghost use Rattle.ssb_journal.specs.Counts.{IsLeft};
 ghost use Rattle.history_core.specs.Counts.{most_clients};
@@ -10,8 +11,10 @@ ghost use Rattle.history_core.specs.Counts.{most_clients};
 use crate::acknowledging::Durable;
 use crate::fault::{ServeFault, ServeRefusal};
 use crate::journaled_run::{BeginsJournal, JournaledRun, run_journaled};
+use crate::left_file::{LeftFile, UnservedFile};
 use crate::ready::{ReadyLine, tell_ready};
 use crate::remade::remake_journal;
+use crate::unserved::UnservedSessions;
 use journal::{KeepsTorn, UnreadDisk};
 use journal_opening::{OpeningFault, OpensJournal, StartedJournal, tell_form};
 use ssb_files::TableBytes;
@@ -94,7 +97,7 @@ impl<'a, P: KeepsTorn, E: Print> BeginsJournal for TornKeeper<'a, P, E> {
 
 /// Serves clients at once, one for each speaker, by 1 to 4 dispatchers over a loaded base, behind the commits of a
 /// journal's file that was just opened; where the journal begins, it has none. All of it is read before anything is
-/// written; what a crash has torn is kept at the place before it is cut off.
+/// written; what a crash has torn is kept at the place before it is cut off. An `Err` hands the file back.
 pub fn run_source<R, P, U, S, E>(
     rt: &R,
     dispatchers: u32,
@@ -102,7 +105,7 @@ pub fn run_source<R, P, U, S, E>(
     source: JournalSource<'_, U>,
     speakers: Vec<S>,
     screen: &E,
-) -> Result<JournaledRun<U::Whole, S::Left>, ServeRefusal>
+) -> Result<JournaledRun<U::Whole, S::Left>, UnservedFile<U, U::Whole>>
 where
     R: Threads + Sync + Wait + Clock + AllocGlobal,
     P: OpensJournal + KeepsTorn,
@@ -118,15 +121,22 @@ where
         source.entry.marks.now speakers.items dispatchers run.left.items run.log) }
     ensures begun { OnOk result (P.starts place.now.file.now ≡ Begins
         → KeepsNone source.entry.marks.now (U.holds source.entry.file)) }
+    // A crash at any moment of the run leaves the first commits of the log, all those of the file among them.
+    ensures any_moment { IfOk result (λ run. KeepsLog U.Whole.seen U.Whole.moment U.Whole.left_since
+        source.entry.marks.now (U.holds source.entry.file) run.log run.disk) }
     // Whatever crashes from now on leaves the first commits of the log, at least so many, ..
     ensures kept { IfOk result (λ run. IsLeft (U.Whole.may_leave run.disk) (U.Whole.seen run.disk) run.count run.log
         run.was_written) }
     // .. and no client was told of more.
     ensures told { IfOk result (λ run. All (λ left. S.told left ≤ run.count) run.left.items) }
     ensures left { IfOk result (λ run. vec_len run.left ≡ vec_len speakers) }
-    ensures refused { IfErr result (λ refusal. refusal_status refusal ≡ 1 → RefusesFile source.entry.loaded
+    ensures refused { IfErr result (λ unserved. refusal_status unserved.refusal ≡ 1 → RefusesFile source.entry.loaded
         source.entry.marks.now (P.starts place.now.file.now ≡ Begins) (U.holds source.entry.file)) }
-    ensures words { IfErr result (λ refusal. refusal_status refusal ≢ 2) }
+    ensures words { IfErr result (λ unserved. refusal_status unserved.refusal ≢ 2) }
+    // The file is as it was; or a crash at any moment since it was found leaves all its commits.
+    ensures any_moment_err { IfErr result (λ unserved. IsLeftFile (λ file. U.holds file ≡ U.holds source.entry.file)
+        (KeepsFound U.Whole.seen U.Whole.moment U.Whole.left_since source.entry.marks.now (U.holds source.entry.file))
+        unserved.file) }
 {
     let JournalSource {
         loaded,
@@ -137,11 +147,16 @@ where
     let at = place.file;
     let started = match StartedJournal::open(rt.alloc(), marks, at.start(), at.path(), file) {
         Ok(started) => started,
-        Err((fault, _)) => return Err(ServeRefusal::Journal(fault)),
+        Err((fault, file)) => {
+            return Err(UnservedFile {
+                refusal: ServeRefusal::Journal(fault),
+                file: LeftFile::Unread(file),
+            });
+        },
     };
     let remade = match remake_journal(rt, rt.alloc(), loaded, dispatchers, marks, started) {
         Ok(remade) => remade,
-        Err(refusal) => return Err(refusal),
+        Err(unserved) => return Err(unserved),
     };
     tell_form(&mut io::writer(screen), remade.opened.kept.form);
     let keeper = TornKeeper {
@@ -152,7 +167,10 @@ where
     };
     match run_journaled(rt, rt.alloc(), remade, speakers, &keeper) {
         Ok(run) => Ok(run),
-        Err(unserved) => Err(ServeRefusal::NotServed(unserved.fault)),
+        Err(UnservedSessions { fault, disk }) => Err(UnservedFile {
+            refusal: ServeRefusal::NotServed(fault),
+            file: LeftFile::Read(disk),
+        }),
     }
 }
 

@@ -1,7 +1,7 @@
 //! Sessions over a server with a journal, from its opening to its end.
 
-ghost use Rattle.std.specs.Prelude.{◌≡◌, ◌+◌, ◌≤◌, ◌++◌, [], ◌∷◌, All, IfOk, IfErr, IfSome, OnOk};
-ghost use Rattle.std.specs.Prelude.{◌⊎◌, IsSome, Some, false, length, map, true, vec_len};
+ghost use Rattle.std.specs.Prelude.{◌≡◌, ◌+◌, ◌≤◌, ◌++◌, [], ◌∷◌, All, IfOk, IfErr, OnOk};
+ghost use Rattle.std.specs.Prelude.{Some, false, length, map, true, vec_len};
 ghost use Rattle.journal.specs.Groups.{recovered as recovered_groups, AreTorn};
 ghost use Rattle.journal.specs.Disk.{LeavesOnly};
 ghost use Rattle.ssb_journal.specs.Counts.{IsLeft, KeepsSince};
@@ -18,7 +18,7 @@ ghost use Rattle.serve_command.specs.Seated.{AllHaveSeen};
 ghost use Rattle.serve_command.specs.JournaledRun.{IsJournaledRun, IsUnservedFault};
 ghost use Rattle.serve_command.specs.JournaledRun.{HasKept, IsBegunOn, IsFoundOrKept, KeepsRecovered, begun_on};
 ghost use Rattle.serve_command.specs.BegunFiles.{KeepsBegun, disk_of};
-ghost use Rattle.serve_command.specs.declared.unserved.JournaledFault.TheVariants.{Disturbed, OutOfMemory, Write};
+ghost use Rattle.serve_command.specs.declared.unserved.JournaledFault.TheVariants.{OutOfMemory, Write};
 
 use crate::acknowledging::{Durable, JournalAcknowledger};
 use crate::remade::{RemadeServer, Seats};
@@ -166,14 +166,14 @@ where
     requires kept { IsKept marks.now (recovered_groups (D.seen opened.found)) opened.kept }
     requires torn { AreTorn (D.seen opened.found) opened.torn.items }
     ensures reader { IfOk result (λ begun. begun.reader ≡ reader) }
-    ensures kept { IfOk result (λ begun. KeepsBegun D.may_leave D.seen D.promised begun.count begun.reader.seen begun.file) }
+    ensures kept { IfOk result (λ begun. KeepsBegun D.may_leave D.seen D.promised begun.count begun.reader.seen
+        begun.file) }
     ensures count { IfOk result (λ begun. begun.count ≡ length opened.kept.commits.items) }
     ensures any_moment { IfOk result (λ begun. LeavesOnly D.moment D.left_since opened.found (disk_of begun.file)
         (IsAsItWasOrNew marks.now (recovered_groups (D.seen opened.found)))) }
     ensures fault { IfErr result (λ unserved. unserved.fault ≡ Write) }
-    ensures handed { IfErr result (λ unserved. IsSome unserved.disk) }
-    ensures any_moment_err { IfErr result (λ unserved. IfSome unserved.disk (IsFoundOrKept D.moment D.left_since
-        opened.found opened.kept.commits.items)) }
+    ensures any_moment_err { IfErr result (λ unserved. IsFoundOrKept D.moment D.left_since opened.found
+        opened.kept.commits.items unserved.disk) }
 {
     let OpenedJournal { found, kept, torn } = opened;
     begun_journal_keeps();
@@ -182,7 +182,10 @@ where
         Ok(journal) => BegunFile::Open(journal),
         Err(disk) => {
             if kept.is_new {
-                return Err(UnservedSessions::new(JournaledFault::Write, disk));
+                return Err(UnservedSessions {
+                    fault: JournaledFault::Write,
+                    disk,
+                });
             }
             BegunFile::ReadOnly(disk)
         },
@@ -239,7 +242,8 @@ where
     requires reader { begun.reader.table ≡ server.now }
     requires picked { K.reader ≡ Some begun.reader }
     requires begun { IsBegunOn D.moment D.left_since K.begun (disk_of begun.file) begun.count }
-    requires kept { KeepsBegun D.may_leave D.seen D.promised begun.count begun.reader.seen begun.file }
+    requires kept { KeepsBegun D.may_leave D.seen D.promised begun.count begun.reader.seen
+        begun.file }
     ensures served { IfOk result (λ end. AreSpoken S.spoken participants.speakers.items participants.clients.items
         (map (λ one. one.client) end.0.spoken.items) (map (λ one. one.left) end.0.spoken.items)) }
     ensures dispatchers { IfOk result (λ end. AreStill participants.dispatchers.items end.0.dispatchers.items) }
@@ -248,10 +252,9 @@ where
         end.1.reader.seen end.1.is_whole) }
     ensures since { IfOk result (λ end. KeepsSince (begun_on D.moment D.left_since (disk_of begun.file) begun.count)
         (D.moment end.1.disk) (D.left_since end.1.disk) end.1.count end.1.reader.seen) }
-    ensures handed { IfErr result (λ unserved. (unserved.fault ≡ Disturbed) ⊎ IsSome unserved.disk) }
-    ensures fault { IfErr result (λ unserved. (unserved.fault ≡ Disturbed) ⊎ (unserved.fault ≡ OutOfMemory)) }
-    ensures since_err { IfErr result (λ unserved. IfSome unserved.disk (HasKept D.moment D.left_since (disk_of begun.file)
-        begun.count begun.reader.seen)) }
+    ensures fault { IfErr result (λ unserved. unserved.fault ≡ OutOfMemory) }
+    ensures since_err { IfErr result (λ unserved. HasKept D.moment D.left_since (disk_of begun.file) begun.count
+        begun.reader.seen unserved.disk) }
 {
     let Participants {
         clients,
@@ -282,12 +285,13 @@ where
         failed: _,
         takes_refreshes: _,
     } = journaled;
-    let Some(left) = left_of(journal) else {
-        return Err(UnservedSessions::lost());
-    };
+    let left = left_of(rt, journal);
     match ended {
         Ok(ended) => Ok((ended, left)),
-        Err(_) => Err(UnservedSessions::new(JournaledFault::OutOfMemory, left.disk)),
+        Err(_) => Err(UnservedSessions {
+            fault: JournaledFault::OutOfMemory,
+            disk: left.disk,
+        }),
     }
 }
 
@@ -329,7 +333,7 @@ fn close_run<D: Disk + Drop, W: Wait + Drop, L: Drop>(
     ensures journal { IfOk result (λ run. (run.disk ≡ left_journal.disk) × (run.count ≡ left_journal.count)
         × (run.was_written ≡ left_journal.is_whole)) }
     ensures handed { IfErr result (λ unserved. unserved
-        ≡ record { fault = OutOfMemory; disk = Some left_journal.disk }) }
+        ≡ record { fault = OutOfMemory; disk = left_journal.disk }) }
 {
     let EndedThreads {
         spoken,
@@ -349,7 +353,10 @@ fn close_run<D: Disk + Drop, W: Wait + Drop, L: Drop>(
             count,
             was_written: is_whole,
         }),
-        Err(_) => Err(UnservedSessions::new(JournaledFault::OutOfMemory, disk)),
+        Err(_) => Err(UnservedSessions {
+            fault: JournaledFault::OutOfMemory,
+            disk,
+        }),
     }
 }
 
@@ -372,8 +379,7 @@ where
 /// is told to a client is on the disk before. It waits until all of them have ended.
 ///
 /// Where the file of a journal that was there cannot be written, what it keeps is served, and no refresh is taken. A new
-/// journal that could not be begun is `Write`. An `Err` hands the disk back, but where another has it out, which is
-/// `Disturbed`.
+/// journal that could not be begun is `Write`. An `Err` hands the disk back.
 pub fn run_journaled<D, T, W, R, S>(
     rt: &R,
     alloc: Global,
@@ -408,10 +414,9 @@ where
     ensures told { IfOk result (λ run. All (λ left. S.told left ≤ run.count) run.left.items) }
     ensures left { IfOk result (λ run. vec_len run.left ≡ vec_len speakers) }
     ensures fault { IfErr result (λ unserved. IsUnservedFault unserved.fault) }
-    ensures handed { IfErr result (λ unserved. (unserved.fault ≡ Disturbed) ⊎ IsSome unserved.disk) }
     // It is as it was found, or a crash at any moment of the run leaves all that was recovered.
-    ensures any_moment_err { IfErr result (λ unserved. IfSome unserved.disk (IsFoundOrKept D.moment D.left_since
-        remade.entry.opened.found remade.entry.opened.kept.commits.items)) }
+    ensures any_moment_err { IfErr result (λ unserved. IsFoundOrKept D.moment D.left_since remade.entry.opened.found
+        remade.entry.opened.kept.commits.items unserved.disk) }
 {
     let RemadeServer {
         server,
@@ -427,8 +432,10 @@ where
     let begun = begin_again(alloc, reader, marks, opened, keeper)?;
     first_of_log();
     let Ok(resting) = clients.split_off(speakers.len()) else {
-        let disk = begun.file.into_disk();
-        return Err(UnservedSessions::new(JournaledFault::OutOfMemory, disk));
+        return Err(UnservedSessions {
+            fault: JournaledFault::OutOfMemory,
+            disk: begun.file.into_disk(),
+        });
     };
     let participants = Participants {
         clients,
@@ -437,7 +444,10 @@ where
     };
     let (ended, left) = run_sessions::<D, W, R, S, Brand>(rt, alloc, &server, participants, begun)?;
     if !all_are_kept::<W, S>(&ended.spoken, left.count) {
-        return Err(UnservedSessions::new(JournaledFault::Disturbed, left.disk));
+        return Err(UnservedSessions {
+            fault: JournaledFault::Disturbed,
+            disk: left.disk,
+        });
     }
     let closed = close_run(alloc, server, ended, resting, left)?;
     Ok(closed)

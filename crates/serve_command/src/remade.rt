@@ -10,11 +10,13 @@ ghost use Rattle.journal_opening.specs.declared.start.JournalStart.TheVariants.{
 ghost use Rattle.ssb_clients.specs.Tickets.{IsOf, with_reader};
 ghost use Rattle.ssb_journal.specs.Opening.{IsKept};
 ghost use Rattle.ssb_serving.specs.Members.{AreStill, IsStill};
+ghost use Rattle.serve_command.specs.LeftFiles.{IsLeftFile, KeepsFound};
 ghost use Rattle.serve_command.specs.Remade.{AreAtLog, IsNotRemade, IsRemakeFault};
 ghost use Rattle.serve_command.specs.Seated.{AllHaveSeen};
 ghost use Rattle.serve_command.specs.declared.unserved.JournaledFault.TheVariants.{Disturbed, OutOfMemory};
 
 use crate::fault::ServeRefusal;
+use crate::left_file::{LeftFile, UnservedFile};
 use crate::remaking::{remake, show_all};
 use crate::unserved::JournaledFault;
 use journal::{Disk, UnreadDisk};
@@ -125,14 +127,15 @@ fn remake_next<W: Wait + Drop, R: Wait>(
     Ok(())
 }
 
-// Reads the next commits of a journal's file, if there are any, and has them made again.
+// Reads the next commits of a journal's file, if there are any, and has them made again. An `Err` hands the file back, as
+// far as it was read.
 fn read_next<'a, W: Wait + Drop, R: Wait, U: UnreadDisk + Drop>(
     rt: &R,
     alloc: Global,
     server: &Server<W>,
     seats: &mut Seats<W>,
     journal: StartedJournal<'a, U>,
-) -> Result<(StartedJournal<'a, U>, bool), ServeRefusal>
+) -> Result<(StartedJournal<'a, U>, bool), (ServeRefusal, U)>
     requires { AreAtLog server.now journal.reader.commits seats.old.clients.items seats.old.reader
         seats.old.dispatchers.items }
     ensures at_log { IfOk result (λ next. AreAtLog server.now next.0.reader.commits seats.new.clients.items seats.new.reader
@@ -144,30 +147,34 @@ fn read_next<'a, W: Wait + Drop, R: Wait, U: UnreadDisk + Drop>(
     ensures more { IfOk result (λ next. next.1 ≡ true → (journal.entry.reader.texts < next.0.reader.texts)
         × (next.0.reader.texts < 2 ^ 60)) }
     ensures end { IfOk result (λ next. next.1 ≡ false → next.0.reader.is_done ≡ true) }
-    ensures fault { IfErr result (λ why. (dispatchers : ℕ) → IsNotRemade server.now.base journal.entry.reader.marks
-        journal.entry.start journal.entry.path.now dispatchers (U.holds journal.entry.reader.unread) why) }
+    ensures fault { IfErr result (λ e. (dispatchers : ℕ) → IsNotRemade server.now.base journal.entry.reader.marks
+        journal.entry.start journal.entry.path.now dispatchers (U.holds journal.entry.reader.unread) e.0) }
+    ensures known_err { IfErr result (λ e. U.holds e.1 ≡ U.holds journal.entry.reader.unread) }
 {
     let (journal, found) = match journal.next(alloc) {
         Ok(next) => next,
-        Err((fault, _)) => return Err(ServeRefusal::Journal(fault)),
+        Err((fault, file)) => return Err((ServeRefusal::Journal(fault), file)),
     };
     let Some(commits) = found else {
         return Ok((journal, false));
     };
     match remake_next(rt, server, seats, &commits) {
         Ok(()) => Ok((journal, true)),
-        Err(fault) => Err(ServeRefusal::NotServed(fault)),
+        Err(fault) => {
+            let file = journal.reader.into_unread();
+            Err((ServeRefusal::NotServed(fault), file))
+        },
     }
 }
 
-// Reads a journal's file to its end, and has its commits made again.
+// Reads a journal's file to its end, and has its commits made again. An `Err` hands the file back, as far as it was read.
 fn read_all<'a, W: Wait + Drop, R: Wait, U: UnreadDisk + Drop>(
     rt: &R,
     alloc: Global,
     server: &Server<W>,
     seats: &mut Seats<W>,
     journal: StartedJournal<'a, U>,
-) -> Result<StartedJournal<'a, U>, ServeRefusal>
+) -> Result<StartedJournal<'a, U>, (ServeRefusal, U)>
     requires { AreAtLog server.now journal.reader.commits seats.old.clients.items seats.old.reader
         seats.old.dispatchers.items }
     ensures at_log { IfOk result (λ read. AreAtLog server.now read.reader.commits seats.new.clients.items seats.new.reader
@@ -177,27 +184,28 @@ fn read_all<'a, W: Wait + Drop, R: Wait, U: UnreadDisk + Drop>(
         × (read.path.now ≡ journal.entry.path.now)) }
     ensures known { IfOk result (λ read. U.holds read.reader.unread ≡ U.holds journal.entry.reader.unread) }
     ensures end { IfOk result (λ read. read.reader.is_done ≡ true) }
-    ensures fault { IfErr result (λ why. (dispatchers : ℕ) → IsNotRemade server.now.base journal.entry.reader.marks
-        journal.entry.start journal.entry.path.now dispatchers (U.holds journal.entry.reader.unread) why) }
+    ensures fault { IfErr result (λ e. (dispatchers : ℕ) → IsNotRemade server.now.base journal.entry.reader.marks
+        journal.entry.start journal.entry.path.now dispatchers (U.holds journal.entry.reader.unread) e.0) }
+    ensures known_err { IfErr result (λ e. U.holds e.1 ≡ U.holds journal.entry.reader.unread) }
 {
     let mut journal = journal;
     loop {
         match read_next(rt, alloc, server, seats, journal) {
             Ok((next, true)) => journal = next,
             Ok((next, false)) => return Ok(next),
-            Err(refusal) => return Err(refusal),
+            Err(refused) => return Err(refused),
         }
     }
 }
 
 // The server behind a journal's file that was read to its end, once each client has seen all its commits: no answer is
-// older.
+// older. An `Err` hands the disk back, which is as it was found.
 fn behind_file<'a, W: Wait + Drop, U: UnreadDisk + Drop>(
     server: Server<W>,
     seats: Seats<W>,
     marks: &'a [TableMark],
     journal: StartedJournal<'_, U>,
-) -> Result<RemadeServer<'a, W, U::Whole>, JournaledFault>
+) -> Result<RemadeServer<'a, W, U::Whole>, (JournaledFault, U::Whole)>
     requires at_log { AreAtLog server journal.reader.commits seats.clients.items seats.reader seats.dispatchers.items }
     requires marks { journal.reader.marks ≡ marks.now }
     requires end { journal.reader.is_done ≡ true }
@@ -211,28 +219,32 @@ fn behind_file<'a, W: Wait + Drop, U: UnreadDisk + Drop>(
     ensures torn { IfOk result (λ remade. AreTorn (U.Whole.seen remade.opened.found) remade.opened.torn.items) }
     ensures known { IfOk result (λ remade. IsKnown (U.holds journal.entry.reader.unread) (U.Whole.seen remade.opened.found)) }
     ensures new { IfOk result (λ remade. journal.entry.start ≡ Begins → remade.opened.kept.commits.items ≡ []) }
-    ensures fault { IfErr result (λ fault. fault ≡ Disturbed) }
+    ensures fault { IfErr result (λ e. e.0 ≡ Disturbed) }
+    ensures file { IfErr result (λ e. KeepsFound U.Whole.seen U.Whole.moment U.Whole.left_since marks.now
+        (U.holds journal.entry.reader.unread) e.1) }
 {
     let mut seats = seats;
     let opened = journal.finish();
-    show_all(
+    match show_all(
         &server,
         &mut seats.clients,
         &mut seats.reader,
         opened.kept.count,
-    )?;
-    Ok(RemadeServer {
-        server,
-        seats,
-        marks,
-        opened,
-    })
+    ) {
+        Ok(()) => Ok(RemadeServer {
+            server,
+            seats,
+            marks,
+            opened,
+        }),
+        Err(fault) => Err((fault, opened.found.into_disk())),
+    }
 }
 
 /// Opens a server of sixteen clients over a loaded base, for so many dispatchers and a reader of its log, and has the
 /// clients make the commits of a journal's file again, as that is read: the log, and both copies of the columns, get
 /// them some after some, and they are forgotten. Of two faults the first in the file is told. Nothing is written. Of the
-/// file only its head was read.
+/// file only its head was read. An `Err` hands the file back.
 pub fn remake_journal<'a, 'r, R, U>(
     rt: &'r R,
     alloc: Global,
@@ -240,7 +252,7 @@ pub fn remake_journal<'a, 'r, R, U>(
     dispatchers: u32,
     marks: &'a [TableMark],
     journal: StartedJournal<'_, U>,
-) -> Result<RemadeServer<'a, &'r R, U::Whole>, ServeRefusal>
+) -> Result<RemadeServer<'a, &'r R, U::Whole>, UnservedFile<U, U::Whole>>
 where
     R: Wait + Threads + Sync,
     U: UnreadDisk + Drop,
@@ -258,23 +270,38 @@ where
     ensures torn { IfOk result (λ remade. AreTorn (U.Whole.seen remade.opened.found) remade.opened.torn.items) }
     ensures known { IfOk result (λ remade. IsKnown (U.holds journal.entry.reader.unread) (U.Whole.seen remade.opened.found)) }
     ensures new { IfOk result (λ remade. journal.entry.start ≡ Begins → remade.opened.kept.commits.items ≡ []) }
-    ensures fault { IfErr result (IsNotRemade loaded marks.now journal.entry.start journal.entry.path.now
-        dispatchers (U.holds journal.entry.reader.unread)) }
+    ensures fault { IfErr result (λ unserved. IsNotRemade loaded marks.now journal.entry.start journal.entry.path.now
+        dispatchers (U.holds journal.entry.reader.unread) unserved.refusal) }
+    // Nothing was written.
+    ensures file { IfErr result (λ unserved. IsLeftFile (λ file. U.holds file ≡ U.holds journal.entry.reader.unread)
+        (KeepsFound U.Whole.seen U.Whole.moment U.Whole.left_since marks.now (U.holds journal.entry.reader.unread))
+        unserved.file) }
 {
     let opened = match open(alloc, rt, loaded, MOST_CLIENTS, dispatchers, Keeps::Unread) {
         Ok(opened) => opened,
         Err(fault) => {
             let fault = JournaledFault::NotRun(RunFault::from(fault));
-            return Err(ServeRefusal::NotServed(fault));
+            return Err(UnservedFile {
+                refusal: ServeRefusal::NotServed(fault),
+                file: LeftFile::Unread(journal.reader.into_unread()),
+            });
         },
     };
     let (server, mut seats) = with_its_reader(opened);
     let journal = match read_all(rt, alloc, &server, &mut seats, journal) {
         Ok(journal) => journal,
-        Err(refusal) => return Err(refusal),
+        Err((refusal, file)) => {
+            return Err(UnservedFile {
+                refusal,
+                file: LeftFile::Unread(file),
+            });
+        },
     };
     match behind_file(server, seats, marks, journal) {
         Ok(remade) => Ok(remade),
-        Err(fault) => Err(ServeRefusal::NotServed(fault)),
+        Err((fault, disk)) => Err(UnservedFile {
+            refusal: ServeRefusal::NotServed(fault),
+            file: LeftFile::Read(disk),
+        }),
     }
 }

@@ -247,7 +247,7 @@ where
     };
     let run = match run_source(rt, dispatchers, place, source, speakers, screen) {
         Ok(run) => run,
-        Err(refusal) => return Err(ServeFault::Found(refusal)),
+        Err(unserved) => return Err(ServeFault::Found(unserved.refusal)),
     };
     let JournaledRun {
         left,

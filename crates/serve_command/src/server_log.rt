@@ -1,6 +1,6 @@
 //! The log of a live server, as a journal reads it.
 
-ghost use Rattle.std.specs.Prelude.{◌≡◌, ◌≤◌, None, Option, Some, IfSome};
+ghost use Rattle.std.specs.Prelude.{◌≡◌, ◌≤◌, None, Option, Some};
 ghost use Rattle.std.specs.Option.{ForSome};
 ghost use Rattle.history.specs.Tokens.{TokenRecord};
 ghost use Rattle.ssb_journal.specs.Counts.{Begun, IsLeft, KeepsSince, nothing_said};
@@ -85,26 +85,20 @@ pub(crate) struct JournalLeft<D: Disk + Drop, W: Wait + Drop> {
     pub(crate) is_whole: bool,
 }
 
-/// What is left of the journal; none where one has it out.
-pub(crate) fn left_of<D: Disk + Drop, W: Wait + Drop, K: LogStart>(
+/// What is left of the journal, when no thread shares it any more.
+pub(crate) fn left_of<D: Disk + Drop, W: Wait + Drop, R: Wait, K: LogStart>(
+    rt: &R,
     journal: SharedJournal<D, ServerLog<'_, W, K>>,
-) -> Option<JournalLeft<D, W>>
-    ensures later { IfSome result (λ left. ForSome K.reader (λ first. IsLater first left.reader)) }
-    ensures left { IfSome result (λ left. IsLeft (D.may_leave left.disk) (D.seen left.disk) left.count
-        left.reader.seen left.is_whole) }
-    ensures since { IfSome result (λ left. KeepsSince K.begun (D.moment left.disk) (D.left_since left.disk) left.count
-        left.reader.seen) }
+) -> JournalLeft<D, W>
+    ensures later { ForSome K.reader (λ first. IsLater first result.reader) }
+    ensures left { IsLeft (D.may_leave result.disk) (D.seen result.disk) result.count result.reader.seen result.is_whole }
+    ensures since { KeepsSince K.begun (D.moment result.disk) (D.left_since result.disk) result.count result.reader.seen }
 {
-    match journal.into_left() {
-        Some(left) => {
-            let (disk, source, count, is_whole) = left.into_parts();
-            Some(JournalLeft {
-                disk,
-                reader: source.reader,
-                count,
-                is_whole,
-            })
-        },
-        None => None,
+    let (disk, source, count, is_whole) = journal.into_left(rt).into_parts();
+    JournalLeft {
+        disk,
+        reader: source.reader,
+        count,
+        is_whole,
     }
 }

@@ -7,6 +7,7 @@ ghost use Rattle.std.specs.Option.{option_map};
 ghost use Rattle.journal_opening.specs.declared.start.JournalStart.TheVariants.{Begins};
 ghost use Rattle.serve_command.specs.Journals.{AreOnDisk, AreRefused};
 ghost use Rattle.serve_command.specs.Served.{EndsAlone, HasEndedAlone, ServesClients};
+ghost use Rattle.serve_command.specs.Sessions.{IsBetween};
 ghost use Rattle.serve_command.specs.Status.{serving_status};
 ghost use Rattle.ssb_schema.specs.declared.table.Table.{Table};
 ghost use Rattle.history_core.specs.Counts.{most_clients};
@@ -58,8 +59,8 @@ fn was_unasked(ended: &Result<Served, SessionError>) -> bool {
 
 // What the only client's session left, and the journal, where there is one.
 #[derive(Drop)]
-struct AloneLeft<O: Write + Drop, D: Drop> {
-    one: StreamLeft<O>,
+struct AloneLeft<J: Read + Drop, O: Write + Drop, D: Drop> {
+    one: StreamLeft<J, O>,
     kept: Option<KeptLog<D>>,
 }
 
@@ -71,7 +72,7 @@ fn run_alone<R, P, I, J, O, E>(
     place: Option<JournalPlace<'_, P>>,
     client: StreamClient<J, O>,
     screen: &E,
-) -> Result<AloneLeft<O, P::Disk>, ServeFault>
+) -> Result<AloneLeft<J, O, P::Disk>, ServeFault>
 where
     R: Threads + Sync + Wait + Clock + AllocGlobal,
     P: OpensJournal + KeepsTorn,
@@ -83,7 +84,7 @@ where
     E: Print,
     ensures ended { IfOk result (λ left. (texts : Table → List ℕ) → AreRows I.remaining tables texts
         → HasEndedAlone left.one.ended left.one.took_refreshes (option_map (λ place. P.holds place.file.now) place.entry) texts
-        settings.dispatchers (J.remaining client.input) (O.contents client.output) (O.contents left.one.output)
+        settings.dispatchers (J.remaining client.input) (O.contents client.output) (O.contents left.one.wire.output)
         (λ log told. IfSome left.kept (λ kept. AreOnDisk (P.Disk.may_leave kept.disk)
         (P.Disk.seen kept.disk) (IsTrue kept.was_written) log told))) }
     ensures journal { IfOk result (λ left. is_some left.kept ≡ is_some place.entry) }
@@ -198,7 +199,7 @@ where
         Ok(left) => {
             let AloneLeft { one, kept } = left;
             let StreamLeft {
-                output,
+                wire,
                 ended,
                 told: _,
                 took_refreshes,
@@ -206,7 +207,7 @@ where
             let written = was_written(&kept, took_refreshes);
             StreamEnd {
                 status: tell_end(&ended, written, &mut err),
-                output: Some(output),
+                output: Some(wire.into_output()),
                 disk: disk_of(kept),
                 was_unasked: was_unasked(&ended),
             }
@@ -317,7 +318,7 @@ where
     ensures served { (result.status ≡ 0) ⊎ IsSome result.disk → (texts : Table → List ℕ)
         → AreRows I.remaining tables texts
         → ServesClients result.status (option_map (λ place. P.holds place.file.now) place.entry) texts
-        (vec_len clients.entry.ends) settings.dispatchers
+        (vec_len clients.entry.ends) settings.dispatchers (IsBetween F.File.remaining F.File.contents)
         (λ log told. IfSome result.disk (λ disk. AreOnDisk (P.Disk.may_leave disk)
         (P.Disk.seen disk) (result.status ≡ 0) log told)) }
     ensures disk { result.status ≡ 0 → is_some result.disk ≡ is_some place.entry }

@@ -3,7 +3,7 @@
 ghost use Rattle.std.specs.Prelude.{◌≡◌, ℕ, false, IsOk, IsTrue};
 ghost use Rattle.std.specs.Option.{is_some};
 ghost use Rattle.history.specs.Members.{number_of};
-ghost use Rattle.serve_command.specs.Sessions.{HasLeft, HasServedOnce, HasStreamed};
+ghost use Rattle.serve_command.specs.Sessions.{HasLeft, HasServedOnce, HasStreamed, IsBetween};
 ghost use Rattle.stream_sessions.specs.OneRequest.{AreAlike};
 
 use crate::attendant::Attendant;
@@ -18,8 +18,8 @@ use std::sync::Wait;
 use std::time::{Clock, Duration};
 use std::{fmt, io, thread};
 use stream_sessions::{
-    Acknowledges, Ending, Evidence, Served, Service, SessionError, SessionFault, SessionLeft,
-    Speaker, Speaks, serve_session,
+    Acknowledges, ClosedWire, Ending, Evidence, Served, Service, SessionError, SessionFault,
+    SessionLeft, Speaker, Speaks, ToldWith, serve_session,
 };
 
 // How many bytes of a client's requests are read at once.
@@ -35,11 +35,11 @@ pub struct StreamClient<I: Read + Drop, O: Write + Drop> {
     pub output: O,
 }
 
-/// What such a client leaves: what it was answered to, how its session ended, of how many commits that told at most,
+/// What such a client leaves: the wire between its ends, how its session ended, of how many commits that told at most,
 /// and whether it took refreshes.
 #[derive(Drop)]
-pub struct StreamLeft<O: Write + Drop> {
-    pub output: O,
+pub struct StreamLeft<I: Read + Drop, O: Write + Drop> {
+    pub wire: ClosedWire<I, O>,
     pub ended: Result<Served, SessionError>,
     pub told: u64,
     pub took_refreshes: bool,
@@ -60,20 +60,22 @@ fn speak_over<
     server: &Server<W>,
     client: &mut Client<W>,
     ends: StreamClient<I, O>,
-) -> StreamLeft<O>
+) -> (StreamLeft<I, O>, ToldWith<Y>)
     requires table { client.old.table ≡ server.now }
     requires quiet { is_some client.old.asked ≡ false }
     ensures same { AreAlike client.old client.new }
     ensures streamed { HasStreamed (number_of client.old.who) client.old client.new (I.remaining ends.input)
-        (O.contents ends.output) (O.contents result.output) result.ended result.told result.took_refreshes }
+        (O.contents ends.output) (O.contents result.0.wire.output) result.0.ended result.0.wire.events.list result.0.told
+        result.0.took_refreshes }
+    ensures told { result.1 ≡ result.0.told }
 {
     let StreamClient { input, output } = ends;
     let took_refreshes = acknowledger.takes_refreshes();
     let input = match BufReader::with_capacity(alloc, READ_AHEAD, input) {
         Ok(input) => input,
         Err(_) => {
-            return StreamLeft {
-                output,
+            let left = StreamLeft {
+                wire: ClosedWire::unused(output),
                 ended: Err(SessionError {
                     answered: 0,
                     fault: SessionFault::OutOfMemory,
@@ -81,6 +83,7 @@ fn speak_over<
                 told: 0,
                 took_refreshes,
             };
+            return (left, ToldWith::nothing());
         }
     };
     let service = Service {
@@ -96,31 +99,32 @@ fn speak_over<
         wire,
         outcome: ended,
     } = left;
-    let told = wire.told();
-    let output = wire.into_output();
-    StreamLeft {
-        output,
+    let (wire, told_with) = wire.close();
+    let left = StreamLeft {
+        wire,
         ended,
-        told,
+        told: told_with.commits(),
         took_refreshes,
-    }
+    };
+    (left, told_with)
 }
 
 impl<I: Read + Drop, O: Write + Drop> Speaker for StreamClient<I, O> {
-    type Left = StreamLeft<O>;
+    type Left = StreamLeft<I, O>;
 
     ghost spoken = { λ speaker old new left. HasStreamed (number_of old.who) old new (I.remaining speaker.input)
-        (O.contents speaker.output) (O.contents left.output) left.ended left.told left.took_refreshes };
+        (O.contents speaker.output) (O.contents left.wire.output) left.ended left.wire.events.list left.told
+        left.took_refreshes };
 
     ghost told = { λ left. left.told };
 
     ghost took = { λ left. left.took_refreshes };
 
-    fn commits_told(left: &StreamLeft<O>) -> u64 {
+    fn commits_told(left: &StreamLeft<I, O>) -> u64 {
         left.told
     }
 
-    fn took_refreshes(left: &StreamLeft<O>) -> bool {
+    fn took_refreshes(left: &StreamLeft<I, O>) -> bool {
         left.took_refreshes
     }
 }
@@ -133,7 +137,7 @@ impl<R: Wait, I: Read + Drop, O: Write + Drop, Y: Evidence> Speaks<R, Y> for Str
         acknowledger: &K,
         server: &Server<W>,
         client: &mut Client<W>,
-    ) -> StreamLeft<O> {
+    ) -> (StreamLeft<I, O>, ToldWith<Y>) {
         speak_over::<W, R, I, O, Y, K>(rt, alloc, acknowledger, server, client, self)
     }
 }
@@ -263,22 +267,25 @@ impl<'a, F: Files, E: Print> PathClient<'a, F, E> {
         acknowledger: &K,
         server: &Server<W>,
         client: &mut Client<W>,
-    ) -> OnceLeft
+    ) -> (OnceLeft, ToldWith<Y>)
         requires table { client.old.table ≡ server.now }
         requires quiet { is_some client.old.asked ≡ false }
         ensures same { AreAlike client.old client.new }
-        ensures served { HasServedOnce (number_of client.old.who) client.old client.new result }
-        ensures keeps { result.end ≡ SessionEnd.Again → IsTrue self.now.keeps }
+        ensures served { HasServedOnce (IsBetween F.File.remaining F.File.contents) (number_of client.old.who) client.old
+            client.new result.0 }
+        ensures told { result.1 ≡ result.0.told }
+        ensures keeps { result.0.end ≡ SessionEnd.Again → IsTrue self.now.keeps }
     {
         let ends = match open_ends(rt, self.files, &self.paths, self.attendant, self.number) {
             Ok(ends) => ends,
             Err(fault) => {
                 self.tell(&ClientFault::End(fault));
-                return OnceLeft {
+                let once = OnceLeft {
                     end: SessionEnd::Broken,
                     told: 0,
                     took_refreshes: acknowledger.takes_refreshes(),
                 };
+                return (once, ToldWith::nothing());
             }
         };
         let comes_again = self.keeps && ends.are_named_pipes();
@@ -289,12 +296,7 @@ impl<'a, F: Files, E: Print> PathClient<'a, F, E> {
             number: self.number,
         };
         let ends = StreamClient { input, output };
-        let StreamLeft {
-            ended,
-            told,
-            output,
-            took_refreshes,
-        } = speak_over::<W, R, AttendedInput<'a, F::File>, F::File, Y, K>(
+        let (left, told_with) = speak_over::<W, R, AttendedInput<'a, F::File>, F::File, Y, K>(
             rt,
             alloc,
             acknowledger,
@@ -302,16 +304,23 @@ impl<'a, F: Files, E: Print> PathClient<'a, F, E> {
             client,
             ends,
         );
-        output.drop();
+        let StreamLeft {
+            wire,
+            ended,
+            told,
+            took_refreshes,
+        } = left;
+        wire.into_output().drop();
         if acknowledger.has_failed() {
             self.attendant.fail();
         }
         let end = self.end_of(rt, ended, comes_again, acknowledger.has_failed());
-        OnceLeft {
+        let once = OnceLeft {
             end,
             told,
             took_refreshes,
-        }
+        };
+        (once, told_with)
     }
 }
 
@@ -324,11 +333,29 @@ pub struct PathLeft {
     pub took_refreshes: bool,
 }
 
+// What such a client leaves, with the evidence of what it was told.
+fn left_behind<Y: Evidence>(
+    was_served: bool,
+    told_with: ToldWith<Y>,
+    took_refreshes: bool,
+) -> (PathLeft, ToldWith<Y>)
+    ensures left { result.0
+        ≡ record { was_served = was_served; told = told_with; took_refreshes = took_refreshes } }
+    ensures told { result.1 ≡ told_with }
+{
+    let left = PathLeft {
+        was_served,
+        told: told_with.commits(),
+        took_refreshes,
+    };
+    (left, told_with)
+}
+
 impl<'a, F: Files, E: Print> Speaker for PathClient<'a, F, E> {
     type Left = PathLeft;
 
-    // The sessions that the client had, over whatever ends the system opened.
-    ghost spoken = { λ _ old new left. HasLeft (number_of old.who) old new left };
+    // The sessions that the client had, each between two ends that the system opened.
+    ghost spoken = { λ _ old new left. HasLeft (IsBetween F.File.remaining F.File.contents) (number_of old.who) old new left };
 
     ghost told = { λ left. left.told };
 
@@ -351,29 +378,17 @@ impl<'a, R: Wait + Clock, F: Files, E: Print, Y: Evidence> Speaks<R, Y> for Path
         acknowledger: &K,
         server: &Server<W>,
         client: &mut Client<W>,
-    ) -> PathLeft {
-        let mut told: u64 = 0;
+    ) -> (PathLeft, ToldWith<Y>) {
+        let mut told_with = ToldWith::nothing();
         let mut took_refreshes = true;
         for _ in rt.forever() {
-            let once = self.speak_once(rt, alloc, acknowledger, server, client);
-            told = told.max(once.told);
+            let (once, once_told) = self.speak_once(rt, alloc, acknowledger, server, client);
+            told_with.add(once_told);
             took_refreshes = took_refreshes && once.took_refreshes;
             match once.end {
                 SessionEnd::Again => self.rest(rt),
-                SessionEnd::Last => {
-                    return PathLeft {
-                        was_served: true,
-                        told,
-                        took_refreshes,
-                    };
-                }
-                SessionEnd::Broken => {
-                    return PathLeft {
-                        was_served: false,
-                        told,
-                        took_refreshes,
-                    };
-                }
+                SessionEnd::Last => return left_behind(true, told_with, took_refreshes),
+                SessionEnd::Broken => return left_behind(false, told_with, took_refreshes),
             }
         }
         unreachable!()

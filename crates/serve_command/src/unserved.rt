@@ -1,7 +1,7 @@
 //! Why the sessions of a server with a journal were not served, or not to their end.
 
-ghost use Rattle.std.specs.Prelude.{◌≡◌, None, Some};
-ghost use Rattle.serve_command.specs.declared.unserved.JournaledFault.TheVariants.{Disturbed, OutOfMemory};
+ghost use Rattle.std.specs.Prelude.{◌≡◌};
+ghost use Rattle.serve_command.specs.declared.unserved.JournaledFault.TheVariants.{OutOfMemory};
 
 use ssb_journal::ReplayFault;
 use ssb_serving::RunFault;
@@ -44,32 +44,9 @@ impl<T: Drop> From<AllocFailed<T>> for JournaledFault {
     }
 }
 
-/// Why the sessions were not served, or not to their end, and the journal's disk: none where at the end one had the
-/// journal out, and then it is `Disturbed`.
+/// Why the sessions were not served, or not to their end, and the journal's disk.
 #[derive(Drop)]
 pub struct UnservedSessions<D: Drop> {
     pub fault: JournaledFault,
-    pub disk: Option<D>,
-}
-
-impl<D: Drop> UnservedSessions<D> {
-    // With the disk.
-    pub(crate) fn new(fault: JournaledFault, disk: D) -> UnservedSessions<D>
-        ensures { result ≡ record { fault = fault; disk = Some disk } }
-    {
-        UnservedSessions {
-            fault,
-            disk: Some(disk),
-        }
-    }
-
-    // One has the journal out, and its disk.
-    pub(crate) fn lost() -> UnservedSessions<D>
-        ensures { result ≡ record { fault = Disturbed; disk = None } }
-    {
-        UnservedSessions {
-            fault: JournaledFault::Disturbed,
-            disk: None,
-        }
-    }
+    pub disk: D,
 }

@@ -70,7 +70,7 @@ where
             acknowledger,
             evidence: _,
         } = self;
-        let left = speaker.speak(rt, alloc, acknowledger, server, &mut client);
+        let (left, _) = speaker.speak(rt, alloc, acknowledger, server, &mut client);
         // Who waits for the row store was to be woken by one of the commits that this client makes no more.
         server.ring();
         Spoken { client, left }

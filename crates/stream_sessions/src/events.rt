@@ -41,3 +41,6 @@ impl Events {
         ensures { self.new.list ≡ Passes _text.now _commits ∷ self.old.list }
     {}
 }
+
+// It owns nothing, so it may go to any thread.
+unsafe impl Send for Events {}

@@ -34,6 +34,7 @@
 //! ```text
 //! serve_requests(&service, &mut client, script, &mut report, &mut told, &mut NoMeter)?;
 //! let SessionLeft { wire, outcome } = serve_session(&service, &mut client, input, output, true);
+//! let (closed, told) = wire.close();
 //! ```
 #![tactic(auto)]
 
@@ -56,6 +57,7 @@ mod service;
 mod session;
 mod speaks;
 mod step;
+mod told_with;
 mod wire;
 
 pub use acknowledges::{Acknowledges, AtOnce, Evidence, NotAcknowledged, Nothing};
@@ -67,4 +69,5 @@ pub use serve_error::{ServeError, ServeStop};
 pub use service::Service;
 pub use session::{SessionLeft, serve_session};
 pub use speaks::{Speaker, Speaks};
-pub use wire::{NotPassed, Wire};
+pub use told_with::ToldWith;
+pub use wire::{ClosedWire, NotPassed, Wire};

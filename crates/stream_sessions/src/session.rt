@@ -26,7 +26,7 @@ use std::sync::Wait;
 
 /// A session: its wire, the manner in which its client is served, and the replies that are held.
 #[derive(Drop)]
-pub(crate) struct Session<I: Read + Drop, O: Write + Drop, E> {
+pub(crate) struct Session<I: Read + Drop, O: Write + Drop, E: Evidence> {
     pub(crate) wire: Wire<I, O, E>,
     pub(crate) manner: Manner,
     pub(crate) replies: Vec<u8>,
@@ -34,7 +34,7 @@ pub(crate) struct Session<I: Read + Drop, O: Write + Drop, E> {
 
 /// What a session leaves: its wire, and how it ended.
 #[derive(Drop)]
-pub struct SessionLeft<I: Read + Drop, O: Write + Drop, E> {
+pub struct SessionLeft<I: Read + Drop, O: Write + Drop, E: Evidence> {
     pub wire: Wire<I, O, E>,
     pub outcome: Result<Served, SessionError>,
 }

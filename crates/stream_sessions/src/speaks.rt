@@ -6,6 +6,7 @@ ghost use Rattle.history.specs.Tokens.{TokenRecord};
 ghost use Rattle.stream_sessions.specs.OneRequest.{AreAlike};
 
 use crate::acknowledges::{Acknowledges, Evidence};
+use crate::told_with::ToldWith;
 use row_store::Follower;
 use ssb_clients::{Client, Server};
 use std::alloc::Global;
@@ -35,7 +36,8 @@ pub trait Speaker {
 
 /// Serves a client in the thread that is started for it: it opens the client's streams, serves one session over them or
 /// several, by [`serve_session`](crate::serve_session) with this acknowledger, and gives the client back, which asks
-/// nothing then. It tells its client of commits with this evidence.
+/// nothing then. It tells its client of commits with this evidence, and hands back the evidence of as many as it told of:
+/// a wire of another evidence leaves none.
 pub trait Speaks<R, E: Evidence>: Speaker {
     fn speak<W: Follower + Drop, K: Acknowledges<E>>(
         self,
@@ -44,9 +46,10 @@ pub trait Speaks<R, E: Evidence>: Speaker {
         acknowledger: &K,
         server: &Server<W>,
         client: &mut Client<W>,
-    ) -> Self::Left
+    ) -> (Self::Left, ToldWith<E>)
         requires table { client.old.table ≡ server.now }
         requires quiet { is_some client.old.asked ≡ false }
         ensures same { AreAlike client.old client.new }
-        ensures spoken { Self.spoken self client.old client.new result };
+        ensures spoken { Self.spoken self client.old client.new result.0 }
+        ensures told { result.1 ≡ Self.told result.0 };
 }

@@ -9,6 +9,7 @@ ghost use Rattle.stream_sessions.specs.Session.{most_bytes};
 
 use crate::acknowledges::Evidence;
 use crate::events::Events;
+use crate::told_with::ToldWith;
 use ssb_script::{MOST_BYTES, NextRequest, RequestError, next_request};
 use ssb_text::write_bytes;
 use std::io::{BufRead, BufReader, Read, Write};
@@ -24,15 +25,14 @@ pub struct NotPassed;
 /// evidence in hand of as many commits as they tell of. There is no other way to either, so that what was read and what
 /// was passed on stand in one history, which contracts see.
 #[derive(Drop)]
-pub struct Wire<I: Read + Drop, O: Write + Drop, E> {
+pub struct Wire<I: Read + Drop, O: Write + Drop, E: Evidence> {
     input: BufReader<I>,
     output: O,
-    told: u64,
+    told: ToldWith<E>,
     events: Events,
-    evidence: PhantomData<E>,
 }
 
-impl<I: Read + Drop, O: Write + Drop, E> Model for Wire<I, O, E> {
+impl<I: Read + Drop, O: Write + Drop, E: Evidence> Model for Wire<I, O, E> {
     ghost use Rattle.std.specs.Prelude.{◌≡◌};
     ghost use Rattle.std.specs.Io.Buffered.{reader_buffer, reader_remaining};
     ghost use Rattle.stream_sessions.specs.Events.{WireRecord, most_covered};
@@ -62,31 +62,29 @@ impl<I: Read + Drop, O: Write + Drop, E: Evidence> Wire<I, O, E> {
         Wire {
             input,
             output,
-            told: 0,
+            told: ToldWith::nothing(),
             events: Events::new(),
-            evidence: PhantomData,
         }
     }
 
-    /// Of how many commits was told.
-    pub fn told(&self) -> u64
-        ensures { result ≡ most_covered self.now.events }
-    {
-        self.told
-    }
-
-    /// The output.
-    pub fn into_output(self) -> O
-        ensures { O.contents result ≡ self.written }
+    /// Closes the end that is read, and hands the other back; and of how many commits was told, with their evidence.
+    pub fn close(self) -> (ClosedWire<I, O>, ToldWith<E>)
+        ensures written { O.contents result.0.output ≡ self.written }
+        ensures events { result.0.events.list ≡ self.events }
+        ensures told { result.1 ≡ most_covered self.events }
     {
         let Wire {
             input: _,
             output,
-            told: _,
-            events: _,
-            evidence: _,
+            told,
+            events,
         } = self;
-        output
+        let closed = ClosedWire {
+            output,
+            events,
+            input: PhantomData,
+        };
+        (closed, told)
     }
 
     /// The bytes at hand: those that were read, and not yet taken.
@@ -129,11 +127,11 @@ impl<I: Read + Drop, O: Write + Drop, E: Evidence> Wire<I, O, E> {
     /// Writes a text that tells of the first commits, so many of them at most, and hands it on.
     pub(crate) fn pass_on(
         &mut self,
-        _evidence: E,
+        evidence: E,
         commits: u64,
         text: &[u8],
     ) -> Result<(), NotPassed>
-        requires { E.covers _evidence commits }
+        requires { E.covers evidence commits }
         ensures written { MatchResult result (λ _. Appends self.old.written self.new.written text.now)
             (λ _. AppendsPart self.old.written self.new.written text.now) }
         ensures at_hand { self.new.at_hand ≡ self.old.at_hand }
@@ -141,10 +139,43 @@ impl<I: Read + Drop, O: Write + Drop, E: Evidence> Wire<I, O, E> {
         ensures events { self.new.events ≡ Passes text.now commits ∷ self.old.events }
     {
         self.events.passes(text, commits);
-        if self.told < commits {
-            self.told = commits;
-        }
+        self.told.tell(evidence, commits);
         hand_over(&mut self.output, text)
+    }
+}
+
+/// What is left of a wire: its output, and what went over it, which contracts see. It is made of a wire between such ends
+/// alone, or of an output over which nothing went.
+#[derive(Drop)]
+pub struct ClosedWire<I: Read + Drop, O: Write + Drop> {
+    output: O,
+    events: Events,
+    input: PhantomData<I>,
+}
+
+impl<I: Read + Drop, O: Write + Drop> ClosedWire<I, O> {
+    /// Of an output over which nothing went.
+    pub fn unused(output: O) -> ClosedWire<I, O>
+        ensures output { result.output ≡ output }
+        ensures events { result.events.list ≡ [] }
+    {
+        ClosedWire {
+            output,
+            events: Events::new(),
+            input: PhantomData,
+        }
+    }
+
+    /// The output.
+    pub fn into_output(self) -> O
+        ensures { result ≡ self.output }
+    {
+        let ClosedWire {
+            output,
+            events: _,
+            input: _,
+        } = self;
+        output
     }
 }
 

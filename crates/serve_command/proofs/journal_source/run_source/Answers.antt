@@ -3,6 +3,7 @@ use Rattle.journal.specs.Groups.{recovered}
 use Rattle.journal_opening.specs.Kept.{HasCommits, IsKnown}
 use Rattle.journal_opening.specs.declared.start.JournalStart.TheVariants.{Begins}
 use Rattle.serve_command.specs.JournaledRun.{IsJournaledRun}
+use Rattle.serve_command.specs.LeftFiles.{IsLeftFile, KeepsFound}
 use Rattle.serve_command.specs.Journals.{RefusesFile}
 use Rattle.serve_command.specs.Remade.{IsNotRemade}
 use Rattle.serve_command.specs.declared.fault.ServeRefusal.TheVariants.{Journal}
@@ -20,7 +21,7 @@ returns-in-Err-clause-refused g c = λ status.
     (refused_remade source.loaded source.marks.now c.start.result c.path.result.now c.args.dispatchers _
     (Journal c.in-Err.fault)
     (refused_reading source.loaded source.marks.now c.start.result c.path.result.now c.args.dispatchers _ _ _ _
-    c.in-Err.fault c.in-Err.ensures.known_err (g.met.U.UnreadDisk.as_known c.in-Err.field-0-1)
+    c.in-Err.fault c.in-Err.ensures.known_err (g.met.U.UnreadDisk.as_known c.in-Err.file)
     c.in-Err.ensures.fault) status)
 
 pub returns-in-Err-remake_journal-clause-refused : goal.returns-in-Err-remake_journal-clause-refused
@@ -28,7 +29,7 @@ returns-in-Err-remake_journal-clause-refused g c = λ status.
     let source = c.args.source in
     let started = c.in-Ok.started in
     let known = g.U.UnreadDisk.holds source.file in
-    let why = c.in-Err-remake_journal.refusal in
+    let why = c.in-Err-remake_journal.unserved.refusal in
     subst (λ how. RefusesFile source.loaded source.marks.now (how ≡ Begins) known)
     (c.in-Ok.ensures.start.0 ∙ c.start.ensures)
     (refused_remade source.loaded source.marks.now started.start started.path.now c.args.dispatchers known why
@@ -71,4 +72,46 @@ returns-in-Ok-run_journaled-clause-begun g c = λ begins.
           (has_kept source.marks.now file opened.kept
           (subst (λ m. IsKept m (recovered file) opened.kept) c.in-Ok-remake_journal.ensures.marks
           c.in-Ok-remake_journal.ensures.kept));
+    }
+
+pub returns-in-Err-remake_journal-clause-any_moment_err : goal.returns-in-Err-remake_journal-clause-any_moment_err
+returns-in-Err-remake_journal-clause-any_moment_err g c =
+    let marks = c.args.source.marks.now in
+    subst
+    (λ known. IsLeftFile (λ file. g.U.UnreadDisk.holds file ≡ known) (KeepsFound g.U.Whole.Disk.seen g.U.Whole.Disk.moment
+    g.U.Whole.Disk.left_since marks known) c.in-Err-remake_journal.unserved.file) c.in-Ok.ensures.known
+    c.in-Err-remake_journal.ensures.file
+
+pub returns-in-Ok-run_journaled-clause-any_moment : goal.returns-in-Ok-run_journaled-clause-any_moment
+returns-in-Ok-run_journaled-clause-any_moment g c =
+    let source = c.args.source in
+    let remade = c.in-Ok-remake_journal.remade in
+    let opened = remade.opened in
+    let file = g.U.Whole.Disk.seen opened.found in record {
+      found = opened.found;
+      commits = opened.kept.commits.items;
+      is = record {
+        is_file = subst (λ k. IsKnown k file) c.in-Ok.ensures.known c.in-Ok-remake_journal.ensures.known;
+        has = has_kept source.marks.now file opened.kept
+            (subst (λ m. IsKept m (recovered file) opened.kept) c.in-Ok-remake_journal.ensures.marks
+            c.in-Ok-remake_journal.ensures.kept);
+      };
+      any_moment = c.in-Ok-run_journaled.ensures.any_moment;
+    }
+
+pub returns-in-Err-run_journaled-clause-any_moment_err : goal.returns-in-Err-run_journaled-clause-any_moment_err
+returns-in-Err-run_journaled-clause-any_moment_err g c =
+    let source = c.args.source in
+    let remade = c.in-Ok-remake_journal.remade in
+    let opened = remade.opened in
+    let file = g.U.Whole.Disk.seen opened.found in record {
+      found = opened.found;
+      commits = opened.kept.commits.items;
+      is = record {
+        is_file = subst (λ k. IsKnown k file) c.in-Ok.ensures.known c.in-Ok-remake_journal.ensures.known;
+        has = has_kept source.marks.now file opened.kept
+            (subst (λ m. IsKept m (recovered file) opened.kept) c.in-Ok-remake_journal.ensures.marks
+            c.in-Ok-remake_journal.ensures.kept);
+      };
+      kept = c.in-Err-run_journaled.ensures.any_moment_err;
     }

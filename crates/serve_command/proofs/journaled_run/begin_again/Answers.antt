@@ -1,15 +1,14 @@
 use Rattle.std.proofs.Common.{subst, sym}
 use Rattle.journal.specs.Groups.{recovered as recovered_groups}
 use Rattle.serve_command.specs.BegunFiles.{KeepsBegun}
-use Rattle.ssb_journal.proofs.CountLaws.{kept_have_first}
 use Rattle.serve_command.proofs.BeginningLaws.{keeps_first, kept_in_beginning, kept_unwritten}
+use Rattle.ssb_journal.proofs.CountLaws.{kept_have_first}
 use Rattle.serve_command.proofs.journaled_run.begin_again.Goals.{in-Ok, in-Err+else-kept}
 use Rattle.serve_command.proofs.journaled_run.begin_again.Goals as goal
 
 pub returns-then-kept-clause-any_moment_err : goal.returns-then-kept-clause-any_moment_err
 returns-then-kept-clause-any_moment_err g c =
     let found = c.args.opened.found in
-    rw c.new.ensures
     (kept_in_beginning g.D.Disk.moment g.D.Disk.left_since found c.in-Err.disk c.args.marks.now c.args.opened.kept
     (recovered_groups (g.D.Disk.seen found)) c.first_of_log.ensures c.requires.kept c.in-Err.ensures.any_moment_err)
 
@@ -28,8 +27,9 @@ returns-clause-kept g c =
           (sym w.file-is) (
             kept_unwritten g.D.Disk.moment g.D.Disk.left_since g.D.Disk.may_leave g.D.Disk.seen found w.in-Err.disk marks kept
                 (recovered_groups (g.D.Disk.seen found)) c.args.reader.seen kept.count (g.met.D.Disk.counts_now w.in-Err.disk)
-                c.first_of_log.ensures c.requires.kept w.if-kept.false w.in-Err.ensures.any_moment_err c.requires.seen kept.counted,
-            kept_have_first marks kept (recovered_groups (g.D.Disk.seen found)) (g.D.Disk.promised w.in-Err.disk) c.args.reader.seen
-                c.requires.kept w.if-kept.false w.in-Err.ensures.promised_err c.requires.seen,
+                c.first_of_log.ensures c.requires.kept w.if-kept.false w.in-Err.ensures.any_moment_err c.requires.seen
+                kept.counted,
+            kept_have_first marks kept (recovered_groups (g.D.Disk.seen found)) (g.D.Disk.promised w.in-Err.disk)
+                c.args.reader.seen c.requires.kept w.if-kept.false w.in-Err.ensures.promised_err c.requires.seen,
           )
     ]

@@ -1,5 +1,4 @@
-use Rattle.std.proofs.Common.{◌≡◌, ◌∙◌, Err, List, length, ap, inr, refl, subst, sym, arith, rules}
-use Rattle.std.proofs.lemmas.Option.{IfSome_then}
+use Rattle.std.proofs.Common.{◌≡◌, ◌∙◌, Err, List, length, ap, refl, subst, sym, arith, rules}
 use Rattle.journal.specs.Groups.{recovered as recovered_groups}
 use Rattle.row_store.proofs.PrefixLaws.{beginnings_chain}
 use Rattle.row_store.specs.History.{CommitRecord, IsPrefix}
@@ -10,7 +9,6 @@ use Rattle.serve_command.proofs.RunLaws.{journaled_run, later_begins, left_of_lo
 use Rattle.serve_command.proofs.RunLaws.{ready_to_close, seated_quiet, told_each}
 use Rattle.ssb_journal.specs.Kept.{IsAsItWasOrNew}
 use Rattle.serve_command.specs.BegunFiles.{disk_of}
-use Rattle.serve_command.specs.JournaledRun.{HasKept, IsFoundOrKept}
 use Rattle.serve_command.specs.Reading.{IsLater}
 use Rattle.ssb_serving.specs.Members.{IsStill}
 use Rattle.history.specs.Tokens.{TokenRecord}
@@ -125,7 +123,7 @@ returns-clause-any_moment g c =
 pub returns-in_default-clause-any_moment_err : goal.returns-in_default-clause-any_moment_err
 returns-in_default-clause-any_moment_err g c =
     let found = c.args.remade.opened.found in
-    rw (c.new.ensures, c.into_disk-disk.ensures)
+    rw c.into_disk.ensures
     (kept_in_beginning g.D.Disk.moment g.D.Disk.left_since found (disk_of c.in_ok-begun.begun.file)
     c.args.remade.marks.now c.args.remade.opened.kept (recovered_groups (g.D.Disk.seen found))
     c.first_of_log.ensures c.requires.kept c.in_ok-begun.ensures.any_moment)
@@ -136,7 +134,6 @@ returns-then-not-all_are_kept-clause-any_moment_err g c =
     let found = c.args.remade.opened.found in
     let begun = c.in_ok-begun.begun in
     let left = c.in_ok-ended.left in
-    rw c.new-then-not-all_are_kept.ensures
     (kept_since g.D.Disk.moment g.D.Disk.left_since found (disk_of begun.file) left.disk c.args.remade.marks.now kept
     (recovered_groups (g.D.Disk.seen found)) begun.count begun.reader.seen c.first_of_log.ensures c.requires.kept
     c.in_ok-begun.ensures.any_moment
@@ -160,23 +157,15 @@ returns-in_err-ended-clause-any_moment_err g c =
     let begun = c.in_ok-begun.begun in
     let is : c.from_residual-in_err-ended.result ≡ Err c.in_err-ended.field-0.0 = search rules in
     rw is
-    (IfSome_then c.in_err-ended.field-0.0.disk
-    {P = HasKept g.D.Disk.moment g.D.Disk.left_since (disk_of begun.file) begun.count begun.reader.seen}
-    {Q = IsFoundOrKept g.D.Disk.moment g.D.Disk.left_since found kept.commits.items} c.in_err-ended.ensures.since_err
-    (λ disk has. kept_since g.D.Disk.moment g.D.Disk.left_since found (disk_of begun.file) disk c.args.remade.marks.now kept
-    (recovered_groups (g.D.Disk.seen found)) begun.count begun.reader.seen c.first_of_log.ensures c.requires.kept
-    c.in_ok-begun.ensures.any_moment
-    c.in_ok-begun.ensures.count (ap (λ (t : TokenRecord). t.seen) c.in_ok-begun.ensures.reader ∙ c.requires.at_log.seen) has))
+    (kept_since g.D.Disk.moment g.D.Disk.left_since found (disk_of begun.file) c.in_err-ended.field-0.0.disk
+    c.args.remade.marks.now kept (recovered_groups (g.D.Disk.seen found)) begun.count begun.reader.seen
+    c.first_of_log.ensures c.requires.kept c.in_ok-begun.ensures.any_moment c.in_ok-begun.ensures.count
+    (ap (λ (t : TokenRecord). t.seen) c.in_ok-begun.ensures.reader ∙ c.requires.at_log.seen) c.in_err-ended.ensures.since_err)
 
 pub returns-in_err-closed-clause-fault : goal.returns-in_err-closed-clause-fault
 returns-in_err-closed-clause-fault g c =
     let is : c.from_residual-in_err-closed.result ≡ Err c.in_err-closed.field-0.0 = search rules in
     rw (is, c.in_err-closed.ensures.handed) tt
-
-pub returns-in_err-closed-clause-handed : goal.returns-in_err-closed-clause-handed
-returns-in_err-closed-clause-handed g c =
-    let is : c.from_residual-in_err-closed.result ≡ Err c.in_err-closed.field-0.0 = search rules in
-    rw (is, c.in_err-closed.ensures.handed) (inr refl)
 
 pub returns-in_err-closed-clause-any_moment_err : goal.returns-in_err-closed-clause-any_moment_err
 returns-in_err-closed-clause-any_moment_err g c =

@@ -7,7 +7,7 @@ use Rattle.serve_command.proofs.remade.read_next.Goals as goal
 pub returns-in-Err-clause-fault : goal.returns-in-Err-clause-fault
 returns-in-Err-clause-fault g c = λ dispatchers.
     refused_reading c.args.server.now.base c.args.journal.reader.marks c.args.journal.start c.args.journal.path.now
-    dispatchers _ _ _ _ c.in-Err.fault c.in-Err.ensures.known_err (g.met.U.UnreadDisk.as_known c.in-Err.field-0-1)
+    dispatchers _ _ _ _ c.in-Err.fault c.in-Err.ensures.known_err (g.met.U.UnreadDisk.as_known c.in-Err.file)
     c.in-Err.ensures.fault
 
 pub returns-clause-fault : goal.returns-clause-fault

@@ -8,7 +8,7 @@ use Rattle.serve_command.proofs.serving.serve_clients.Goals as goal
 
 pub returns-in-Ok-run_over-clause-served : goal.returns-in-Ok-run_over-clause-served
 returns-in-Ok-run_over-clause-served g c = λ closed texts are.
-    serves_clients _ _ texts _ _ _ _ _ _ (c.in-Ok-run_over.ensures.run texts are)
+    serves_clients _ _ _ texts _ _ _ _ _ _ (c.in-Ok-run_over.ensures.run texts are)
     (sym c.in-Ok.speakers.ok.0 ∙ c.in-Ok.ensures)
     (λ place one here. told_is_kept g.P.Disk.Disk.may_leave g.P.Disk.Disk.seen (λ left. left.told) _ _ _ _ place one
     _ c.in-Ok-run_over.ensures.kept c.in-Ok-run_over.ensures.told here c.disk_of.ensures

@@ -5,15 +5,15 @@ use Rattle.serve_command.proofs.StatusLaws.{serving_failed, serving_told}
 use Rattle.serve_command.proofs.serving.serve_stream.Goals as goal
 
 pub returns-in-Ok-clause-ended : goal.returns-in-Ok-clause-ended
-returns-in-Ok-clause-ended g c = λ texts are.
-    ends_alone _ _ _ _ texts _ _ _ _ _ _ (c.in-Ok.ensures.ended texts are)
+returns-in-Ok-clause-ended g c = λ texts are. rw c.into_output.ensures
+    (ends_alone _ _ _ _ texts _ _ _ _ _ _ (c.in-Ok.ensures.ended texts are)
     (λ log told kept. kept_on_disk g.P.Disk.Disk.may_leave g.P.Disk.Disk.seen _ _ log told _ kept c.disk_of.ensures
     (λ zero. all_written _ _ _ c.was_written-written.ensures.written (c.tell_end.ensures.written zero)))
     c.tell_end.ensures.served
     (λ broke. ⊎_elim (λ not. inr (one_unwritten _ _ _ c.args.place _ c.was_written-written.ensures.written not
     c.in-Ok.ensures.took c.in-Ok.ensures.journal)) (λ err. inl err) (c.tell_end.ensures.broken broke))
     (λ so. ⊎_elim (λ zero. c.was_written-written.ensures.took (c.tell_end.ensures.written zero))
-    (λ none. c.in-Ok.ensures.took (none_placed c.args.place _ none)) so)
+    (λ none. c.in-Ok.ensures.took (none_placed c.args.place _ none)) so))
 
 pub returns-in-Ok-clause-disk : goal.returns-in-Ok-clause-disk
 returns-in-Ok-clause-disk g c = disk_there _ _ c.disk_of.ensures ∙ c.in-Ok.ensures.journal
