@@ -9,39 +9,38 @@ use Rattle.query_command.specs.declared.board.BoardFault.{BoardFault}
 use Rattle.query_command.specs.declared.board.BoardFault.TheVariants as board
 use Rattle.query_command.specs.declared.board.BoardLineFault.{BoardLineFault}
 use Rattle.query_command.specs.declared.board.BoardLineFault.TheVariants as line
-use Rattle.ssb_questions.specs.declared.query.Query.{Query}
-use Rattle.ssb_questions.specs.declared.value.Value.{Value}
+use Rattle.query_command.specs.declared.asking.ReportAsked.{ReportAsked}
 use Rattle.ssb_text.specs.Records.{GivesNext, HasGiven, HasRecords}
 use Rattle.ssb_text.specs.Spelling.{field, without_spaces}
 use Rattle.ssb_text.specs.declared.records.ReadError.TheVariants as read
 
 -- a line more
-pub lines_more : (records : List (List (List ℕ))) (titles : List (List ℕ)) (questions : List (Query × List Value))
-    (fields : List (List ℕ)) (title : List ℕ) (question : Query × List Value) → AreLines records titles questions
-    → IsLine fields title question
-    → AreLines (records ++ fields ∷ []) (titles ++ title ∷ []) (questions ++ question ∷ [])
-lines_more [] [] [] fields title question so_far one = grind arith
-lines_more [] [] (q ∷ qs) fields title question so_far one = grind arith
-lines_more [] (t ∷ ts) [] fields title question so_far one = grind arith
-lines_more [] (t ∷ ts) (q ∷ qs) fields title question so_far one = grind arith
-lines_more (r ∷ rs) [] [] fields title question so_far one = grind arith
-lines_more (r ∷ rs) [] (q ∷ qs) fields title question so_far one = grind arith
-lines_more (r ∷ rs) (t ∷ ts) [] fields title question so_far one = grind arith
-lines_more (r ∷ rs) (t ∷ ts) (q ∷ qs) fields title question so_far one = grind (arith, lines_more rs ts qs fields title question so_far.1 one)
+pub lines_more : (records : List (List (List ℕ))) (titles : List (List ℕ)) (asked : List ReportAsked)
+    (fields : List (List ℕ)) (title : List ℕ) (one : ReportAsked) → AreLines records titles asked
+    → IsLine fields title one
+    → AreLines (records ++ fields ∷ []) (titles ++ title ∷ []) (asked ++ one ∷ [])
+lines_more [] [] [] fields title one so_far line_is = grind arith
+lines_more [] [] (q ∷ qs) fields title one so_far line_is = grind arith
+lines_more [] (t ∷ ts) [] fields title one so_far line_is = grind arith
+lines_more [] (t ∷ ts) (q ∷ qs) fields title one so_far line_is = grind arith
+lines_more (r ∷ rs) [] [] fields title one so_far line_is = grind arith
+lines_more (r ∷ rs) [] (q ∷ qs) fields title one so_far line_is = grind arith
+lines_more (r ∷ rs) (t ∷ ts) [] fields title one so_far line_is = grind arith
+lines_more (r ∷ rs) (t ∷ ts) (q ∷ qs) fields title one so_far line_is = grind (arith, lines_more rs ts qs fields title one so_far.1 line_is)
 
--- so many records that a reader has given of a text have these titles and questions
+-- so many records that a reader has given of a text have these titles and asked
 pub record HasRead {R : Type 0} (remaining : R → Option (List ℕ)) (text : List ℕ) (reader : Reader R) (count : ℕ)
-    (titles : List (List ℕ)) (questions : List (Query × List Value)) : Type 0 where
+    (titles : List (List ℕ)) (asked : List ReportAsked) : Type 0 where
   pub records : List (List (List ℕ))
   pub given : HasGiven remaining text reader records
   pub many : length records ≡ count
-  pub lines : AreLines records titles questions
+  pub lines : AreLines records titles asked
 
 -- the same, of whatever text is known
 abbrev pub HasReadKnown : {R : Type 0} → (R → Option (List ℕ)) → Option (List ℕ) → Reader R → ℕ → List (List ℕ)
-    → List (Query × List Value) → Type 0
-HasReadKnown remaining known reader count titles questions =
-    (text : List ℕ) → known ≡ Some text → HasRead remaining text reader count titles questions
+    → List ReportAsked → Type 0
+HasReadKnown remaining known reader count titles asked =
+    (text : List ℕ) → known ≡ Some text → HasRead remaining text reader count titles asked
 
 -- at the start nothing was read
 pub read_nothing : {R : Type 0} (remaining : R → Option (List ℕ)) (text : List ℕ) (reader : Reader R)
@@ -50,25 +49,25 @@ read_nothing remaining text reader given = record { records = []; given = given;
 
 -- one record more
 pub read_more : {R : Type 0} (remaining : R → Option (List ℕ)) (text : List ℕ) (old new : Reader R) (count : ℕ)
-    (titles : List (List ℕ)) (questions : List (Query × List Value)) (fields : List (List ℕ)) (title : List ℕ)
-    (question : Query × List Value)
-    → HasRead remaining text old count titles questions → GivesNext remaining old new true fields
-    → IsLine fields title question
-    → HasRead remaining text new (count + 1) (titles ++ title ∷ []) (questions ++ question ∷ [])
-read_more remaining text old new count titles questions fields title question so_far next one = record {
+    (titles : List (List ℕ)) (asked : List ReportAsked) (fields : List (List ℕ)) (title : List ℕ)
+    (one : ReportAsked)
+    → HasRead remaining text old count titles asked → GivesNext remaining old new true fields
+    → IsLine fields title one
+    → HasRead remaining text new (count + 1) (titles ++ title ∷ []) (asked ++ one ∷ [])
+read_more remaining text old new count titles asked fields title one so_far next line_is = record {
   records = so_far.records ++ fields ∷ [];
   given = next text so_far.records so_far.given;
   many = length_push so_far.records fields ∙ ap (λ n. n + 1) so_far.many;
-  lines = lines_more so_far.records titles questions fields title question so_far.lines one;
+  lines = lines_more so_far.records titles asked fields title one so_far.lines line_is;
 }
 
 -- there was no more record
 pub read_all : {R : Type 0} (remaining : R → Option (List ℕ)) (text : List ℕ) (old new : Reader R) (count : ℕ)
-    (titles : List (List ℕ)) (questions : List (Query × List Value)) (fields : List (List ℕ))
-    → HasRead remaining text old count titles questions → GivesNext remaining old new false fields
+    (titles : List (List ℕ)) (asked : List ReportAsked) (fields : List (List ℕ))
+    → HasRead remaining text old count titles asked → GivesNext remaining old new false fields
     → 1 ≤ count → count ≤ most_reports
-    → IsBoard text titles questions
-read_all remaining text old new count titles questions fields so_far next some few = grind arith
+    → IsBoard text titles asked
+read_all remaining text old new count titles asked fields so_far next some few = grind arith
 
 no_records : (records : List (List (List ℕ))) → length records ≡ 0 → records ≡ []
 no_records [] none = refl
@@ -76,26 +75,26 @@ no_records (fields ∷ records) none = absurd (omega (arith, none))
 
 -- there was no record at all
 pub read_none : {R : Type 0} (remaining : R → Option (List ℕ)) (text : List ℕ) (old new : Reader R) (count : ℕ)
-    (titles : List (List ℕ)) (questions : List (Query × List Value)) (fields : List (List ℕ))
-    → HasRead remaining text old count titles questions → GivesNext remaining old new false fields
+    (titles : List (List ℕ)) (asked : List ReportAsked) (fields : List (List ℕ))
+    → HasRead remaining text old count titles asked → GivesNext remaining old new false fields
     → count ≡ 0
     → HasRecords text []
-read_none remaining text old new count titles questions fields so_far next none = grind (arith, no_records)
+read_none remaining text old new count titles asked fields so_far next none = grind (arith, no_records)
 
 -- a record that is no line, or one too many
 pub first_bad : {R : Type 0} (remaining : R → Option (List ℕ)) (text : List ℕ) (old new : Reader R) (count : ℕ)
-    (titles : List (List ℕ)) (questions : List (Query × List Value)) (fields : List (List ℕ)) (why : BoardLineFault)
-    → HasRead remaining text old count titles questions → GivesNext remaining old new true fields
+    (titles : List (List ℕ)) (asked : List ReportAsked) (fields : List (List ℕ)) (why : BoardLineFault)
+    → HasRead remaining text old count titles asked → GivesNext remaining old new true fields
     → IsLineFault fields why ⊎ ((why ≡ line.TooManyReports) × (count ≡ most_reports))
     → IsBoardFault text (board.Line (count + 1) why)
-first_bad remaining text old new count titles questions fields why so_far next fault =
+first_bad remaining text old new count titles asked fields why so_far next fault =
     let given = next text so_far.records so_far.given in
     record {
       before = so_far.records;
       fields = fields;
       begins = (_, given.unread, given.reached);
       titles = titles;
-      questions = questions;
+      asked = asked;
       lines = so_far.lines;
       number_is = ap (λ n. n + 1) (sym so_far.many);
       fault = rw so_far.many fault;
@@ -119,13 +118,13 @@ words_all fields place words all past so_far =
 
 -- the fault of the line of the next record
 pub refused_line : {R : Type 0} (remaining : R → Option (List ℕ)) (text : List ℕ) (old new : Reader R) (count : ℕ)
-    (titles : List (List ℕ)) (questions : List (Query × List Value)) (fields : List (List ℕ)) (fault : BoardFault)
-    → HasRead remaining text old count titles questions → GivesNext remaining old new true fields
+    (titles : List (List ℕ)) (asked : List ReportAsked) (fields : List (List ℕ)) (fault : BoardFault)
+    → HasRead remaining text old count titles asked → GivesNext remaining old new true fields
     → IsRefusal (IsLineFault fields) (count + 1) fault
     → IsBoardFault text fault
-refused_line remaining text old new count titles questions fields (board.Line number why) so_far next refused =
-    rw refused.0 (first_bad remaining text old new count titles questions fields why so_far next (inl refused.1))
-refused_line remaining text old new count titles questions fields (board.NoReports why) so_far next refused =
+refused_line remaining text old new count titles asked fields (board.Line number why) so_far next refused =
+    rw refused.0 (first_bad remaining text old new count titles asked fields why so_far next (inl refused.1))
+refused_line remaining text old new count titles asked fields (board.NoReports why) so_far next refused =
     absurd refused
-refused_line remaining text old new count titles questions fields board.Read so_far next refused = absurd refused
-refused_line remaining text old new count titles questions fields board.OutOfMemory so_far next refused = tt
+refused_line remaining text old new count titles asked fields board.Read so_far next refused = absurd refused
+refused_line remaining text old new count titles asked fields board.OutOfMemory so_far next refused = tt

@@ -1,6 +1,6 @@
 pub mod AskedLaws
 pub mod OpeningLaws
 pub mod ReportLaws
-pub mod StatementLaws
+pub mod AskedReportsLaws
 pub mod SizeLaws
 pub mod BoardLaws

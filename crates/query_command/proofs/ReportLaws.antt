@@ -1,12 +1,11 @@
 -- From the answers to questions to their text in a format.
 use Rattle.std.proofs.Common.{ℕ, List, [], ◌∷◌, Option, Result, Ok, Err, MatchResult, ap}
 use Rattle.std.specs.Io.KnownBytes.{Appends, Keeps}
-use Rattle.query_command.specs.Reported.{HasReport, HasReports, HaveAnswers, HaveReport}
+use Rattle.query_command.specs.Reported.{HasReport, HaveAnswers, HaveReport}
 use Rattle.ssb_questions.specs.declared.query.Query.{Query}
 use Rattle.ssb_questions.specs.declared.value.Value.{Value}
 use Rattle.ssb_answers.specs.declared.answer.Answer.{Answer}
 use Rattle.ssb_formats.specs.Formats.{answers_shown}
-use Rattle.ssb_formats.specs.Titled.{board_shown}
 use Rattle.ssb_formats.specs.declared.format.Format.{Format}
 use Rattle.ssb_files.proofs.FlushedLaws.{appended_kept, appended_whole}
 use Rattle.ssb_text.specs.Written.{AppendsPart}
@@ -20,17 +19,6 @@ report_of_answers format texts questions answers have = record {
   limited = have.limited;
   spelled = have.spelled;
   is = ap (answers_shown format) have.are;
-}
-
--- the same of answers that stand under titles
-pub reports_of_answers : (format : Format) (texts : Table → List ℕ) (titles : List (List ℕ))
-    (questions : List (Query × List Value)) (answers : List Answer) → HaveAnswers texts questions answers
-    → HasReports format texts titles questions (board_shown format titles answers)
-reports_of_answers format texts titles questions answers have = record {
-  base = have.base;
-  limited = have.limited;
-  spelled = have.spelled;
-  is = ap (board_shown format titles) have.are;
 }
 
 -- the text of one answer

@@ -1,13 +1,13 @@
 -- What a board asks: a report a line, each under its title.
 use Rattle.std.specs.Prelude.{◌≡◌, ◌⊎◌, ◌≤◌, ◌+◌, ◌==◌, ◌&&◌, ℕ, Bool, true, false, not, nat_lt}
-use Rattle.std.specs.Prelude.{List, [], ◌∷◌, ◌++◌, drop, length, map}
+use Rattle.std.specs.Prelude.{List, [], ◌∷◌, ◌++◌, codes, drop, length, map}
 use Rattle.query_command.specs.Asked.{AskNothing, IsAsked}
+use Rattle.query_command.specs.declared.asking.ReportAsked.{ReportAsked}
+use Rattle.query_command.specs.declared.asking.ReportAsked.TheVariants as asked
 use Rattle.query_command.specs.declared.board.BoardFault.{BoardFault}
 use Rattle.query_command.specs.declared.board.BoardFault.TheVariants as board
 use Rattle.query_command.specs.declared.board.BoardLineFault.{BoardLineFault}
 use Rattle.query_command.specs.declared.board.BoardLineFault.TheVariants as line
-use Rattle.ssb_questions.specs.declared.query.Query.{Query}
-use Rattle.ssb_questions.specs.declared.value.Value.{Value}
 use Rattle.ssb_text.specs.Records.{BeginsWith, HasRecords}
 use Rattle.ssb_text.specs.Spelling.{field, is_utf8, without_spaces}
 use Rattle.ssb_text.specs.declared.records.ReadError.{ReadError}
@@ -25,34 +25,45 @@ words_of fields = map without_spaces (drop 2 fields)
 abbrev pub has_title : List (List ℕ) → Bool
 has_title fields = not (length (field fields 0) == 0) && nat_lt 1 (length fields)
 
--- a line has this title, and behind it the name and the words of this question
-pub record IsLine (fields : List (List ℕ)) (title : List ℕ) (question : Query × List Value) : Type 0 where
+-- a name and words ask this: the question of the query with the name; or where that is sql, a statement
+abbrev pub Asks : List ℕ → List (List ℕ) → ReportAsked → Type 0
+Asks name words (asked.Question question) = IsAsked name words question
+Asks name words (asked.Statement statement) = name ≡ codes "sql"
+
+-- a line has this title, and behind it the name and the words that ask this
+pub record IsLine (fields : List (List ℕ)) (title : List ℕ) (one : ReportAsked) : Type 0 where
   pub title_is : title ≡ field fields 0
   pub some : has_title fields ≡ true
-  pub asked : IsAsked (field fields 1) (words_of fields) question
+  pub asks : Asks (field fields 1) (words_of fields) one
 
--- each of these records has the title and the question in its place
-abbrev pub AreLines : List (List (List ℕ)) → List (List ℕ) → List (Query × List Value) → Type 0
+-- each of these records has the title, and asks what is in its place
+abbrev pub AreLines : List (List (List ℕ)) → List (List ℕ) → List ReportAsked → Type 0
 AreLines [] [] [] = Unit {0}
-AreLines (fields ∷ records) (title ∷ titles) (question ∷ questions) =
-    IsLine fields title question × AreLines records titles questions
+AreLines (fields ∷ records) (title ∷ titles) (one ∷ asked) =
+    IsLine fields title one × AreLines records titles asked
 AreLines _ _ _ = ⊥
 
--- a text is a board of these titles and questions, 1 to 64, each on a line of its own
-pub record IsBoard (text : List ℕ) (titles : List (List ℕ)) (questions : List (Query × List Value)) : Type 0 where
+-- a text is a board of these titles, which asks this, 1 to 64 reports, each on a line of its own
+pub record IsBoard (text : List ℕ) (titles : List (List ℕ)) (asked : List ReportAsked) : Type 0 where
   pub records : List (List (List ℕ))
   pub all : HasRecords text records
-  pub lines : AreLines records titles questions
+  pub lines : AreLines records titles asked
   pub some : 1 ≤ length records
   pub few : length records ≤ most_reports
 
--- why a name and words make no question
+-- why a name and words ask nothing
 abbrev pub IsQuestionFault : List ℕ → List (List ℕ) → BoardLineFault → Type 0
 IsQuestionFault name words (line.NoSuchQuery why) = AskNothing name words
 IsQuestionFault name words (line.Constants why) = AskNothing name words
+IsQuestionFault name words (line.Sql why) = name ≡ codes "sql"
 IsQuestionFault name words line.NoTitle = ⊥
 IsQuestionFault name words line.NotUtf8 = ⊥
 IsQuestionFault name words line.TooManyReports = ⊥
+
+-- why words behind sql are no statement
+abbrev pub IsSqlFault : BoardLineFault → Type 0
+IsSqlFault (line.Sql why) = Unit {0}
+IsSqlFault _ = ⊥
 
 -- why a record is no line: a field is not UTF-8, there is no title, or what is behind it makes no question
 abbrev pub IsLineFault : List (List ℕ) → BoardLineFault → Type 0
@@ -60,6 +71,7 @@ IsLineFault fields line.NotUtf8 = (place : ℕ) × (is_utf8 (field fields place)
 IsLineFault fields line.NoTitle = has_title fields ≡ false
 IsLineFault fields (line.NoSuchQuery why) = AskNothing (field fields 1) (words_of fields)
 IsLineFault fields (line.Constants why) = AskNothing (field fields 1) (words_of fields)
+IsLineFault fields (line.Sql why) = field fields 1 ≡ codes "sql"
 IsLineFault fields line.TooManyReports = ⊥
 
 -- the fault of the line of this number, or none of the text: memory ran out
@@ -75,8 +87,8 @@ pub record IsFirstBad (text : List ℕ) (number : ℕ) (why : BoardLineFault) : 
   pub fields : List (List ℕ)
   pub begins : BeginsWith text (before ++ fields ∷ [])
   pub titles : List (List ℕ)
-  pub questions : List (Query × List Value)
-  pub lines : AreLines before titles questions
+  pub asked : List ReportAsked
+  pub lines : AreLines before titles asked
   pub number_is : number ≡ length before + 1
   pub fault : IsLineFault fields why ⊎ ((why ≡ line.TooManyReports) × (length before ≡ most_reports))
 

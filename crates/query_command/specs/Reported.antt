@@ -2,7 +2,6 @@
 use Rattle.std.specs.Prelude.{◌≡◌, ℕ, List, [], ◌∷◌, map, Option}
 use Rattle.std.specs.Io.KnownBytes.{Appends}
 use Rattle.query_command.specs.Asked.{IsAsked, standard_questions}
-use Rattle.query_command.specs.Board.{IsBoard}
 use Rattle.ssb_text.specs.Load.{SpellsBase}
 use Rattle.ssb_questions.specs.declared.query.Query.{Query}
 use Rattle.ssb_questions.specs.declared.value.Value.{Value}
@@ -11,7 +10,6 @@ use Rattle.ssb_answers.specs.declared.answer.Answer.{Answer}
 use Rattle.ssb_answers.specs.declared.answer.Answer.TheVariants as answer
 use Rattle.ssb_answers.specs.declared.answer.Rows.{Rows}
 use Rattle.ssb_formats.specs.Formats.{answers_shown}
-use Rattle.ssb_formats.specs.Titled.{board_shown}
 use Rattle.ssb_formats.specs.declared.format.Format.{Format}
 use Rattle.ssb_text.specs.Written.{AppendsPart}
 use Rattle.ssb_base.specs.Base.{Tables}
@@ -27,7 +25,7 @@ opening_answer base question = answer.Rows question 0 (answer_of question base.d
 abbrev pub opened : Rows → Answer
 opened rows = answer.Rows rows.question 0 rows.list
 
--- the five texts spell a base, within the greatest limits, whose answer to the question is this text in the format
+-- the five texts spell a base, within the limits of reports, whose answer to the question is this text in the format
 pub record HasReport (format : Format) (texts : Table → List ℕ) (question : Query × List Value) (report : List ℕ)
     : Type 0 where
   pub base : Tables
@@ -35,7 +33,7 @@ pub record HasReport (format : Format) (texts : Table → List ℕ) (question : 
   pub spelled : SpellsBase texts base
   pub is : report ≡ answers_shown format (opening_answer base question ∷ [])
 
--- the five texts spell a base, within the greatest limits, whose answers to the questions, one after another, are this
+-- the five texts spell a base, within the limits of reports, whose answers to the questions, one after another, are this
 -- text in the format
 pub record HaveReport (format : Format) (texts : Table → List ℕ) (questions : List (Query × List Value))
     (report : List ℕ) : Type 0 where
@@ -44,7 +42,7 @@ pub record HaveReport (format : Format) (texts : Table → List ℕ) (questions 
   pub spelled : SpellsBase texts base
   pub is : report ≡ answers_shown format (map (λ question. opening_answer base question) questions)
 
--- the five texts spell a base, within the greatest limits, and these are its answers to the questions
+-- the five texts spell a base, within the limits of reports, and these are its answers to the questions
 pub record HaveAnswers (texts : Table → List ℕ) (questions : List (Query × List Value)) (answers : List Answer)
     : Type 0 where
   pub base : Tables
@@ -82,34 +80,4 @@ pub record ReportsAll (format : Format) (texts : Table → List ℕ) (old new : 
 pub record ReportsAllPart (format : Format) (texts : Table → List ℕ) (old new : Option (List ℕ)) : Type 0 where
   pub report : List ℕ
   pub of_base : HaveReport format texts standard_questions report
-  pub appends : AppendsPart old new report
-
--- the five texts spell a base, within the greatest limits, whose answers to the questions, each under the title in its
--- place, are this text in the format
-pub record HasReports (format : Format) (texts : Table → List ℕ) (titles : List (List ℕ))
-    (questions : List (Query × List Value)) (report : List ℕ) : Type 0 where
-  pub base : Tables
-  pub limited : limits_of base.limits ≡ (most_dimension_rows, most_lines, standard_commits)
-  pub spelled : SpellsBase texts base
-  pub is : report ≡ board_shown format titles (map (λ question. opening_answer base question) questions)
-
--- known bytes grow by the answers to the questions of a board, in order and each under its title, over the base that
--- the texts spell, in the format
-pub record ReportsBoard (format : Format) (text : List ℕ) (texts : Table → List ℕ) (old new : Option (List ℕ))
-    : Type 0 where
-  pub titles : List (List ℕ)
-  pub questions : List (Query × List Value)
-  pub board : IsBoard text titles questions
-  pub report : List ℕ
-  pub of_base : HasReports format texts titles questions report
-  pub appends : Appends old new report
-
--- known bytes grow by a part of that text from its beginning on
-pub record ReportsBoardPart (format : Format) (text : List ℕ) (texts : Table → List ℕ) (old new : Option (List ℕ))
-    : Type 0 where
-  pub titles : List (List ℕ)
-  pub questions : List (Query × List Value)
-  pub board : IsBoard text titles questions
-  pub report : List ℕ
-  pub of_base : HasReports format texts titles questions report
   pub appends : AppendsPart old new report

@@ -4,16 +4,19 @@ ghost use Rattle.std.specs.Prelude.{◌≡◌, ◌≤◌, ℕ, List, Some, IfOk,
 ghost use Rattle.csv.specs.Records.{fields_of};
 ghost use Rattle.query_command.specs.Asked.{IsAsked};
 ghost use Rattle.query_command.specs.Board as spec;
-ghost use Rattle.query_command.specs.Board.{IsBoard, IsBoardFault, IsLine, IsLineFault, IsQuestionFault, IsRefusal};
+ghost use Rattle.query_command.specs.Board.{Asks, IsBoard, IsBoardFault, IsLine, IsLineFault, IsQuestionFault, IsRefusal};
+ghost use Rattle.query_command.specs.Board.{IsSqlFault};
 ghost use Rattle.query_command.specs.Board.{board_status, fault_of_read};
 ghost use Rattle.query_command.specs.declared.board.BoardFault.TheVariants.{OutOfMemory};
 ghost use Rattle.ssb_text.specs.Spelling.{field, is_utf8};
 
 use crate::asked::ask;
+use crate::asking::ReportAsked;
 use csv::ByteRecord;
 use ssb_files::{Fault, Finding};
 use ssb_questions::{ConstantsFault, NoSuchQuery, Question};
 use ssb_schema::Text;
+use ssb_sql::{SqlFault, Statement, statement_of};
 use ssb_text::{ReadError, next_record, record_reader, text, trimmed_at};
 use std::alloc::{AllocError, AllocFailed, Global};
 use std::io::Read;
@@ -31,6 +34,9 @@ pub enum BoardLineFault {
     /// The query does not take these constants.
     #[error("{0}")]
     Constants(ConstantsFault),
+    /// The text behind `sql` is no statement.
+    #[error("{0}")]
+    Sql(SqlFault),
     /// There is no bar, or nothing before it.
     #[error("33 NoTitle")]
     NoTitle,
@@ -102,18 +108,18 @@ impl From<ReadError> for BoardFault {
     }
 }
 
-/// The titles of a board, and the question under each.
+/// The titles of a board, and what is reported under each.
 #[derive(Drop)]
 pub struct Board {
     pub titles: Vec<Text>,
-    pub questions: Vec<Question>,
+    pub asked: Vec<ReportAsked>,
 }
 
 // A line of a board.
 #[derive(Drop)]
 struct BoardLine {
     title: Text,
-    question: Question,
+    asked: ReportAsked,
 }
 
 // A field without the spaces at its end, if it is UTF-8.
@@ -168,9 +174,38 @@ fn question_of(
     }
 }
 
+// The statement of words on the line of this number: bars in a text part it into words.
+fn statement_in(alloc: Global, number: u64, words: &[&str]) -> Result<Statement, BoardFault>
+    ensures { IfErr result (IsRefusal IsSqlFault number) }
+{
+    let text = words.join(alloc, "|")?;
+    match statement_of(alloc, text.as_str()) {
+        Ok(statement) => Ok(statement),
+        Err(SqlFault::OutOfMemory) => Err(BoardFault::OutOfMemory),
+        Err(why) => Err(BoardFault::Line(number, BoardLineFault::Sql(why))),
+    }
+}
+
+// What a name and words ask on the line of this number.
+fn asked_by(
+    alloc: Global,
+    number: u64,
+    name: &str,
+    words: &[&str],
+) -> Result<ReportAsked, BoardFault>
+    ensures asked { IfOk result (λ asked. Asks name.now (map (λ word. word.now) words.now) asked) }
+    ensures fault { IfErr result
+        (IsRefusal (IsQuestionFault name.now (map (λ word. word.now) words.now)) number) }
+{
+    if name == "sql" {
+        return Ok(ReportAsked::Statement(statement_in(alloc, number, words)?));
+    }
+    Ok(ReportAsked::Question(question_of(alloc, number, name, words)?))
+}
+
 // The line of this number that a record makes.
 fn line_of(alloc: Global, number: u64, fields: &ByteRecord) -> Result<BoardLine, BoardFault>
-    ensures line { IfOk result (λ line. IsLine (fields_of fields.now) line.title line.question) }
+    ensures line { IfOk result (λ line. IsLine (fields_of fields.now) line.title line.asked) }
     ensures fault { IfErr result (IsRefusal (IsLineFault (fields_of fields.now)) number) }
 {
     let Some(title) = cell_at(fields, 0) else {
@@ -185,9 +220,9 @@ fn line_of(alloc: Global, number: u64, fields: &ByteRecord) -> Result<BoardLine,
     if !has_title(fields) {
         return Err(BoardFault::Line(number, BoardLineFault::NoTitle));
     }
-    let question = question_of(alloc, number, name, words.as_slice())?;
+    let asked = asked_by(alloc, number, name, words.as_slice())?;
     let title = Text::from_str(alloc, title)?;
-    Ok(BoardLine { title, question })
+    Ok(BoardLine { title, asked })
 }
 
 // Whether no line stands before.
@@ -202,27 +237,27 @@ fn is_first(before: u64) -> bool
 /// 65th.
 pub fn read_board<R: Read + Drop>(alloc: Global, source: R) -> Result<Board, BoardFault>
     ensures board { IfOk result (λ board. (text : List ℕ) → R.remaining source ≡ Some text
-        → IsBoard text board.titles.items board.questions.items) }
+        → IsBoard text board.titles.items board.asked.items) }
     ensures fault { IfErr result (λ fault. (text : List ℕ) → R.remaining source ≡ Some text
         → IsBoardFault text fault) }
 {
     let mut reader = record_reader(alloc, source);
     let mut fields = ByteRecord::new(alloc);
     let mut titles = Vec::new(alloc);
-    let mut questions = Vec::new(alloc);
+    let mut asked = Vec::new(alloc);
     for before in 0..MOST_REPORTS {
         if !next_record(&mut reader, &mut fields)? {
             if is_first(before) {
                 return Err(BoardFault::NoReports(NoReports));
             }
-            return Ok(Board { titles, questions });
+            return Ok(Board { titles, asked });
         }
         let line = line_of(alloc, before + 1, &fields)?;
         titles.push(line.title)?;
-        questions.push(line.question)?;
+        asked.push(line.asked)?;
     }
     if next_record(&mut reader, &mut fields)? {
         return Err(BoardFault::Line(MOST_REPORTS + 1, BoardLineFault::TooManyReports));
     }
-    Ok(Board { titles, questions })
+    Ok(Board { titles, asked })
 }

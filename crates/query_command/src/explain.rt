@@ -16,7 +16,7 @@ ghost use Rattle.ssb_text.specs.Layouts.{AreRows};
 use crate::asked::ask;
 use crate::sizes::sizes;
 use ssb_base::Base;
-use ssb_explain::{System, explanation, sql_statement};
+use ssb_explain::{SqlTarget, explanation, sql_statement};
 use ssb_files::{Fault, LoadedFor, base_of};
 use ssb_questions::{Question, question};
 use ssb_text::{TableFiles, write_bytes};
@@ -25,11 +25,15 @@ use std::io::{Read, Write};
 use std::thread::Threads;
 
 // The text that explains a question.
-fn explained(alloc: Global, sql: Option<System>, question: &Question) -> Result<String, AllocError>
+fn explained(
+    alloc: Global,
+    sql: Option<SqlTarget>,
+    question: &Question,
+) -> Result<String, AllocError>
     ensures { IfOk result (λ text. string_bytes text ≡ explained_text sql question.now) }
 {
     match sql {
-        Some(system) => sql_statement(alloc, system, question),
+        Some(target) => sql_statement(alloc, target, question),
         None => explanation(alloc, question),
     }
 }
@@ -57,7 +61,7 @@ pub fn run_explain<W: Write, E: Write>(
     alloc: Global,
     name: &str,
     constants: &[&str],
-    sql: Option<System>,
+    sql: Option<SqlTarget>,
     out: &mut W,
     err: &mut E,
 ) -> u8

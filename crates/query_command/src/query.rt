@@ -1,11 +1,13 @@
 //! `query`: the answers to one question, to all thirteen queries or to a board over five table files.
 
 ghost use Rattle.std.specs.Prelude.{◌≡◌, ◌≢◌, ◌⊎◌, ℕ, List, false, IfOk, IfErr, OnOk, OnErr, MatchResult};
-ghost use Rattle.std.specs.Prelude.{Some, map};
+ghost use Rattle.std.specs.Prelude.{Some, flat_map, map};
 ghost use Rattle.query_command.specs.Asked.{AskNothing};
 ghost use Rattle.query_command.specs.Board.{IsRefusedBoard};
 ghost use Rattle.query_command.specs.Reported.{HaveAnswers, HaveReport, Reports, ReportsPart, ReportsAll, ReportsAllPart};
-ghost use Rattle.query_command.specs.Reported.{HasReports, ReportsBoard, ReportsBoardPart};
+ghost use Rattle.query_command.specs.BoardReported.{ReportsBoard, ReportsBoardPart};
+ghost use Rattle.query_command.specs.ReportsAsked.{HasReports, HaveReported, questions_in};
+ghost use Rattle.ssb_formats.specs.declared.reports.Reported.{Reported};
 ghost use Rattle.ssb_files.specs.Loaded.{AreRefused};
 ghost use Rattle.ssb_files.specs.Status.{status_of};
 ghost use Rattle.ssb_text.specs.Layouts.{AreRows};
@@ -16,12 +18,13 @@ ghost use Rattle.ssb_schema.specs.declared.table.Table.{Table};
 ghost use Rattle.std.specs.Io.KnownBytes.{Appends, Keeps};
 
 use crate::asked::{QuestionWords, ask, standard_questions};
+use crate::asking::{ReportAsked, push_reports, questions_of};
 use crate::board::{Board, read_board};
 use crate::opening::opening_answers;
 use crate::stopwatch::{Stopwatch, TimedStep};
 use ssb_answers::Answer;
 use ssb_files::{Fault, JobFault, LoadedFor, base_of};
-use ssb_formats::{Format, FormatFault, write_board, write_formatted};
+use ssb_formats::{Format, FormatFault, Reported, write_board, write_formatted};
 use ssb_questions::Question;
 use ssb_schema::Text;
 use ssb_text::TableFiles;
@@ -62,6 +65,45 @@ pub(crate) fn answers<R: Threads + Sync + Clock + AllocGlobal, I: Read + Drop>(
     Ok(answers)
 }
 
+// The answers to the questions of reports, over the base that the tables spell.
+pub(crate) fn asked_answers<R: Threads + Sync + Clock + AllocGlobal, I: Read + Drop>(
+    rt: &R,
+    hashing: RandomState,
+    tables: TableFiles<I>,
+    asked: &[ReportAsked],
+    watch: &mut Stopwatch,
+) -> Result<Vec<Answer>, Fault>
+    ensures answers { IfOk result (λ answers. (texts : Table → List ℕ) → AreRows I.remaining tables texts
+        → HaveAnswers texts (flat_map questions_in asked.now) answers.items) }
+    ensures data { IfErr result (λ fault. status_of fault ≡ 1 → (texts : Table → List ℕ)
+        → AreRows I.remaining tables texts → AreRefused texts) }
+    ensures later { IfErr result (λ fault. status_of fault ≢ 2) }
+{
+    let questions = match questions_of(rt.alloc(), asked) {
+        Ok(questions) => questions,
+        Err(_) => return Err(Fault::OutOfMemory),
+    };
+    answers(rt, hashing, tables, questions.as_slice(), watch)
+}
+
+// What the answers to the questions of reports make of these.
+pub(crate) fn reports_of<'a>(
+    alloc: Global,
+    asked: &[ReportAsked],
+    answers: &'a [Answer],
+) -> Result<Vec<Reported<'a>>, Fault>
+    ensures reports { IfOk result (λ reports. (texts : Table → List ℕ)
+        → HaveAnswers texts (flat_map questions_in asked.now) answers.now
+        → HaveReported texts asked.now reports.items) }
+    ensures fault { IfErr result (λ fault. status_of fault ≡ 4) }
+{
+    let mut reports = Vec::new(alloc);
+    match push_reports(alloc, asked, answers, &mut reports) {
+        Ok(()) => Ok(reports),
+        Err(_) => Err(Fault::OutOfMemory),
+    }
+}
+
 pub(crate) fn fault_of(fault: FormatFault) -> Fault
     ensures { status_of result ≡ 4 }
 {
@@ -100,20 +142,20 @@ fn write<W: Write>(
     }
 }
 
-// Writes the answers to the questions of a board, each under its title, and has the writer hand on what it holds.
+// Writes the reports of a board, each under its title, and has the writer hand on what it holds.
 fn write_titled<W: Write>(
     alloc: Global,
     format: Format,
     titles: &[Text],
-    answers: &[Answer],
+    reports: &[Reported<'_>],
     out: &mut W,
 ) -> Result<(), Fault>
     ensures written { MatchResult result
-        (λ _. Appends (W.contents out.old) (W.contents out.new) (board_shown format titles.now answers.now))
-        (λ _. AppendsPart (W.contents out.old) (W.contents out.new) (board_shown format titles.now answers.now)) }
+        (λ _. Appends (W.contents out.old) (W.contents out.new) (board_shown format titles.now reports.now))
+        (λ _. AppendsPart (W.contents out.old) (W.contents out.new) (board_shown format titles.now reports.now)) }
     ensures fault { IfErr result (λ fault. status_of fault ≡ 4) }
 {
-    match write_board(alloc, out, format, titles, answers) {
+    match write_board(alloc, out, format, titles, reports) {
         Ok(()) => hand_on(out),
         Err(fault) => Err(fault_of(fault)),
     }
@@ -250,24 +292,25 @@ fn report_board<R: Threads + Sync + Clock + AllocGlobal, I: Read + Drop, W: Writ
 ) -> Result<(), Fault>
     ensures report { OnOk result ((texts : Table → List ℕ) → AreRows I.remaining tables texts
         → (report : List ℕ)
-        × HasReports settings.format texts board.now.titles.items board.now.questions.items report
+        × HasReports settings.format texts board.now.titles.items board.now.asked.items report
         × Appends (W.contents out.old) (W.contents out.new) report) }
     ensures fault { OnErr result ((W.contents out.new ≡ W.contents out.old)
         ⊎ ((texts : Table → List ℕ) → AreRows I.remaining tables texts
         → (report : List ℕ)
-        × HasReports settings.format texts board.now.titles.items board.now.questions.items report
+        × HasReports settings.format texts board.now.titles.items board.now.asked.items report
         × AppendsPart (W.contents out.old) (W.contents out.new) report)) }
     ensures data { IfErr result (λ fault. status_of fault ≡ 1 → (texts : Table → List ℕ)
         → AreRows I.remaining tables texts → AreRefused texts) }
     ensures later { IfErr result (λ fault. status_of fault ≢ 2) }
 {
-    let questions = board.questions.as_slice();
-    let answers = answers(rt, settings.hashing, tables, questions, watch)?;
+    let asked = board.asked.as_slice();
+    let answers = asked_answers(rt, settings.hashing, tables, asked, watch)?;
+    let reports = reports_of(rt.alloc(), asked, answers.as_slice())?;
     let titles = board.titles.as_slice();
-    write_titled(rt.alloc(), settings.format, titles, answers.as_slice(), out)
+    write_titled(rt.alloc(), settings.format, titles, reports.as_slice(), out)
 }
 
-/// Writes the answers to the questions that the board in `source` asks, in order and each under its title, over the
+/// Writes the reports that the board in `source` asks for, in order and each under its title, over the
 /// base that the tables spell; or a fault line to `err`. The board is read first. The result is the exit status, as of
 /// `run_query`: 2 where the board is refused, and then nothing is written to `out`.
 pub fn run_board<

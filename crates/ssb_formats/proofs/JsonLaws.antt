@@ -13,14 +13,16 @@ use Rattle.ssb_answers.specs.declared.answer.Answer.TheVariants.{Rows, Unserved}
 use Rattle.ssb_answers.specs.declared.answer.ResultRow.{ResultRow}
 use Rattle.ssb_formats.specs.JsonText.{answer_members, list_data, row_data, sum_data, text_data, value_data}
 use Rattle.ssb_formats.specs.ReplyJson.{answer_data, refreshed_members}
+use Rattle.ssb_formats.specs.Reports.{rows_members}
 use Rattle.ssb_formats.specs.StatementText as statement
 use Rattle.ssb_formats.specs.StatementText.{cell_data}
 use Rattle.ssb_questions.specs.Query.{sum_first}
 use Rattle.ssb_questions.specs.declared.query.Query.{Query}
 use Rattle.ssb_questions.specs.declared.value.Value.{Value}
 use Rattle.ssb_questions.specs.declared.value.Value.TheVariants as printed
-use Rattle.ssb_statements.specs.declared.cell.Cell.{Cell}
-use Rattle.ssb_statements.specs.declared.cell.Cell.TheVariants.{Plain, Number}
+use Rattle.ssb_formats.specs.declared.reports.StatementRows.{StatementRows}
+use Rattle.ssb_statements.specs.declared.cell.StatementCell.{StatementCell}
+use Rattle.ssb_statements.specs.declared.cell.StatementCell.TheVariants.{Plain, Number, Decimal}
 
 value_exact : (value : Value) → has_float (value_data value) ≡ false
 value_exact (printed.Text text) = refl
@@ -54,21 +56,27 @@ pub answer_exact : (answer : Answer) → members_have_float (answer_members answ
 answer_exact (Rows question at rows) = grind (arith, items_exact, value_exact, row_exact)
 answer_exact (Unserved question cause) = grind (arith, items_exact, value_exact)
 
-cell_exact : (cell : Cell) → has_float (cell_data cell) ≡ false
+cell_exact : (cell : StatementCell) → has_float (cell_data cell) ≡ false
 cell_exact (Plain None) = refl
 cell_exact (Plain (Some value)) = value_exact value
 cell_exact (Number n) = sum_exact n
+cell_exact (Decimal None) = refl
+cell_exact (Decimal (Some n)) = refl
 
-cells_exact : (row : List Cell) → has_float (statement.row_data row) ≡ false
+cells_exact : (row : List StatementCell) → has_float (statement.row_data row) ≡ false
 cells_exact row = items_exact cell_data row cell_exact
 
 text_exact : (text : List ℕ) → has_float (text_data text) ≡ false
 text_exact text = refl
 
-pub statement_exact : (at : ℕ) (heads : List (List ℕ)) (rows : List (List Cell))
+pub statement_exact : (at : ℕ) (heads : List (List ℕ)) (rows : List (List StatementCell))
     → members_have_float (statement.members at (statement.heads_data heads) (statement.rows_data rows)) ≡ false
 statement_exact at heads rows =
     rw (items_exact text_data heads text_exact, items_exact statement.row_data rows cells_exact) refl
+
+pub titled_rows_exact : (title : List ℕ) (rows : StatementRows)
+    → members_have_float (put (codes "title") (text_data title) (rows_members rows)) ≡ false
+titled_rows_exact title rows = grind (arith, items_exact, text_exact, cells_exact)
 
 pub titled_exact : (title : List ℕ) (answer : Answer)
     → members_have_float (put (codes "title") (text_data title) (answer_members answer)) ≡ false

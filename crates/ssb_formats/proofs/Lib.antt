@@ -1,4 +1,5 @@
 pub mod CellLaws
+pub mod CsvLaws
 pub mod JsonLaws
 pub mod ShownLaws
 pub mod TextLaws

@@ -1,6 +1,9 @@
 -- An answer as CSV, as the kit's writer quotes it.
-use Rattle.std.specs.Prelude.{◌≡◌, ℕ, List, ◌++◌, true, false, flat_map}
-use Rattle.csv.specs.Writing.{default_writer, with_flexible, row_text, writer_setup, fields_written, has_written}
+use Rattle.std.specs.Prelude.{◌≡◌, ℕ, List, ◌∷◌, ◌++◌, true, false, flat_map, map}
+use Rattle.csv.specs.Reading.{AreRecords, default_config}
+use Rattle.csv.specs.Writing.{default_writer, with_flexible, read_back, row_text, writer_setup, fields_written}
+use Rattle.csv.specs.Writing.{has_written}
+use Rattle.csv.specs.declared.parser.State.TheVariants as state
 use Rattle.csv.specs.declared.writer.Writer.{Writer}
 use Rattle.csv.specs.declared.writer.WriterBuilder.{WriterBuilder}
 use Rattle.ssb_questions.specs.declared.plan.Plan.{Plan}
@@ -27,3 +30,8 @@ pub record IsBetween {W : Type 0} (writer : Writer W) : Type 0 where
   pub setup : writer_setup writer ≡ csv_setup
   pub fields : fields_written writer ≡ 0
   pub wrote : has_written writer ≡ false
+
+-- a reader with the defaults reads the heads, and then each row; a record of no field is read as one of an empty field
+abbrev pub CsvIsReadBack : Type 0
+CsvIsReadBack = (heads : List (List ℕ)) (rows : List (List (List ℕ)))
+    → AreRecords default_config state.StartRecord (csv_records heads rows) (map read_back (heads ∷ rows))

@@ -13,4 +13,8 @@ pub mod Titled
 pub mod ReplyFormats
 pub mod ReplyJson
 pub mod ReplyTexts
+pub mod StatementCells
+pub mod StatementBars
+pub mod StatementHtml
 pub mod StatementText
+pub mod Reports

@@ -1,77 +1,63 @@
 -- The rows of a statement, in the formats.
-use Rattle.std.specs.Prelude.{ℕ, Bool, true, List, [], ◌∷◌, ◌++◌, map, fold, flat_map, length, codes, decimal, Option}
-use Rattle.std.specs.Prelude.{Some, None}
+use Rattle.std.specs.Prelude.{ℕ, ℤ, Bool, List, [], ◌∷◌, ◌++◌, map, flat_map, length, codes, decimal, Option, Some, None}
 use Rattle.std.specs.List.{concat, join_with_byte}
 use Rattle.serde_json.specs.Data.{Data, Members, null, number, unsigned, member, no_members}
-use Rattle.ssb_questions.specs.declared.value.Value.{Value}
-use Rattle.ssb_report.specs.AnswerText.{value_text}
-use Rattle.ssb_statements.specs.declared.cell.Cell.{Cell}
-use Rattle.ssb_statements.specs.declared.cell.Cell.TheVariants.{Plain, Number}
-use Rattle.ssb_text.specs.Numbers.{line_feed, sum_text}
-use Rattle.ssb_formats.specs.Alignment.{aligned_line, narrow, widened}
+use Rattle.ssb_statements.specs.declared.cell.StatementCell.{StatementCell}
+use Rattle.ssb_statements.specs.declared.cell.StatementCell.TheVariants.{Plain, Number, Decimal}
+use Rattle.ssb_text.specs.Numbers.{line_feed}
+use Rattle.ssb_formats.specs.Alignment.{aligned_line}
 use Rattle.ssb_formats.specs.CsvText.{csv_records}
 use Rattle.ssb_formats.specs.JsonText.{list_data, object_line, sum_data, text_data, value_data}
 use Rattle.ssb_formats.specs.MarkdownText.{line_text, rule_text as markdown_rule}
 use Rattle.ssb_formats.specs.TableText.{rule_text}
-use Rattle.ssb_formats.specs.Title.{commit_text, count_text}
+use Rattle.ssb_formats.specs.StatementBars.{bars_text}
+use Rattle.ssb_formats.specs.StatementCells.{alignments, decimal_text, texts_of, title_text}
+use Rattle.ssb_formats.specs.StatementHtml.{html_text}
 use Rattle.ssb_formats.specs.declared.alignment.Alignment.{Alignment}
 use Rattle.ssb_formats.specs.declared.format.Format.{Format}
 use Rattle.ssb_formats.specs.declared.format.Format.TheVariants.{Report, Csv, Json, Markdown, Table, Bars, Html}
-
--- what a cell prints; a value that is not there prints nothing
-abbrev pub cell_text : Cell → List ℕ
-cell_text (Plain None) = []
-cell_text (Plain (Some value)) = value_text value
-cell_text (Number n) = sum_text n
-
-abbrev pub texts_of : List Cell → List (List ℕ)
-texts_of row = map cell_text row
 
 -- the line before the rows: after how many commits, and how many rows; and a line for each, its cells joined by |
 abbrev pub report_head : ℕ → ℕ → List ℕ
 report_head at count = concat (codes "sql at " ∷ decimal at ∷ codes " rows " ∷ decimal count ∷ line_feed ∷ [])
 
-abbrev pub report_line : List Cell → List ℕ
+abbrev pub report_line : List StatementCell → List ℕ
 report_line row = join_with_byte 124 (texts_of row) ++ line_feed
 
-abbrev pub report_text : ℕ → List (List Cell) → List ℕ
+abbrev pub report_text : ℕ → List (List StatementCell) → List ℕ
 report_text at rows = report_head at (length rows) ++ flat_map report_line rows
 
-abbrev pub csv_text : List (List ℕ) → List (List Cell) → List ℕ
+abbrev pub csv_text : List (List ℕ) → List (List StatementCell) → List ℕ
 csv_text heads rows = csv_records heads (map texts_of rows)
 
 -- the heads, the line under them, and a line for each row
-abbrev pub markdown_text : List (List ℕ) → List Bool → List (List Cell) → List ℕ
+abbrev pub markdown_text : List (List ℕ) → List Bool → List (List StatementCell) → List ℕ
 markdown_text heads are_numbers rows =
     line_text heads ++ markdown_rule are_numbers ++ flat_map (λ row. line_text (texts_of row)) rows
 
--- columns as wide as their heads, and as the cells of each row
-abbrev pub alignments : List (List ℕ) → List Bool → List (List Cell) → List Alignment
-alignments heads are_numbers rows =
-    fold (λ all row. widened all (texts_of row)) (widened (map narrow are_numbers) heads) rows
-
-abbrev pub grid_text : List Alignment → List (List ℕ) → List (List Cell) → List ℕ
+abbrev pub grid_text : List Alignment → List (List ℕ) → List (List StatementCell) → List ℕ
 grid_text all heads rows =
     aligned_line all heads ++ rule_text all ++ flat_map (λ row. aligned_line all (texts_of row)) rows
 
--- the line above the heads: how many rows there are, and after how many commits
-abbrev pub title_text : ℕ → ℕ → List ℕ
-title_text at count = codes "sql: " ++ count_text count ++ commit_text at
-
-unfoldable pub table_text : List (List ℕ) → List Bool → ℕ → List (List Cell) → List ℕ
+unfoldable pub table_text : List (List ℕ) → List Bool → ℕ → List (List StatementCell) → List ℕ
 table_text heads are_numbers at rows =
     title_text at (length rows) ++ grid_text (alignments heads are_numbers rows) heads rows
 
--- a value as a text or a number, an aggregate as a number; null where there is none
-abbrev pub cell_data : Cell → Data
+-- a value as a text or a number, a sum as a number, an average as a text of its digits; null where there is none
+abbrev pub average_data : Option ℤ → Data
+average_data None = null
+average_data (Some n) = text_data (decimal_text n)
+
+abbrev pub cell_data : StatementCell → Data
 cell_data (Plain None) = null
 cell_data (Plain (Some value)) = value_data value
 cell_data (Number n) = sum_data n
+cell_data (Decimal n) = average_data n
 
-abbrev pub row_data : List Cell → Data
+abbrev pub row_data : List StatementCell → Data
 row_data row = list_data (map cell_data row)
 
-abbrev pub rows_data : List (List Cell) → Data
+abbrev pub rows_data : List (List StatementCell) → Data
 rows_data rows = list_data (map row_data rows)
 
 abbrev pub heads_data : List (List ℕ) → Data
@@ -85,15 +71,15 @@ members at columns rows =
     (member (codes "query") (text_data (codes "sql"))
     (member (codes "rows") rows no_members)))
 
-abbrev pub json_text : List (List ℕ) → ℕ → List (List Cell) → List ℕ
+abbrev pub json_text : List (List ℕ) → ℕ → List (List StatementCell) → List ℕ
 json_text heads at rows = object_line (members at (heads_data heads) (rows_data rows))
 
--- the rows in a format; bars and pages have none of their own, and are tables
-abbrev pub shown : Format → List (List ℕ) → List Bool → ℕ → List (List Cell) → List ℕ
+-- the rows in a format
+abbrev pub shown : Format → List (List ℕ) → List Bool → ℕ → List (List StatementCell) → List ℕ
 shown Report heads are_numbers at rows = report_text at rows
 shown Csv heads are_numbers at rows = csv_text heads rows
 shown Json heads are_numbers at rows = json_text heads at rows
 shown Markdown heads are_numbers at rows = markdown_text heads are_numbers rows
 shown Table heads are_numbers at rows = table_text heads are_numbers at rows
-shown (Bars width) heads are_numbers at rows = table_text heads are_numbers at rows
-shown Html heads are_numbers at rows = table_text heads are_numbers at rows
+shown (Bars width) heads are_numbers at rows = bars_text width heads are_numbers at rows
+shown Html heads are_numbers at rows = html_text heads are_numbers at rows

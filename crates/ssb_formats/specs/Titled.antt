@@ -1,13 +1,13 @@
--- Answers, each under a title.
+-- Reports, each under a title.
 use Rattle.std.specs.Prelude.{ℕ, ◌==◌, ◌||◌, Bool, List, [], ◌∷◌, ◌++◌, codes, flat_map, if◌then◌else◌}
 use Rattle.csv.specs.Writing.{row_text}
-use Rattle.ssb_answers.specs.declared.answer.Answer.{Answer}
 use Rattle.ssb_text.specs.Numbers.{line_feed}
 use Rattle.ssb_formats.specs.CsvText.{csv_setup}
-use Rattle.ssb_formats.specs.Formats.{opening, parting, shown}
+use Rattle.ssb_formats.specs.Formats.{opening, parting}
 use Rattle.ssb_formats.specs.HtmlText.{heading_html}
-use Rattle.ssb_formats.specs.JsonText.{titled_json}
+use Rattle.ssb_formats.specs.Reports.{report_shown, titled_report_json}
 use Rattle.ssb_formats.specs.declared.format.Format.{Format}
+use Rattle.ssb_formats.specs.declared.reports.Reported.{Reported}
 use Rattle.ssb_formats.specs.declared.format.Format.TheVariants.{Report, Csv, Json, Markdown, Table, Bars, Html}
 
 -- what Markdown may read as more than itself: # & * < > [ \ ] _ `
@@ -23,7 +23,7 @@ title_byte byte = if is_markup byte then 92 ∷ byte ∷ [] else byte ∷ []
 abbrev pub markdown_heading : List ℕ → List ℕ
 markdown_heading title = codes "## " ++ flat_map title_byte title ++ codes "\n\n"
 
--- what stands above an answer: a line of the title; in CSV a record of it alone; in JSON nothing
+-- what stands above a report: a line of the title; in CSV a record of it alone; in JSON nothing
 abbrev pub heading : Format → List ℕ → List ℕ
 heading Report title = title ++ line_feed
 heading Csv title = row_text csv_setup (title ∷ [])
@@ -33,33 +33,33 @@ heading Table title = title ++ line_feed
 heading (Bars width) title = title ++ line_feed
 heading Html title = heading_html title
 
--- the answer below it; in JSON its object has the title
-abbrev pub body : Format → List ℕ → Answer → List ℕ
-body Report title answer = shown Report answer
-body Csv title answer = shown Csv answer
-body Json title answer = titled_json title answer
-body Markdown title answer = shown Markdown answer
-body Table title answer = shown Table answer
-body (Bars width) title answer = shown (Bars width) answer
-body Html title answer = shown Html answer
+-- the report below it; in JSON its object has the title
+abbrev pub body : Format → List ℕ → Reported → List ℕ
+body Report title report = report_shown Report report
+body Csv title report = report_shown Csv report
+body Json title report = titled_report_json title report
+body Markdown title report = report_shown Markdown report
+body Table title report = report_shown Table report
+body (Bars width) title report = report_shown (Bars width) report
+body Html title report = report_shown Html report
 
-abbrev pub titled_shown : Format → List ℕ → Answer → List ℕ
-titled_shown format title answer = heading format title ++ body format title answer
+abbrev pub titled_shown : Format → List ℕ → Reported → List ℕ
+titled_shown format title report = heading format title ++ body format title report
 
--- answers behind others, each under the title in its place
-abbrev pub others_shown : Format → List (List ℕ) → List Answer → List ℕ
-others_shown format [] answers = []
+-- reports behind others, each under the title in its place
+abbrev pub others_shown : Format → List (List ℕ) → List Reported → List ℕ
+others_shown format [] reports = []
 others_shown format (title ∷ titles) [] = []
-others_shown format (title ∷ titles) (answer ∷ answers) =
-    parting format ++ titled_shown format title answer ++ others_shown format titles answers
+others_shown format (title ∷ titles) (report ∷ reports) =
+    parting format ++ titled_shown format title report ++ others_shown format titles reports
 
--- answers one after another, each under the title in its place
-abbrev pub reports_shown : Format → List (List ℕ) → List Answer → List ℕ
-reports_shown format [] answers = []
-reports_shown format (title ∷ titles) [] = []
-reports_shown format (title ∷ titles) (answer ∷ answers) =
-    titled_shown format title answer ++ others_shown format titles answers
+-- reports one after another, each under the title in its place
+abbrev pub titled_reports_shown : Format → List (List ℕ) → List Reported → List ℕ
+titled_reports_shown format [] reports = []
+titled_reports_shown format (title ∷ titles) [] = []
+titled_reports_shown format (title ∷ titles) (report ∷ reports) =
+    titled_shown format title report ++ others_shown format titles reports
 
--- the same behind what stands before all answers
-abbrev pub board_shown : Format → List (List ℕ) → List Answer → List ℕ
-board_shown format titles answers = opening format ++ reports_shown format titles answers
+-- the same behind what stands before all reports
+abbrev pub board_shown : Format → List (List ℕ) → List Reported → List ℕ
+board_shown format titles reports = opening format ++ titled_reports_shown format titles reports

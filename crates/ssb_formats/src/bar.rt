@@ -17,7 +17,7 @@ pub(crate) struct Scale {
 }
 
 // What columns, and two spaces behind each, leave of a width.
-fn room_beside(width: usize, alignments: &[Alignment]) -> usize
+pub(crate) fn room_beside(width: usize, alignments: &[Alignment]) -> usize
     ensures { result ≡ room_beside width alignments.now }
 {
     let mut room = width;
@@ -71,7 +71,7 @@ pub(crate) fn bar_length(scale: Scale, size: u64) -> usize
 }
 
 // What the bar of a sum is drawn with.
-fn mark_of(sum: Option<i64>) -> u8
+pub(crate) fn mark_of(sum: Option<i64>) -> u8
     ensures { result ≡ mark_of sum }
 {
     match sum {

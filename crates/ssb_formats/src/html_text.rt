@@ -58,7 +58,11 @@ fn push_cell(text: &mut Vec<u8>, is_number: bool, cell: &str) -> Result<(), Allo
     text.extend_from_slice(b"</td>")
 }
 
-fn push_cells(text: &mut Vec<u8>, numbers: &[bool], cells: &[Text]) -> Result<(), AllocError>
+pub(crate) fn push_cells(
+    text: &mut Vec<u8>,
+    numbers: &[bool],
+    cells: &[Text],
+) -> Result<(), AllocError>
     ensures { OnOk result (text.new.items ≡ text.old.items ++ spec.cells_html numbers.now cells.now) }
 {
     match numbers {
@@ -83,7 +87,7 @@ fn bar_class(sum: Option<i64>) -> &'static str
 }
 
 // The bar of a sum.
-fn push_bar(text: &mut Vec<u8>, scale: Scale, sum: Option<i64>) -> Result<(), AllocError>
+pub(crate) fn push_bar(text: &mut Vec<u8>, scale: Scale, sum: Option<i64>) -> Result<(), AllocError>
     ensures { OnOk result (text.new.items ≡ text.old.items ++ spec.bar_html scale sum) }
 {
     let width = bar_length(scale, size_of(sum));
@@ -94,7 +98,11 @@ fn push_bar(text: &mut Vec<u8>, scale: Scale, sum: Option<i64>) -> Result<(), Al
     Markup::BarClose.push(text)
 }
 
-fn push_heads(text: &mut Vec<u8>, numbers: &[bool], heads: &[Text]) -> Result<(), AllocError>
+pub(crate) fn push_heads(
+    text: &mut Vec<u8>,
+    numbers: &[bool],
+    heads: &[Text],
+) -> Result<(), AllocError>
     ensures { OnOk result (text.new.items ≡ text.old.items ++ spec.head_html numbers.now heads.now) }
 {
     Markup::HeadsOpen.push(text)?;

@@ -179,8 +179,12 @@ pub(crate) fn json_text(alloc: Global, answer: &Answer) -> Result<Vec<u8>, Alloc
     object_line(alloc, members)
 }
 
-// Puts a title among the members.
-fn put_title(alloc: Global, members: &mut Map<String, Json>, title: &Text) -> Result<(), AllocError>
+/// Puts a title among the members.
+pub(crate) fn put_title(
+    alloc: Global,
+    members: &mut Map<String, Json>,
+    title: &Text,
+) -> Result<(), AllocError>
     ensures { OnOk result (members_view members.new.entries
         ≡ with_member (codes "title") (text_data title.now) (members_view members.old.entries)) }
 {

@@ -1,60 +1,31 @@
 //! The rows of a statement, under its heads.
 
-ghost use Rattle.std.specs.Prelude.{◌≡◌, ◌++◌, IfOk, MatchResult, OnOk, map};
-ghost use Rattle.std.specs.Io.KnownBytes.{Appends};
+ghost use Rattle.std.specs.Prelude.{◌≡◌, ◌++◌, IfOk, OnOk, map};
 ghost use Rattle.std.specs.List.{join_with_byte};
 ghost use Rattle.serde_json.specs.View.{members_view, view};
 ghost use Rattle.ssb_formats.specs.Alignment.{aligned_line};
 ghost use Rattle.ssb_formats.specs.MarkdownText.{line_text};
+ghost use Rattle.ssb_formats.specs.StatementCells as printed;
 ghost use Rattle.ssb_formats.specs.StatementText as spec;
-ghost use Rattle.ssb_text.specs.Written.{AppendsPart};
 
-use crate::alignment::{Alignment, narrow, push_line, widened};
-use crate::cells::{sum_cell, value_cell};
+use crate::alignment::{Alignment, push_line};
 use crate::csv_text::csv_records;
-use crate::fault::FormatFault;
-use crate::format::{Format, write_text};
+use crate::format::Format;
 use crate::json_text::{object_line, sum_json, texts_json, value_json};
 use crate::markdown_text::{push_line as push_markdown_line, push_rule as push_markdown_rule};
+use crate::statement_bars::bars_text;
+use crate::statement_cells::{StatementHeads, alignments, decimal_text, push_title, texts_of};
+use crate::statement_html::html_text;
 use crate::table_text::push_rule;
-use crate::title::{push_commit, push_count};
 use itoa::Buffer;
 use serde_json::{Map, Value as Json, put};
 use ssb_schema::{Items, Text};
-use ssb_statements::Cell;
+use ssb_statements::StatementCell;
 use std::alloc::{AllocError, Global};
-use std::io::Write;
-
-/// The heads of a statement, and which of its columns have numbers.
-#[derive(Clone, Copy)]
-pub struct StatementHeads<'a> {
-    pub heads: &'a [Text],
-    pub are_numbers: &'a [bool],
-}
-
-fn cell_text(alloc: Global, cell: &Cell) -> Result<Text, AllocError>
-    ensures { IfOk result (λ text. text ≡ spec.cell_text cell.now) }
-{
-    match cell {
-        Cell::Plain(None) => Text::from_str(alloc, ""),
-        Cell::Plain(Some(value)) => value_cell(alloc, value),
-        Cell::Number(number) => sum_cell(alloc, *number),
-    }
-}
-
-fn texts_of(alloc: Global, row: &[Cell]) -> Result<Vec<Text>, AllocError>
-    ensures { IfOk result (λ texts. texts.items ≡ spec.texts_of row.now) }
-{
-    let mut texts = Vec::new(alloc);
-    for cell in row {
-        texts.push(cell_text(alloc, cell)?)?;
-    }
-    Ok(texts)
-}
 
 // The cells of each row.
-fn all_texts(alloc: Global, rows: &[Items<Cell>]) -> Result<Vec<Items<Text>>, AllocError>
-    ensures { IfOk result (λ all. all.items ≡ map spec.texts_of rows.now) }
+fn all_texts(alloc: Global, rows: &[Items<StatementCell>]) -> Result<Vec<Items<Text>>, AllocError>
+    ensures { IfOk result (λ all. all.items ≡ map printed.texts_of rows.now) }
 {
     let mut all = Vec::new(alloc);
     for row in rows {
@@ -90,7 +61,11 @@ fn push_report_head(text: &mut Vec<u8>, at: u64, count: usize) -> Result<(), All
     Ok(text.push(b'\n')?)
 }
 
-fn push_report_line(alloc: Global, text: &mut Vec<u8>, row: &Items<Cell>) -> Result<(), AllocError>
+fn push_report_line(
+    alloc: Global,
+    text: &mut Vec<u8>,
+    row: &Items<StatementCell>,
+) -> Result<(), AllocError>
     ensures { OnOk result (text.new.items ≡ text.old.items ++ spec.report_line row.now) }
 {
     let texts = texts_of(alloc, row.as_slice())?;
@@ -99,7 +74,7 @@ fn push_report_line(alloc: Global, text: &mut Vec<u8>, row: &Items<Cell>) -> Res
 }
 
 // The report: a line before the rows, and a line for each.
-fn report_text(alloc: Global, at: u64, rows: &[Items<Cell>]) -> Result<Vec<u8>, AllocError>
+fn report_text(alloc: Global, at: u64, rows: &[Items<StatementCell>]) -> Result<Vec<u8>, AllocError>
     ensures { IfOk result (λ text. text.items ≡ spec.report_text at rows.now) }
 {
     let mut text = Vec::new(alloc);
@@ -110,8 +85,12 @@ fn report_text(alloc: Global, at: u64, rows: &[Items<Cell>]) -> Result<Vec<u8>, 
     Ok(text)
 }
 
-fn push_markdown_row(alloc: Global, text: &mut Vec<u8>, row: &Items<Cell>) -> Result<(), AllocError>
-    ensures { OnOk result (text.new.items ≡ text.old.items ++ line_text (spec.texts_of row.now)) }
+fn push_markdown_row(
+    alloc: Global,
+    text: &mut Vec<u8>,
+    row: &Items<StatementCell>,
+) -> Result<(), AllocError>
+    ensures { OnOk result (text.new.items ≡ text.old.items ++ line_text (printed.texts_of row.now)) }
 {
     let texts = texts_of(alloc, row.as_slice())?;
     push_markdown_line(text, texts.as_slice())
@@ -120,7 +99,7 @@ fn push_markdown_row(alloc: Global, text: &mut Vec<u8>, row: &Items<Cell>) -> Re
 fn markdown_text(
     alloc: Global,
     heads: StatementHeads<'_>,
-    rows: &[Items<Cell>],
+    rows: &[Items<StatementCell>],
 ) -> Result<Vec<u8>, AllocError>
     ensures { IfOk result (λ text. text.items ≡ spec.markdown_text heads.entry.heads.now heads.entry.are_numbers.now
         rows.now) }
@@ -134,31 +113,13 @@ fn markdown_text(
     Ok(text)
 }
 
-// Columns as wide as their heads, and as the cells of each row.
-fn alignments(
-    alloc: Global,
-    heads: StatementHeads<'_>,
-    rows: &[Items<Cell>],
-) -> Result<Vec<Alignment>, AllocError>
-    ensures { IfOk result (λ all. all.items ≡ spec.alignments heads.entry.heads.now heads.entry.are_numbers.now
-        rows.now) }
-{
-    let bare = narrow(alloc, heads.are_numbers)?;
-    let mut all = widened(alloc, bare.as_slice(), heads.heads)?;
-    for row in rows {
-        let texts = texts_of(alloc, row.as_slice())?;
-        all = widened(alloc, all.as_slice(), texts.as_slice())?;
-    }
-    Ok(all)
-}
-
 fn push_grid_line(
     alloc: Global,
     text: &mut Vec<u8>,
     alignments: &[Alignment],
-    row: &Items<Cell>,
+    row: &Items<StatementCell>,
 ) -> Result<(), AllocError>
-    ensures { OnOk result (text.new.items ≡ text.old.items ++ aligned_line alignments.now (spec.texts_of row.now)) }
+    ensures { OnOk result (text.new.items ≡ text.old.items ++ aligned_line alignments.now (printed.texts_of row.now)) }
 {
     let texts = texts_of(alloc, row.as_slice())?;
     push_line(text, alignments, texts.as_slice())
@@ -170,7 +131,7 @@ fn push_grid(
     text: &mut Vec<u8>,
     alignments: &[Alignment],
     heads: &[Text],
-    rows: &[Items<Cell>],
+    rows: &[Items<StatementCell>],
 ) -> Result<(), AllocError>
     ensures { OnOk result (text.new.items ≡ text.old.items ++ spec.grid_text alignments.now heads.now rows.now) }
 {
@@ -182,21 +143,12 @@ fn push_grid(
     Ok(())
 }
 
-// Adds the line above the heads.
-fn push_title(text: &mut Vec<u8>, at: u64, count: usize) -> Result<(), AllocError>
-    ensures { OnOk result (text.new.items ≡ text.old.items ++ spec.title_text at count) }
-{
-    text.extend_from_slice(b"sql: ")?;
-    push_count(text, count)?;
-    push_commit(text, at)
-}
-
 #[tactic(auto, unfolding(crate::specs::StatementText::table_text))]
 fn table_text(
     alloc: Global,
     heads: StatementHeads<'_>,
     at: u64,
-    rows: &[Items<Cell>],
+    rows: &[Items<StatementCell>],
 ) -> Result<Vec<u8>, AllocError>
     ensures { IfOk result (λ text. text.items ≡ spec.table_text heads.entry.heads.now heads.entry.are_numbers.now at
         rows.now) }
@@ -208,18 +160,31 @@ fn table_text(
     Ok(text)
 }
 
-fn cell_json(alloc: Global, cell: &Cell) -> Result<Json, AllocError>
+fn average_json(alloc: Global, number: Option<i128>) -> Result<Json, AllocError>
+    ensures { IfOk result (λ json. view json ≡ spec.average_data number) }
+{
+    match number {
+        Some(number) => {
+            let text = decimal_text(alloc, number)?;
+            Json::try_from_str(alloc, text.as_str())
+        }
+        None => Ok(Json::Null),
+    }
+}
+
+fn cell_json(alloc: Global, cell: &StatementCell) -> Result<Json, AllocError>
     ensures { IfOk result (λ json. view json ≡ spec.cell_data cell.now) }
 {
     match cell {
-        Cell::Plain(None) => Ok(Json::Null),
-        Cell::Plain(Some(value)) => value_json(alloc, value),
-        Cell::Number(number) => Ok(sum_json(*number)),
+        StatementCell::Plain(None) => Ok(Json::Null),
+        StatementCell::Plain(Some(value)) => value_json(alloc, value),
+        StatementCell::Number(number) => Ok(sum_json(*number)),
+        StatementCell::Decimal(number) => average_json(alloc, *number),
     }
 }
 
 #[tactic(auto, using(crate::proofs::CellLaws::map_push))]
-fn row_json(alloc: Global, cells: &[Cell]) -> Result<Vec<Json>, AllocError>
+fn row_json(alloc: Global, cells: &[StatementCell]) -> Result<Vec<Json>, AllocError>
     ensures { IfOk result (λ list. map view list.items ≡ map spec.cell_data cells.now) }
 {
     let mut list = Vec::new(alloc);
@@ -229,7 +194,7 @@ fn row_json(alloc: Global, cells: &[Cell]) -> Result<Vec<Json>, AllocError>
     Ok(list)
 }
 
-fn line_json(alloc: Global, row: &Items<Cell>) -> Result<Json, AllocError>
+fn line_json(alloc: Global, row: &Items<StatementCell>) -> Result<Json, AllocError>
     ensures { IfOk result (λ json. view json ≡ spec.row_data row.now) }
 {
     let list = row_json(alloc, row.as_slice())?;
@@ -238,7 +203,7 @@ fn line_json(alloc: Global, row: &Items<Cell>) -> Result<Json, AllocError>
 }
 
 #[tactic(auto, using(crate::proofs::CellLaws::map_push))]
-fn rows_json(alloc: Global, rows: &[Items<Cell>]) -> Result<Vec<Json>, AllocError>
+fn rows_json(alloc: Global, rows: &[Items<StatementCell>]) -> Result<Vec<Json>, AllocError>
     ensures { IfOk result (λ list. map view list.items ≡ map spec.row_data rows.now) }
 {
     let mut list = Vec::new(alloc);
@@ -248,7 +213,7 @@ fn rows_json(alloc: Global, rows: &[Items<Cell>]) -> Result<Vec<Json>, AllocErro
     Ok(list)
 }
 
-fn all_json(alloc: Global, rows: &[Items<Cell>]) -> Result<Json, AllocError>
+fn all_json(alloc: Global, rows: &[Items<StatementCell>]) -> Result<Json, AllocError>
     ensures { IfOk result (λ json. view json ≡ spec.rows_data rows.now) }
 {
     let list = rows_json(alloc, rows)?;
@@ -285,26 +250,40 @@ fn members(
     Ok(members)
 }
 
+/// The members of the object of rows.
+pub(crate) fn statement_members(
+    alloc: Global,
+    heads: &[Text],
+    at: u64,
+    rows: &[Items<StatementCell>],
+) -> Result<Map<String, Json>, AllocError>
+    ensures { IfOk result (λ members. members_view members.entries
+        ≡ spec.members at (spec.heads_data heads.now) (spec.rows_data rows.now)) }
+{
+    let columns = heads_json(alloc, heads)?;
+    let rows = all_json(alloc, rows)?;
+    members(alloc, at, columns, rows)
+}
+
 fn json_text(
     alloc: Global,
     heads: &[Text],
     at: u64,
-    rows: &[Items<Cell>],
+    rows: &[Items<StatementCell>],
 ) -> Result<Vec<u8>, AllocError>
     ensures { IfOk result (λ text. text.items ≡ spec.json_text heads.now at rows.now) }
 {
-    let columns = heads_json(alloc, heads)?;
-    let rows = all_json(alloc, rows)?;
-    let members = members(alloc, at, columns, rows)?;
+    let members = statement_members(alloc, heads, at, rows)?;
     object_line(alloc, members)
 }
 
-fn text_of(
+/// The rows of a statement under its heads, as they are after so many commits.
+pub(crate) fn statement_text(
     alloc: Global,
     format: Format,
     heads: StatementHeads<'_>,
     at: u64,
-    rows: &[Items<Cell>],
+    rows: &[Items<StatementCell>],
 ) -> Result<Vec<u8>, AllocError>
     ensures { IfOk result (λ text. text.items ≡ spec.shown format heads.entry.heads.now heads.entry.are_numbers.now at
         rows.now) }
@@ -317,27 +296,8 @@ fn text_of(
         }
         Format::Json => json_text(alloc, heads.heads, at, rows),
         Format::Markdown => markdown_text(alloc, heads, rows),
-        Format::Table | Format::Bars { .. } | Format::Html => table_text(alloc, heads, at, rows),
-    }
-}
-
-/// Writes the rows of a statement under its heads, as they are after so many commits.
-pub fn write_statement<W: Write>(
-    alloc: Global,
-    writer: &mut W,
-    format: Format,
-    heads: StatementHeads<'_>,
-    at: u64,
-    rows: &[Items<Cell>],
-) -> Result<(), FormatFault>
-    ensures text { MatchResult result
-        (λ _. Appends (W.contents writer.old) (W.contents writer.new)
-        (spec.shown format heads.entry.heads.now heads.entry.are_numbers.now at rows.now))
-        (λ _. AppendsPart (W.contents writer.old) (W.contents writer.new)
-        (spec.shown format heads.entry.heads.now heads.entry.are_numbers.now at rows.now)) }
-{
-    match text_of(alloc, format, heads, at, rows) {
-        Ok(text) => write_text(writer, text.as_slice()),
-        Err(_) => Err(FormatFault::OutOfMemory),
+        Format::Table => table_text(alloc, heads, at, rows),
+        Format::Bars { width } => bars_text(alloc, width, heads, at, rows),
+        Format::Html => html_text(alloc, heads, at, rows),
     }
 }

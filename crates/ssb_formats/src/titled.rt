@@ -1,17 +1,16 @@
-//! Answers, each under a title, in a format.
+//! Reports, each under a title, in a format.
 
 ghost use Rattle.std.specs.Prelude.{◌≡◌, ◌++◌, IfOk, MatchResult, OnOk};
 ghost use Rattle.std.specs.Io.KnownBytes.{Appends};
 ghost use Rattle.ssb_formats.specs.Titled.{board_shown, body, heading, is_markup, markdown_heading, others_shown};
-ghost use Rattle.ssb_formats.specs.Titled.{reports_shown, title_byte, titled_shown};
+ghost use Rattle.ssb_formats.specs.Titled.{titled_reports_shown, title_byte, titled_shown};
 ghost use Rattle.ssb_text.specs.Written.{AppendsPart};
 
 use crate::csv_text::title_record;
 use crate::fault::FormatFault;
-use crate::format::{Format, push_opening, push_shown, write_text};
+use crate::format::{Format, push_opening, write_text};
 use crate::html_text;
-use crate::json_text::titled_json;
-use ssb_answers::Answer;
+use crate::reports::{Reported, push_report, titled_report_json};
 use ssb_schema::Text;
 use std::alloc::{AllocError, Global};
 use std::io::Write;
@@ -78,16 +77,16 @@ fn push_body(
     text: &mut Vec<u8>,
     format: Format,
     title: &Text,
-    answer: &Answer,
+    report: &Reported<'_>,
 ) -> Result<(), AllocError>
-    ensures { OnOk result (text.new.items ≡ text.old.items ++ body format title.now answer.now) }
+    ensures { OnOk result (text.new.items ≡ text.old.items ++ body format title.now report.now) }
 {
     match format {
         Format::Json => {
-            let line = titled_json(alloc, title, answer)?;
+            let line = titled_report_json(alloc, title, report)?;
             text.extend_from_slice(line.as_slice())
         }
-        _ => push_shown(alloc, text, format, answer),
+        _ => push_report(alloc, text, format, report),
     }
 }
 
@@ -96,32 +95,32 @@ fn push_titled(
     text: &mut Vec<u8>,
     format: Format,
     title: &Text,
-    answer: &Answer,
+    report: &Reported<'_>,
 ) -> Result<(), AllocError>
-    ensures { OnOk result (text.new.items ≡ text.old.items ++ titled_shown format title.now answer.now) }
+    ensures { OnOk result (text.new.items ≡ text.old.items ++ titled_shown format title.now report.now) }
 {
     push_heading(alloc, text, format, title)?;
-    push_body(alloc, text, format, title, answer)
+    push_body(alloc, text, format, title, report)
 }
 
-// Answers behind others.
+// Reports behind others.
 fn push_others(
     alloc: Global,
     text: &mut Vec<u8>,
     format: Format,
     titles: &[Text],
-    answers: &[Answer],
+    reports: &[Reported<'_>],
 ) -> Result<(), AllocError>
-    ensures { OnOk result (text.new.items ≡ text.old.items ++ others_shown format titles.now answers.now) }
+    ensures { OnOk result (text.new.items ≡ text.old.items ++ others_shown format titles.now reports.now) }
 {
     match titles {
         [] => Ok(()),
-        [title, titles @ ..] => match answers {
+        [title, titles @ ..] => match reports {
             [] => Ok(()),
-            [answer, answers @ ..] => {
+            [report, reports @ ..] => {
                 text.extend_from_slice(format.parting().as_bytes())?;
-                push_titled(alloc, text, format, title, answer)?;
-                push_others(alloc, text, format, titles, answers)
+                push_titled(alloc, text, format, title, report)?;
+                push_others(alloc, text, format, titles, reports)
             }
         },
     }
@@ -132,17 +131,17 @@ fn push_reports(
     text: &mut Vec<u8>,
     format: Format,
     titles: &[Text],
-    answers: &[Answer],
+    reports: &[Reported<'_>],
 ) -> Result<(), AllocError>
-    ensures { OnOk result (text.new.items ≡ text.old.items ++ reports_shown format titles.now answers.now) }
+    ensures { OnOk result (text.new.items ≡ text.old.items ++ titled_reports_shown format titles.now reports.now) }
 {
     match titles {
         [] => Ok(()),
-        [title, titles @ ..] => match answers {
+        [title, titles @ ..] => match reports {
             [] => Ok(()),
-            [answer, answers @ ..] => {
-                push_titled(alloc, text, format, title, answer)?;
-                push_others(alloc, text, format, titles, answers)
+            [report, reports @ ..] => {
+                push_titled(alloc, text, format, title, report)?;
+                push_others(alloc, text, format, titles, reports)
             }
         },
     }
@@ -152,32 +151,32 @@ fn board_text(
     alloc: Global,
     format: Format,
     titles: &[Text],
-    answers: &[Answer],
+    reports: &[Reported<'_>],
 ) -> Result<Vec<u8>, AllocError>
-    ensures { IfOk result (λ text. text.items ≡ board_shown format titles.now answers.now) }
+    ensures { IfOk result (λ text. text.items ≡ board_shown format titles.now reports.now) }
 {
     let mut text = Vec::new(alloc);
     push_opening(&mut text, format)?;
-    push_reports(alloc, &mut text, format, titles, answers)?;
+    push_reports(alloc, &mut text, format, titles, reports)?;
     Ok(text)
 }
 
-/// Writes answers in a format, one after another, each under the title in its place. The memory that it takes is that
+/// Writes reports in a format, one after another, each under the title in its place. The memory that it takes is that
 /// of all their text; where it runs out, nothing is written.
 pub fn write_board<W: Write>(
     alloc: Global,
     writer: &mut W,
     format: Format,
     titles: &[Text],
-    answers: &[Answer],
+    reports: &[Reported<'_>],
 ) -> Result<(), FormatFault>
     ensures text { MatchResult result
         (λ _. Appends (W.contents writer.old) (W.contents writer.new)
-        (board_shown format titles.now answers.now))
+        (board_shown format titles.now reports.now))
         (λ _. AppendsPart (W.contents writer.old) (W.contents writer.new)
-        (board_shown format titles.now answers.now)) }
+        (board_shown format titles.now reports.now)) }
 {
-    match board_text(alloc, format, titles, answers) {
+    match board_text(alloc, format, titles, reports) {
         Ok(text) => write_text(writer, text.as_slice()),
         Err(_) => Err(FormatFault::OutOfMemory),
     }

@@ -1,3 +1,4 @@
 mod OneLaws
+mod SaidLaws
 mod ReadLaws
 mod SayLaws

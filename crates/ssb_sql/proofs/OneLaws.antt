@@ -3,9 +3,9 @@ use Rattle.std.proofs.Common.{◌≡◌, ◌∙◌, ap, List, Ok}
 use Rattle.ssb_sql.proofs.ReadLaws.{statements_read}
 use Rattle.ssb_sql.specs.Laws.{TokensMeanOneThing}
 use Rattle.ssb_sql.specs.Reading.{Outcome, read}
-use Rattle.ssb_sql.specs.declared.piece.Piece.{Piece}
+use Rattle.ssb_sql.specs.declared.piece.SqlPiece.{SqlPiece}
 
-one_outcome : (a b : List Piece) (outcome : Outcome) → outcome ≡ Ok a → outcome ≡ Ok b → a ≡ b
+one_outcome : (a b : List SqlPiece) (outcome : Outcome) → outcome ≡ Ok a → outcome ≡ Ok b → a ≡ b
 one_outcome a b outcome is other = cc
 
 pub mean_one : TokensMeanOneThing

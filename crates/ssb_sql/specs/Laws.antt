@@ -1,11 +1,18 @@
 -- What is true of reading.
 use Rattle.std.specs.Prelude.{◌≡◌, Ok}
 use Rattle.ssb_sql.specs.Reading.{read}
+use Rattle.ssb_sql.specs.Said.{groups_said, limit_said}
 use Rattle.ssb_sql.specs.Select.{Select, tokens_of, pieces_of}
 
 -- each statement of the shape is read, as what it says
 abbrev pub StatementsAreRead : Type 0
 StatementsAreRead = (statement : Select) → read (tokens_of statement) ≡ Ok (pieces_of statement)
+
+-- what a statement as it is written says of its groups and its limit is what its writer chose
+abbrev pub StatementsSayTheirGroups : Type 0
+StatementsSayTheirGroups =
+    (statement : Select) → (groups_said (pieces_of statement) ≡ statement.groups)
+    × (limit_said (pieces_of statement) ≡ statement.limit)
 
 -- tokens mean one thing
 abbrev pub TokensMeanOneThing : Type 0

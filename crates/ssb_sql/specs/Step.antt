@@ -1,5 +1,6 @@
 -- Which token may come, what it leads to, and what it says: the grammar as a table.
-use Rattle.std.specs.Prelude.{ℕ, Bool, true, false, nat_eq, Option, None, Some, option_and_then, if◌then◌else◌}
+use Rattle.std.specs.Prelude.{ℕ, Bool, true, false, nat_eq, Option, None, Some, option_and_then}
+use Rattle.std.specs.Prelude.{if◌then◌else◌}
 use Rattle.std.specs.Borrow.{Bor}
 use Rattle.std.specs.Prelude.{List}
 use Rattle.ssb_schema.specs.declared.column.Column.{Column}
@@ -8,60 +9,87 @@ use Rattle.ssb_schema.specs.declared.table.Table.TheVariants.{Customer, Supplier
 use Rattle.ssb_questions.specs.declared.clause.Spelled.{Spelled}
 use Rattle.ssb_questions.specs.declared.clause.Spelled.TheVariants.{Number}
 use Rattle.ssb_questions.specs.declared.plan.Measure.TheVariants as measure
+use Rattle.ssb_questions.specs.declared.plan.Measure.{Measure}
+use Rattle.ssb_sql.specs.declared.piece.Aggregate.{Aggregate}
+use Rattle.ssb_sql.specs.declared.piece.Aggregate.TheVariants as aggregate
+use Rattle.ssb_sql.specs.declared.piece.Comparison.{Comparison}
+use Rattle.ssb_sql.specs.declared.piece.Comparison.TheVariants as comparison
 use Rattle.ssb_sql.specs.declared.piece.Operand.{Operand}
 use Rattle.ssb_sql.specs.declared.piece.Operand.TheVariants as operand
-use Rattle.ssb_sql.specs.declared.piece.Order.TheVariants as order
-use Rattle.ssb_sql.specs.declared.piece.Piece.{Piece}
-use Rattle.ssb_sql.specs.declared.piece.Piece.TheVariants as piece
+use Rattle.ssb_sql.specs.declared.piece.SqlPiece.{SqlPiece}
+use Rattle.ssb_sql.specs.declared.piece.SqlPiece.TheVariants as piece
+use Rattle.ssb_sql.specs.declared.state.Adding.{Adding}
+use Rattle.ssb_sql.specs.declared.state.Adding.TheVariants.{Sum, Average}
+use Rattle.ssb_sql.specs.declared.state.InAggregate.{InAggregate}
+use Rattle.ssb_sql.specs.declared.state.InAggregate.TheVariants as ag
+use Rattle.ssb_sql.specs.declared.state.InChoice.{InChoice}
+use Rattle.ssb_sql.specs.declared.state.InChoice.TheVariants as ch
 use Rattle.ssb_sql.specs.declared.state.InEnd.{InEnd}
 use Rattle.ssb_sql.specs.declared.state.InEnd.TheVariants as e
+use Rattle.ssb_sql.specs.declared.state.InHaving.{InHaving}
+use Rattle.ssb_sql.specs.declared.state.InHaving.TheVariants as h
 use Rattle.ssb_sql.specs.declared.state.InList.{InList}
 use Rattle.ssb_sql.specs.declared.state.InList.TheVariants as l
+use Rattle.ssb_sql.specs.declared.state.InNullIf.{InNullIf}
+use Rattle.ssb_sql.specs.declared.state.InNullIf.TheVariants as ni
 use Rattle.ssb_sql.specs.declared.state.InTables.{InTables}
 use Rattle.ssb_sql.specs.declared.state.InTables.TheVariants as t
 use Rattle.ssb_sql.specs.declared.state.InTests.{InTests}
 use Rattle.ssb_sql.specs.declared.state.InTests.TheVariants as c
+use Rattle.ssb_sql.specs.declared.state.InValues.{InValues}
+use Rattle.ssb_sql.specs.declared.state.InValues.TheVariants as vs
+use Rattle.ssb_sql.specs.declared.state.Purpose.{Purpose}
+use Rattle.ssb_sql.specs.declared.state.Purpose.TheVariants.{Printing, Keeping, Ordering}
 use Rattle.ssb_sql.specs.declared.state.State.{State}
 use Rattle.ssb_sql.specs.declared.state.State.TheVariants as state
-use Rattle.ssb_sql.specs.declared.state.Step.{Step}
+use Rattle.ssb_sql.specs.declared.state.SqlStep.{SqlStep}
 use Rattle.ssb_sql.specs.declared.token.LineColumn.{LineColumn}
 use Rattle.ssb_sql.specs.declared.token.LineColumn.TheVariants.{Quantity, ExtendedPrice, Discount, Revenue, SupplyCost}
 use Rattle.ssb_sql.specs.declared.token.Mark.{Mark}
 use Rattle.ssb_sql.specs.declared.token.Mark.TheVariants as m
-use Rattle.ssb_sql.specs.declared.token.Token.{Token}
-use Rattle.ssb_sql.specs.declared.token.Token.TheVariants as k
-use Rattle.ssb_sql.specs.declared.token.Word.{Word}
-use Rattle.ssb_sql.specs.declared.token.Word.TheVariants as w
+use Rattle.ssb_sql.specs.declared.token.SqlToken.{SqlToken}
+use Rattle.ssb_sql.specs.declared.token.SqlToken.TheVariants as k
+use Rattle.ssb_sql.specs.declared.token.SqlWord.{SqlWord}
+use Rattle.ssb_sql.specs.declared.token.SqlWord.TheVariants as w
 
-abbrev pub quietly : State → Option Step
+abbrev pub quietly : State → Option SqlStep
 quietly next = Some (record { next = next; says = None })
 
-abbrev pub saying : State → Piece → Option Step
+abbrev pub saying : State → SqlPiece → Option SqlStep
 saying next piece = Some (record { next = next; says = Some piece })
 
-abbrev pub list : InList → Option Step
+abbrev pub list : InList → Option SqlStep
 list next = quietly (state.List next)
 
-abbrev pub list_says : InList → Piece → Option Step
+abbrev pub list_says : InList → SqlPiece → Option SqlStep
 list_says next piece = saying (state.List next) piece
 
-abbrev pub tables : InTables → Option Step
+abbrev pub tables : InTables → Option SqlStep
 tables next = quietly (state.Tables next)
 
-abbrev pub tables_say : InTables → Piece → Option Step
+abbrev pub tables_say : InTables → SqlPiece → Option SqlStep
 tables_say next piece = saying (state.Tables next) piece
 
-abbrev pub tests : InTests → Option Step
+abbrev pub tests : InTests → Option SqlStep
 tests next = quietly (state.Tests next)
 
-abbrev pub tests_say : InTests → Piece → Option Step
+abbrev pub tests_say : InTests → SqlPiece → Option SqlStep
 tests_say next piece = saying (state.Tests next) piece
 
-abbrev pub end : InEnd → Option Step
+abbrev pub end : InEnd → Option SqlStep
 end next = quietly (state.End next)
 
-abbrev pub end_says : InEnd → Piece → Option Step
+abbrev pub end_says : InEnd → SqlPiece → Option SqlStep
 end_says next piece = saying (state.End next) piece
+
+abbrev pub having : InHaving → Option SqlStep
+having next = quietly (state.Having next)
+
+abbrev pub having_says : InHaving → SqlPiece → Option SqlStep
+having_says next piece = saying (state.Having next) piece
+
+abbrev pub computing : Purpose → InAggregate → Option SqlStep
+computing purpose next = quietly (state.Aggregate purpose next)
 
 -- a number for each mark and each word, by which they are told apart
 abbrev pub mark_code : Mark → ℕ
@@ -76,8 +104,9 @@ mark_code m.Less = 7
 mark_code m.LessOrEqual = 8
 mark_code m.Greater = 9
 mark_code m.GreaterOrEqual = 10
+mark_code m.NotEqual = 11
 
-abbrev pub word_code : Word → ℕ
+abbrev pub word_code : SqlWord → ℕ
 word_code w.Select = 0
 word_code w.Sum = 1
 word_code w.Count = 2
@@ -98,6 +127,9 @@ word_code w.Asc = 16
 word_code w.Desc = 17
 word_code w.Limit = 18
 word_code w.ByBytes = 19
+word_code w.Average = 20
+word_code w.NullIf = 21
+word_code w.Having = 22
 
 abbrev pub table_code : Table → ℕ
 table_code Customer = 0
@@ -110,123 +142,212 @@ abbrev pub same_table : Table → Table → Bool
 same_table a b = nat_eq (table_code a) (table_code b)
 
 -- the step where a token is this mark, this word; none else
-abbrev pub on_mark : Token → Mark → Option Step → Option Step
+abbrev pub on_mark : SqlToken → Mark → Option SqlStep → Option SqlStep
 on_mark (k.Mark own) mark taken = if nat_eq (mark_code own) (mark_code mark) then taken else None
 on_mark _ mark taken = None
 
-abbrev pub on_word : Token → Word → Option Step → Option Step
+abbrev pub on_word : SqlToken → SqlWord → Option SqlStep → Option SqlStep
 on_word (k.Word own) word taken = if nat_eq (word_code own) (word_code word) then taken else None
 on_word _ word taken = None
 
 -- what a token is
-abbrev pub value_in : Token → Option Spelled
+abbrev pub value_in : SqlToken → Option Spelled
 value_in (k.Value v) = Some v
 value_in _ = None
 
-abbrev pub number_in : Token → Option ℕ
+abbrev pub number_in : SqlToken → Option ℕ
 number_in (k.Value (Number n)) = Some n
 number_in _ = None
 
-abbrev pub name_in : Token → Option (Bor (List ℕ))
+-- a number that aggregates are compared with
+abbrev pub amount_in : SqlToken → Option ℕ
+amount_in (k.Value (Number n)) = Some n
+amount_in (k.Large n) = Some n
+amount_in _ = None
+
+-- how what stands before a token is compared by it
+abbrev pub comparison_in : SqlToken → Option Comparison
+comparison_in (k.Mark m.Equal) = Some comparison.Equal
+comparison_in (k.Mark m.NotEqual) = Some comparison.NotEqual
+comparison_in (k.Mark m.Less) = Some comparison.Less
+comparison_in (k.Mark m.LessOrEqual) = Some comparison.LessOrEqual
+comparison_in (k.Mark m.Greater) = Some comparison.Greater
+comparison_in (k.Mark m.GreaterOrEqual) = Some comparison.GreaterOrEqual
+comparison_in _ = None
+
+abbrev pub name_in : SqlToken → Option (Bor (List ℕ))
 name_in (k.Name name) = Some name
 name_in _ = None
 
-abbrev pub table_in : Token → Option Table
+abbrev pub table_in : SqlToken → Option Table
 table_in (k.Table table) = Some table
 table_in _ = None
 
-abbrev pub column_in : Token → Option Column
+abbrev pub column_in : SqlToken → Option Column
 column_in (k.Column column) = Some column
 column_in _ = None
 
-abbrev pub line_in : Token → Option LineColumn
+abbrev pub line_in : SqlToken → Option LineColumn
 line_in (k.Line column) = Some column
 line_in _ = None
 
-abbrev pub mark_in : Token → Option Mark
+abbrev pub mark_in : SqlToken → Option Mark
 mark_in (k.Mark mark) = Some mark
 mark_in _ = None
 
 -- the key of the dimension, and that of a line
-abbrev pub on_key : Token → Table → Option Step → Option Step
+abbrev pub on_key : SqlToken → Table → Option SqlStep → Option SqlStep
 on_key (k.Key own) table taken = if same_table table own then taken else None
 on_key _ table taken = None
 
-abbrev pub on_line_key : Token → Table → Option Step → Option Step
+abbrev pub on_line_key : SqlToken → Table → Option SqlStep → Option SqlStep
 on_line_key (k.LineKey own) table taken = if same_table table own then taken else None
 on_line_key _ table taken = None
 
--- behind the first column of a sum
-abbrev pub behind_revenue : Mark → Option Step
-behind_revenue m.Close = list_says l.Total (piece.Totals measure.Revenue)
-behind_revenue m.Minus = list l.Minus
-behind_revenue _ = None
+-- what may follow the group columns, and the tests of groups
+abbrev pub behind_groups : SqlToken → Option SqlStep
+behind_groups (k.Word w.Order) = end e.OrderBy
+behind_groups (k.Word w.Limit) = end e.Limit
+behind_groups (k.Mark m.Semicolon) = end e.Done
+behind_groups _ = None
 
-abbrev pub behind_summed : LineColumn → Token → Option Step
-behind_summed Revenue token = option_and_then behind_revenue (mark_in token)
-behind_summed Quantity token = on_mark token m.Close (list_says l.Total (piece.Totals measure.Quantity))
-behind_summed ExtendedPrice token = on_mark token m.Star (list l.Times)
-behind_summed Discount token = on_mark token m.Star (list l.TimesPrice)
-behind_summed _ token = None
+-- ---- aggregates
+
+-- what is done with the numbers of lines
+abbrev pub computed : Adding → Measure → Aggregate
+computed Sum measure = aggregate.Total measure
+computed Average measure = aggregate.Average measure
+
+-- behind an aggregate
+abbrev pub closed : Purpose → Aggregate → Option SqlStep
+closed Printing made = list_says l.Total (piece.Computes made)
+closed Keeping made = having (h.Tested made)
+closed Ordering made = end_says e.Keyed (piece.OrdersByAggregate made)
+
+-- an aggregate comes
+abbrev pub begun : Purpose → SqlToken → Option SqlStep
+begun purpose (k.Word w.Sum) = computing purpose (ag.Adds Sum)
+begun purpose (k.Word w.Average) = computing purpose (ag.Adds Average)
+begun purpose (k.Word w.Count) = computing purpose ag.Count
+begun purpose (k.Word w.NullIf) = computing purpose (ag.NullIf ni.Open)
+begun purpose _ = None
+
+-- behind the first column of a sum
+abbrev pub behind_revenue : Purpose → Adding → Mark → Option SqlStep
+behind_revenue purpose adding m.Close = closed purpose (computed adding measure.Revenue)
+behind_revenue purpose adding m.Minus = computing purpose (ag.Minus adding)
+behind_revenue purpose adding _ = None
+
+abbrev pub behind_added : Purpose → Adding → LineColumn → SqlToken → Option SqlStep
+behind_added purpose adding Revenue token = option_and_then (behind_revenue purpose adding) (mark_in token)
+behind_added purpose adding Quantity token =
+    on_mark token m.Close (closed purpose (computed adding measure.Quantity))
+behind_added purpose adding ExtendedPrice token = on_mark token m.Star (computing purpose (ag.Times adding))
+behind_added purpose adding Discount token = on_mark token m.Star (computing purpose (ag.TimesPrice adding))
+behind_added purpose adding _ token = None
 
 -- the second column of a sum
-abbrev pub behind_minus : LineColumn → Option Step
-behind_minus SupplyCost = list (l.End measure.Profit)
-behind_minus _ = None
+abbrev pub behind_minus : Purpose → Adding → LineColumn → Option SqlStep
+behind_minus purpose adding SupplyCost = computing purpose (ag.Close (computed adding measure.Profit))
+behind_minus purpose adding _ = None
 
-abbrev pub behind_times : LineColumn → Option Step
-behind_times Discount = list (l.End measure.PriceTimesDiscount)
-behind_times _ = None
+abbrev pub behind_times : Purpose → Adding → LineColumn → Option SqlStep
+behind_times purpose adding Discount = computing purpose (ag.Close (computed adding measure.PriceTimesDiscount))
+behind_times purpose adding _ = None
 
-abbrev pub behind_discount_times : LineColumn → Option Step
-behind_discount_times ExtendedPrice = list (l.End measure.PriceTimesDiscount)
-behind_discount_times _ = None
+abbrev pub behind_discount_times : Purpose → Adding → LineColumn → Option SqlStep
+behind_discount_times purpose adding ExtendedPrice =
+    computing purpose (ag.Close (computed adding measure.PriceTimesDiscount))
+behind_discount_times purpose adding _ = None
+
+-- behind NULLIF
+abbrev pub null_if : Purpose → InNullIf → Option SqlStep
+null_if purpose next = computing purpose (ag.NullIf next)
+
+abbrev pub on_zero : Purpose → ℕ → Option SqlStep
+on_zero purpose number = if nat_eq number 0 then computing purpose (ag.Close aggregate.CountOrNull) else None
+
+abbrev pub in_null_if : Purpose → InNullIf → SqlToken → Option SqlStep
+in_null_if purpose ni.Open token = on_mark token m.Open (null_if purpose ni.Count)
+in_null_if purpose ni.Count token = on_word token w.Count (null_if purpose ni.CountOpen)
+in_null_if purpose ni.CountOpen token = on_mark token m.Open (null_if purpose ni.Star)
+in_null_if purpose ni.Star token = on_mark token m.Star (null_if purpose ni.CountClose)
+in_null_if purpose ni.CountClose token = on_mark token m.Close (null_if purpose ni.Comma)
+in_null_if purpose ni.Comma token = on_mark token m.Comma (null_if purpose ni.Zero)
+in_null_if purpose ni.Zero token = option_and_then (on_zero purpose) (number_in token)
+
+abbrev pub in_aggregate : Purpose → InAggregate → SqlToken → Option SqlStep
+in_aggregate purpose (ag.Adds adding) token = on_mark token m.Open (computing purpose (ag.Added adding))
+in_aggregate purpose (ag.Added adding) token =
+    option_and_then (λ column. computing purpose (ag.AddedOf adding column)) (line_in token)
+in_aggregate purpose (ag.AddedOf adding column) token = behind_added purpose adding column token
+in_aggregate purpose (ag.Minus adding) token = option_and_then (behind_minus purpose adding) (line_in token)
+in_aggregate purpose (ag.Times adding) token = option_and_then (behind_times purpose adding) (line_in token)
+in_aggregate purpose (ag.TimesPrice adding) token =
+    option_and_then (behind_discount_times purpose adding) (line_in token)
+in_aggregate purpose (ag.Close made) token = on_mark token m.Close (closed purpose made)
+in_aggregate purpose ag.Count token = on_mark token m.Open (computing purpose ag.Counted)
+in_aggregate purpose ag.Counted token =
+    on_mark token m.Star (computing purpose (ag.Close (aggregate.Total measure.Lines)))
+in_aggregate purpose (ag.NullIf at) token = in_null_if purpose at token
+
+-- the number that an aggregate is compared with
+abbrev pub compared : Aggregate → Comparison → Bool → ℕ → Option SqlStep
+compared made how is_negative size =
+    having_says h.Behind (piece.Keeps made how (record { is_negative = is_negative; size = size }))
+
+-- `-` comes, or the number itself
+abbrev pub in_stands : Aggregate → Comparison → SqlToken → Option SqlStep
+in_stands made how (k.Mark m.Minus) = having (h.Minus made how)
+in_stands made how token = option_and_then (compared made how false) (amount_in token)
+
+-- behind a test of groups
+abbrev pub behind_having : SqlToken → Option SqlStep
+behind_having (k.Word w.And) = having h.Test
+behind_having token = behind_groups token
+
+abbrev pub in_having : InHaving → SqlToken → Option SqlStep
+in_having h.Test token = begun Keeping token
+in_having (h.Tested made) token = option_and_then (λ how. having (h.Stands made how)) (comparison_in token)
+in_having (h.Stands made how) token = in_stands made how token
+in_having (h.Minus made how) token =
+    option_and_then (compared made how true) (amount_in token)
+in_having h.Behind token = behind_having token
+
+-- ---- what is printed
 
 -- behind a column, or an aggregate
-abbrev pub behind_total : Token → Option Step
+abbrev pub behind_total : SqlToken → Option SqlStep
 behind_total (k.Word w.As) = list l.As
 behind_total (k.Name name) = list_says l.Behind (piece.Called name)
 behind_total (k.Mark m.Comma) = list l.Item
 behind_total (k.Word w.From) = tables t.Table
 behind_total _ = None
 
-abbrev pub item : Token → Option Step
+abbrev pub item : SqlToken → Option SqlStep
 item (k.Column column) = list_says l.Total (piece.Prints column)
-item (k.Word w.Sum) = list l.Sum
-item (k.Word w.Count) = list l.Count
-item _ = None
+item token = begun Printing token
 
 -- behind a name
-abbrev pub behind_item : Token → Option Step
+abbrev pub behind_item : SqlToken → Option SqlStep
 behind_item (k.Mark m.Comma) = list l.Item
 behind_item (k.Word w.From) = tables t.Table
 behind_item _ = None
 
-abbrev pub in_list : InList → Token → Option Step
+abbrev pub in_list : InList → SqlToken → Option SqlStep
 in_list l.Start token = on_word token w.Select (list l.Item)
 in_list l.Item token = item token
-in_list l.Sum token = on_mark token m.Open (list l.Summed)
-in_list l.Summed token = option_and_then (λ column. list (l.SumOf column)) (line_in token)
-in_list (l.SumOf column) token = behind_summed column token
-in_list l.Minus token = option_and_then behind_minus (line_in token)
-in_list l.Times token = option_and_then behind_times (line_in token)
-in_list l.TimesPrice token = option_and_then behind_discount_times (line_in token)
-in_list (l.End measure) token = on_mark token m.Close (list_says l.Total (piece.Totals measure))
-in_list l.Count token = on_mark token m.Open (list l.Counted)
-in_list l.Counted token = on_mark token m.Star (list (l.End measure.Lines))
 in_list l.Total token = behind_total token
 in_list l.As token = option_and_then (λ name. list_says l.Behind (piece.Called name)) (name_in token)
 in_list l.Behind token = behind_item token
 
 -- what may follow the conditions
-abbrev pub behind_tests : Token → Option Step
+abbrev pub behind_tests : SqlToken → Option SqlStep
 behind_tests (k.Word w.Group) = end e.GroupBy
-behind_tests (k.Word w.Order) = end e.OrderBy
-behind_tests (k.Word w.Limit) = end e.Limit
-behind_tests (k.Mark m.Semicolon) = end e.Done
-behind_tests _ = None
+behind_tests (k.Word w.Having) = having h.Test
+behind_tests token = behind_groups token
 
-abbrev pub behind_table : Token → Option Step
+abbrev pub behind_table : SqlToken → Option SqlStep
 behind_table (k.Mark m.Comma) = tables t.Table
 behind_table (k.Word w.Inner) = tables t.Inner
 behind_table (k.Word w.Join) = tables t.Joined
@@ -234,12 +355,12 @@ behind_table (k.Word w.Where) = tests c.Test
 behind_table token = behind_tests token
 
 -- the first key of a join
-abbrev pub join_key : Token → Option Step
+abbrev pub join_key : SqlToken → Option SqlStep
 join_key (k.Key table) = tables (t.EqualKey table)
 join_key (k.LineKey table) = tables (t.EqualLineKey table)
 join_key _ = None
 
-abbrev pub in_tables : InTables → Token → Option Step
+abbrev pub in_tables : InTables → SqlToken → Option SqlStep
 in_tables t.Table token = option_and_then (λ table. tables_say t.Behind (piece.From table)) (table_in token)
 in_tables t.Behind token = behind_table token
 in_tables t.Inner token = on_word token w.Join (tables t.Joined)
@@ -251,107 +372,117 @@ in_tables (t.EqualLineKey table) token = on_mark token m.Equal (tables (t.Key2 t
 in_tables (t.Key2 table) token = on_key token table (tables_say t.Behind (piece.Joined table))
 in_tables (t.LineKey2 table) token = on_line_key token table (tables_say t.Behind (piece.Joined table))
 
-abbrev pub tested : Token → Option Operand
+abbrev pub tested : SqlToken → Option Operand
 tested (k.Column column) = Some (operand.Dimension column)
 tested (k.Line Quantity) = Some operand.Quantity
 tested (k.Line Discount) = Some operand.Discount
 tested _ = None
 
 -- a condition comes
-abbrev pub test : Token → Option Step
+abbrev pub test : SqlToken → Option SqlStep
 test (k.Key table) = tests (c.EqualKey table)
 test (k.LineKey table) = tests (c.EqualLineKey table)
-test (k.Mark m.Open) = tests c.Open
+test (k.Mark m.Open) = tests (c.Choice ch.Open)
 test token = option_and_then (λ o. tests (c.Tested o)) (tested token)
 
 -- behind what is tested
-abbrev pub behind_tested : Operand → Token → Option Step
+abbrev pub behind_tested : Operand → SqlToken → Option SqlStep
 behind_tested o (k.Mark m.Equal) = tests (c.Equal o)
-behind_tested o (k.Mark m.Less) = tests (c.Stands o order.Less)
-behind_tested o (k.Mark m.LessOrEqual) = tests (c.Stands o order.LessOrEqual)
-behind_tested o (k.Mark m.Greater) = tests (c.Stands o order.Greater)
-behind_tested o (k.Mark m.GreaterOrEqual) = tests (c.Stands o order.GreaterOrEqual)
 behind_tested o (k.Word w.Between) = tests (c.From o)
-behind_tested o (k.Word w.In) = tests (c.In o)
+behind_tested o (k.Word w.In) = tests (c.Values o vs.Open)
 behind_tested o (k.Word w.ByBytes) = tests (c.Tested o)
-behind_tested o _ = None
+behind_tested o token = option_and_then (λ how. tests (c.Stands o how)) (comparison_in token)
 
 -- behind a condition
-abbrev pub behind_test : Token → Option Step
+abbrev pub behind_test : SqlToken → Option SqlStep
 behind_test (k.Word w.And) = tests c.Test
 behind_test token = behind_tests token
 
 -- in a list of values
-abbrev pub behind_value : Operand → Token → Option Step
-behind_value o (k.Mark m.Comma) = tests (c.Next o)
+abbrev pub behind_value : Operand → SqlToken → Option SqlStep
+behind_value o (k.Mark m.Comma) = tests (c.Values o vs.Next)
 behind_value o (k.Mark m.Close) = tests c.Behind
 behind_value o _ = None
 
 -- in a choice
-abbrev pub behind_choice : Token → Option Step
-behind_choice (k.Word w.Or) = tests c.Or
+abbrev pub behind_choice : SqlToken → Option SqlStep
+behind_choice (k.Word w.Or) = tests (c.Choice ch.Or)
 behind_choice (k.Mark m.Close) = tests c.Behind
 behind_choice _ = None
 
 -- a value comes
-abbrev pub on_value : Token → (Spelled → Option Step) → Option Step
+abbrev pub on_value : SqlToken → (Spelled → Option SqlStep) → Option SqlStep
 on_value token takes = option_and_then takes (value_in token)
 
-abbrev pub in_tests : InTests → Token → Option Step
+abbrev pub in_values : Operand → InValues → SqlToken → Option SqlStep
+in_values o vs.Open token = on_mark token m.Open (tests (c.Values o vs.First))
+in_values o vs.First token = on_value token (λ x. tests_say (c.Values o vs.Listed) (piece.Is o x))
+in_values o vs.Listed token = behind_value o token
+in_values o vs.Next token = on_value token (λ x. tests_say (c.Values o vs.Listed) (piece.OrIs o x))
+
+abbrev pub choice : InChoice → Option SqlStep
+choice next = tests (c.Choice next)
+
+abbrev pub choice_says : SqlPiece → Option SqlStep
+choice_says piece = tests_say (c.Choice ch.Either) piece
+
+abbrev pub in_choice : InChoice → SqlToken → Option SqlStep
+in_choice ch.Open token = option_and_then (λ o. choice (ch.Tested o)) (tested token)
+in_choice (ch.Tested o) token = on_mark token m.Equal (choice (ch.Equal o))
+in_choice (ch.Equal o) token = on_value token (λ x. choice_says (piece.Is o x))
+in_choice ch.Either token = behind_choice token
+in_choice ch.Or token = option_and_then (λ o. choice (ch.OrTested o)) (tested token)
+in_choice (ch.OrTested o) token = on_mark token m.Equal (choice (ch.OrEqual o))
+in_choice (ch.OrEqual o) token = on_value token (λ x. choice_says (piece.OrIs o x))
+
+-- behind a condition that says this
+abbrev pub tested_by : SqlPiece → Option SqlStep
+tested_by piece = tests_say c.Behind piece
+
+abbrev pub in_tests : InTests → SqlToken → Option SqlStep
 in_tests c.Test token = test token
 in_tests c.Behind token = behind_test token
 in_tests (c.EqualKey table) token = on_mark token m.Equal (tests (c.LineKey table))
 in_tests (c.EqualLineKey table) token = on_mark token m.Equal (tests (c.Key table))
-in_tests (c.Key table) token = on_key token table (tests_say c.Behind (piece.Joined table))
-in_tests (c.LineKey table) token = on_line_key token table (tests_say c.Behind (piece.Joined table))
+in_tests (c.Key table) token = on_key token table (tested_by (piece.Joined table))
+in_tests (c.LineKey table) token = on_line_key token table (tested_by (piece.Joined table))
 in_tests (c.Tested o) token = behind_tested o token
-in_tests (c.Equal o) token = on_value token (λ v. tests_say c.Behind (piece.Is o v))
-in_tests (c.Stands o how) token = on_value token (λ v. tests_say c.Behind (piece.Stands o how v))
-in_tests (c.From o) token = on_value token (λ v. tests (c.And o v))
+in_tests (c.Equal o) token = on_value token (λ x. tested_by (piece.Is o x))
+in_tests (c.Stands o how) token = on_value token (λ x. tested_by (piece.Stands o how x))
+in_tests (c.From o) token = on_value token (λ x. tests (c.And o x))
 in_tests (c.And o from) token = on_word token w.And (tests (c.To o from))
-in_tests (c.To o from) token = on_value token (λ to. tests_say c.Behind (piece.Between o from to))
-in_tests (c.In o) token = on_mark token m.Open (tests (c.First o))
-in_tests (c.First o) token = on_value token (λ v. tests_say (c.Listed o) (piece.Is o v))
-in_tests (c.Listed o) token = behind_value o token
-in_tests (c.Next o) token = on_value token (λ v. tests_say (c.Listed o) (piece.OrIs o v))
-in_tests c.Open token = option_and_then (λ o. tests (c.OpenTested o)) (tested token)
-in_tests (c.OpenTested o) token = on_mark token m.Equal (tests (c.OpenEqual o))
-in_tests (c.OpenEqual o) token = on_value token (λ v. tests_say c.Either (piece.Is o v))
-in_tests c.Either token = behind_choice token
-in_tests c.Or token = option_and_then (λ o. tests (c.OrTested o)) (tested token)
-in_tests (c.OrTested o) token = on_mark token m.Equal (tests (c.OrEqual o))
-in_tests (c.OrEqual o) token = on_value token (λ v. tests_say c.Either (piece.OrIs o v))
+in_tests (c.To o from) token = on_value token (λ to. tested_by (piece.Between o from to))
+in_tests (c.Values o at) token = in_values o at token
+in_tests (c.Choice at) token = in_choice at token
 
 -- behind a group column
-abbrev pub behind_group : Token → Option Step
+abbrev pub behind_group : SqlToken → Option SqlStep
 behind_group (k.Mark m.Comma) = end e.Group
-behind_group (k.Word w.Order) = end e.OrderBy
-behind_group (k.Word w.Limit) = end e.Limit
-behind_group (k.Mark m.Semicolon) = end e.Done
-behind_group _ = None
+behind_group (k.Word w.Having) = having h.Test
+behind_group token = behind_groups token
 
 -- what rows stand by
-abbrev pub key : Token → Option Step
+abbrev pub key : SqlToken → Option SqlStep
 key (k.Column column) = end_says e.Keyed (piece.OrdersBy column)
 key (k.Name name) = end_says e.Keyed (piece.OrdersByName name)
 key (k.Value (Number place)) = end_says e.Keyed (piece.OrdersByPlace place)
-key _ = None
+key token = begun Ordering token
 
 -- behind a direction
-abbrev pub behind_direction : Token → Option Step
+abbrev pub behind_direction : SqlToken → Option SqlStep
 behind_direction (k.Mark m.Comma) = end e.Key
 behind_direction (k.Word w.Limit) = end e.Limit
 behind_direction (k.Mark m.Semicolon) = end e.Done
 behind_direction _ = None
 
 -- behind a key of the order
-abbrev pub behind_key : Token → Option Step
+abbrev pub behind_key : SqlToken → Option SqlStep
 behind_key (k.Word w.ByBytes) = end e.Keyed
 behind_key (k.Word w.Asc) = end e.Directed
 behind_key (k.Word w.Desc) = end_says e.Directed piece.Descending
 behind_key token = behind_direction token
 
-abbrev pub in_end : InEnd → Token → Option Step
+abbrev pub in_end : InEnd → SqlToken → Option SqlStep
 in_end e.GroupBy token = on_word token w.By (end e.Group)
 in_end e.Group token = option_and_then (λ column. end_says e.Grouped (piece.GroupsBy column)) (column_in token)
 in_end e.Grouped token = behind_group token
@@ -364,11 +495,13 @@ in_end e.Limited token = on_mark token m.Semicolon (end e.Done)
 in_end e.Done token = None
 
 -- what a token leads to from a state; none where it may not come
-abbrev pub step : State → Token → Option Step
+abbrev pub step : State → SqlToken → Option SqlStep
 step (state.List at) token = in_list at token
 step (state.Tables at) token = in_tables at token
 step (state.Tests at) token = in_tests at token
+step (state.Having at) token = in_having at token
 step (state.End at) token = in_end at token
+step (state.Aggregate purpose at) token = in_aggregate purpose at token
 
 -- whether a statement may end there
 abbrev pub ends_tables : InTables → Bool
@@ -378,6 +511,10 @@ ends_tables _ = false
 abbrev pub ends_tests : InTests → Bool
 ends_tests c.Behind = true
 ends_tests _ = false
+
+abbrev pub ends_having : InHaving → Bool
+ends_having h.Behind = true
+ends_having _ = false
 
 abbrev pub ends_end : InEnd → Bool
 ends_end e.Grouped = true
@@ -391,4 +528,6 @@ abbrev pub may_end : State → Bool
 may_end (state.List at) = false
 may_end (state.Tables at) = ends_tables at
 may_end (state.Tests at) = ends_tests at
+may_end (state.Having at) = ends_having at
 may_end (state.End at) = ends_end at
+may_end (state.Aggregate purpose at) = false

@@ -1,8 +1,11 @@
 //! The statement that pieces make.
 
-use crate::piece::Piece;
+ghost use Rattle.std.specs.Prelude.{◌≡◌, ◌++◌, IfOk, OnOk, option_to_list};
+ghost use Rattle.ssb_sql.specs.Said.{group_said, groups_said, limit_said, most_said};
+
+use crate::piece::{Aggregate, SqlPiece};
 use crate::piece_fault::PieceFault;
-use crate::statement::{MOST_SHOWN, Shown, SortKey};
+use crate::statement::{GroupTest, MOST_SHOWN, Shown, SortKey};
 use ssb_questions::Measure;
 use ssb_questions::clauses::MOST_GROUPS;
 use ssb_schema::{Column, Text};
@@ -16,16 +19,30 @@ pub(crate) struct Printed {
     pub measures: Vec<Measure>,
 }
 
-/// The group columns.
-pub(crate) fn groups_in(alloc: Global, pieces: &[Piece<'_>]) -> Result<Vec<Column>, PieceFault> {
-    let mut groups: Vec<Column> = Vec::new(alloc);
-    for (number, piece) in pieces.iter().enumerate() {
-        if let Piece::GroupsBy(column) = piece {
-            if groups.len() >= MOST_GROUPS || groups.iter().any(|own| own == column) {
-                return Err(PieceFault::TooMany(number));
-            }
-            groups.push(*column)?;
+// Adds the group column that the piece of this number says, where it says one.
+fn push_group(
+    groups: &mut Vec<Column>,
+    piece: SqlPiece<'_>,
+    number: usize,
+) -> Result<(), PieceFault>
+    ensures { OnOk result (groups.new.items ≡ groups.old.items ++ option_to_list (group_said piece.entry)) }
+{
+    if let SqlPiece::GroupsBy(column) = piece {
+        if groups.len() >= MOST_GROUPS || groups.iter().any(|own| *own == column) {
+            return Err(PieceFault::TooMany(number));
         }
+        groups.push(column)?;
+    }
+    Ok(())
+}
+
+/// The group columns.
+pub(crate) fn groups_in(alloc: Global, pieces: &[SqlPiece<'_>]) -> Result<Vec<Column>, PieceFault>
+    ensures { IfOk result (λ groups. groups.items ≡ groups_said pieces.now) }
+{
+    let mut groups = Vec::new(alloc);
+    for (number, piece) in pieces.iter().enumerate() {
+        push_group(&mut groups, *piece, number)?;
     }
     Ok(groups)
 }
@@ -38,14 +55,6 @@ fn place_of(groups: &[Column], column: Column, number: usize) -> Result<usize, P
     }
 }
 
-// What is printed of a measure that is summed by the question at a place.
-fn shown_at(measure: Measure, place: usize) -> Shown {
-    match measure {
-        Measure::Lines => Shown::Count(place),
-        _ => Shown::Sum(place),
-    }
-}
-
 // The place of a measure among those that are summed; it is put behind them where it is not there yet.
 fn measured(measures: &mut Vec<Measure>, measure: Measure) -> Result<usize, AllocError> {
     if let Some(place) = measures.iter().position(|own| *own == measure) {
@@ -55,10 +64,36 @@ fn measured(measures: &mut Vec<Measure>, measure: Measure) -> Result<usize, Allo
     Ok(measures.len().saturating_sub(1))
 }
 
+// What an aggregate is of the answers to questions, whose measures are put behind the others where they lack.
+fn shown_of(measures: &mut Vec<Measure>, aggregate: Aggregate) -> Result<Shown, AllocError> {
+    match aggregate {
+        Aggregate::Total(Measure::Lines) => Ok(Shown::Count(measured(measures, Measure::Lines)?)),
+        Aggregate::Total(measure) => Ok(Shown::Sum(measured(measures, measure)?)),
+        Aggregate::CountOrNull => Ok(Shown::Sum(measured(measures, Measure::Lines)?)),
+        Aggregate::Average(measure) => {
+            let sum = measured(measures, measure)?;
+            Ok(Shown::Average(sum, measured(measures, Measure::Lines)?))
+        }
+    }
+}
+
+// The head of an aggregate without a name.
+fn own_head(aggregate: Aggregate) -> &'static str {
+    match aggregate {
+        Aggregate::Total(measure) => measure.name(),
+        Aggregate::CountOrNull => Measure::Lines.name(),
+        Aggregate::Average(Measure::Revenue) => "AVG(LO_REVENUE)",
+        Aggregate::Average(Measure::Profit) => "AVG(LO_REVENUE-LO_SUPPLYCOST)",
+        Aggregate::Average(Measure::PriceTimesDiscount) => "AVG(LO_EXTENDEDPRICE*LO_DISCOUNT)",
+        Aggregate::Average(Measure::Quantity) => "AVG(LO_QUANTITY)",
+        Aggregate::Average(Measure::Lines) => "AVG(COUNT)",
+    }
+}
+
 // The head of what the piece of this number prints: the name behind it, else its own.
-fn head_of<'a>(pieces: &[Piece<'a>], number: usize, own: &'static str) -> &'a str {
+fn head_of<'a>(pieces: &[SqlPiece<'a>], number: usize, own: &'static str) -> &'a str {
     match pieces.get(number.saturating_add(1)) {
-        Some(Piece::Called(name)) => name,
+        Some(SqlPiece::Called(name)) => name,
         _ => own,
     }
 }
@@ -84,7 +119,7 @@ impl Printed {
     /// What the pieces print.
     pub fn of(
         alloc: Global,
-        pieces: &[Piece<'_>],
+        pieces: &[SqlPiece<'_>],
         groups: &[Column],
     ) -> Result<Printed, PieceFault> {
         let mut printed = Printed {
@@ -94,23 +129,29 @@ impl Printed {
         };
         for (number, piece) in pieces.iter().enumerate() {
             match piece {
-                Piece::Prints(column) => {
+                SqlPiece::Prints(column) => {
                     let place = place_of(groups, *column, number)?;
                     let head = Text::from_str(alloc, head_of(pieces, number, column.name()))?;
                     printed.add(Shown::Group(place), head, number)?;
                 }
-                Piece::Totals(measure) => {
-                    let head = Text::from_str(alloc, head_of(pieces, number, measure.name()))?;
-                    let place = measured(&mut printed.measures, *measure)?;
-                    printed.add(shown_at(*measure, place), head, number)?;
+                SqlPiece::Computes(aggregate) => {
+                    let own = own_head(*aggregate);
+                    let head = Text::from_str(alloc, head_of(pieces, number, own))?;
+                    let shown = shown_of(&mut printed.measures, *aggregate)?;
+                    printed.add(shown, head, number)?;
                 }
                 _ => {}
             }
         }
-        if printed.measures.is_empty() {
-            printed.measures.push(Measure::Lines)?;
-        }
         Ok(printed)
+    }
+
+    /// What is summed; the number of lines where nothing is.
+    pub fn asked(mut self) -> Result<Printed, AllocError> {
+        if self.measures.is_empty() {
+            self.measures.push(Measure::Lines)?;
+        }
+        Ok(self)
     }
 
     // What has this head.
@@ -136,24 +177,48 @@ impl Printed {
 
     // What rows stand by, where a piece says so.
     fn key_in(
-        &self,
-        piece: &Piece<'_>,
+        &mut self,
+        piece: &SqlPiece<'_>,
         groups: &[Column],
         number: usize,
     ) -> Result<Option<Shown>, PieceFault> {
         match piece {
-            Piece::OrdersBy(column) => Ok(Some(Shown::Group(place_of(groups, *column, number)?))),
-            Piece::OrdersByName(name) => Ok(Some(self.called(name, number)?)),
-            Piece::OrdersByPlace(place) => Ok(Some(self.printed_at(*place, number)?)),
+            SqlPiece::OrdersBy(column) => Ok(Some(Shown::Group(place_of(
+                groups, *column, number,
+            )?))),
+            SqlPiece::OrdersByName(name) => Ok(Some(self.called(name, number)?)),
+            SqlPiece::OrdersByPlace(place) => Ok(Some(self.printed_at(*place, number)?)),
+            SqlPiece::OrdersByAggregate(aggregate) => {
+                Ok(Some(shown_of(&mut self.measures, *aggregate)?))
+            }
             _ => Ok(None),
         }
     }
 
+    /// What each group must have.
+    pub fn having_in(
+        &mut self,
+        alloc: Global,
+        pieces: &[SqlPiece<'_>],
+    ) -> Result<Vec<GroupTest>, AllocError> {
+        let mut having = Vec::new(alloc);
+        for piece in pieces {
+            if let SqlPiece::Keeps(aggregate, comparison, number) = piece {
+                having.push(GroupTest {
+                    shown: shown_of(&mut self.measures, *aggregate)?,
+                    comparison: *comparison,
+                    number: *number,
+                })?;
+            }
+        }
+        Ok(having)
+    }
+
     /// What rows stand by, the first key first.
     pub fn order_in(
-        &self,
+        &mut self,
         alloc: Global,
-        pieces: &[Piece<'_>],
+        pieces: &[SqlPiece<'_>],
         groups: &[Column],
     ) -> Result<Vec<SortKey>, PieceFault> {
         let mut order = Vec::new(alloc);
@@ -162,7 +227,7 @@ impl Printed {
                 let behind = pieces.get(number.saturating_add(1));
                 order.push(SortKey {
                     shown,
-                    descending: matches!(behind, Some(Piece::Descending)),
+                    descending: matches!(behind, Some(SqlPiece::Descending)),
                 })?;
             }
         }
@@ -170,10 +235,26 @@ impl Printed {
     }
 }
 
-/// How many rows are printed at most, where the pieces say so.
-pub(crate) fn limit_in(pieces: &[Piece<'_>]) -> Option<u32> {
-    match pieces.last() {
-        Some(Piece::Limit(most)) => Some(*most),
+// How many rows are printed at most, where a piece says so.
+fn most_in(piece: SqlPiece<'_>) -> Option<u32>
+    ensures { result ≡ most_said piece.entry }
+{
+    match piece {
+        SqlPiece::Limit(most) => Some(most),
         _ => None,
+    }
+}
+
+/// How many rows are printed at most, where the pieces say so.
+#[tactic(auto, using(crate::proofs::SaidLaws::nothing_more))]
+pub(crate) fn limit_in(pieces: &[SqlPiece<'_>]) -> Option<u32>
+    ensures { result ≡ limit_said pieces.now }
+{
+    match pieces {
+        [] => None,
+        [first, others @ ..] => match most_in(*first) {
+            Some(most) => Some(most),
+            None => limit_in(others),
+        },
     }
 }

@@ -1,6 +1,6 @@
 //! The conditions of a statement, each of one operand, and what several of one operand leave.
 
-use crate::piece::{Operand, Order, Piece};
+use crate::piece::{Comparison, Operand, SqlPiece};
 use crate::piece_fault::PieceFault;
 use ssb_questions::clause::kind_in;
 use ssb_questions::{ConstantKind, Spelled, Value};
@@ -9,18 +9,20 @@ use std::alloc::{AllocError, Global};
 
 /// What one condition asks of its operand.
 #[derive(Drop)]
-pub(crate) enum Asked {
+pub(crate) enum Demand {
     /// It has one of these values.
     OneOf(Vec<Value>),
     /// It lies between these ends, both included; an end that is not there is no end.
     Within(Option<Value>, Option<Value>),
+    /// It has another value.
+    Except(Value),
 }
 
 /// A condition, said from the piece of this number on.
 #[derive(Drop)]
 pub(crate) struct Condition {
     pub operand: Operand,
-    pub asked: Asked,
+    pub asked: Demand,
     pub piece: usize,
 }
 
@@ -74,63 +76,70 @@ fn value_of(
 }
 
 // All numbers below one.
-fn below(number: u32) -> Asked {
+fn below(number: u32) -> Demand {
     match number.checked_sub(1) {
-        Some(last) => Asked::Within(None, Some(Value::Number(last))),
+        Some(last) => Demand::Within(None, Some(Value::Number(last))),
         None => nothing(),
     }
 }
 
 // All numbers above one.
-fn above(number: u32) -> Asked {
+fn above(number: u32) -> Demand {
     match number.checked_add(1) {
-        Some(first) => Asked::Within(Some(Value::Number(first)), None),
+        Some(first) => Demand::Within(Some(Value::Number(first)), None),
         None => nothing(),
     }
 }
 
-// All below a value, or all above it. Of texts there is neither without the value itself.
-fn beside(order: Order, value: Value, piece: usize) -> Result<Asked, PieceFault> {
-    match (order, &value) {
-        (Order::LessOrEqual, _) => Ok(Asked::Within(None, Some(value))),
-        (Order::GreaterOrEqual, _) => Ok(Asked::Within(Some(value), None)),
-        (Order::Less, Value::Number(number)) => Ok(below(*number)),
-        (Order::Greater, Value::Number(number)) => Ok(above(*number)),
+// All that stand so to a value. Of texts there is neither without the value itself.
+fn beside(
+    alloc: Global,
+    comparison: Comparison,
+    value: Value,
+    piece: usize,
+) -> Result<Demand, PieceFault> {
+    match (comparison, &value) {
+        (Comparison::Equal, _) => one_of(alloc, value),
+        (Comparison::NotEqual, _) => Ok(Demand::Except(value)),
+        (Comparison::LessOrEqual, _) => Ok(Demand::Within(None, Some(value))),
+        (Comparison::GreaterOrEqual, _) => Ok(Demand::Within(Some(value), None)),
+        (Comparison::Less, Value::Number(number)) => Ok(below(*number)),
+        (Comparison::Greater, Value::Number(number)) => Ok(above(*number)),
         (_, Value::Text(_)) => Err(PieceFault::BadValue(piece)),
     }
 }
 
 // No number lies there.
-fn nothing() -> Asked {
-    Asked::Within(Some(Value::Number(1)), Some(Value::Number(0)))
+fn nothing() -> Demand {
+    Demand::Within(Some(Value::Number(1)), Some(Value::Number(0)))
 }
 
 // One value alone.
-fn one_of(alloc: Global, value: Value) -> Result<Asked, PieceFault> {
+fn one_of(alloc: Global, value: Value) -> Result<Demand, PieceFault> {
     let mut values = Vec::new(alloc);
     values.push(value)?;
-    Ok(Asked::OneOf(values))
+    Ok(Demand::OneOf(values))
 }
 
 // What a piece asks, where it begins a condition, and of which operand.
 fn asked_by(
     alloc: Global,
-    said: &Piece<'_>,
+    said: &SqlPiece<'_>,
     piece: usize,
-) -> Result<Option<(Operand, Asked)>, PieceFault> {
+) -> Result<Option<(Operand, Demand)>, PieceFault> {
     match said {
-        Piece::Is(operand, value) => {
+        SqlPiece::Is(operand, value) => {
             let value = value_of(alloc, *operand, *value, piece)?;
             Ok(Some((*operand, one_of(alloc, value)?)))
         }
-        Piece::Stands(operand, order, value) => {
+        SqlPiece::Stands(operand, comparison, value) => {
             let value = value_of(alloc, *operand, *value, piece)?;
-            Ok(Some((*operand, beside(*order, value, piece)?)))
+            Ok(Some((*operand, beside(alloc, *comparison, value, piece)?)))
         }
-        Piece::Between(operand, from, to) => {
+        SqlPiece::Between(operand, from, to) => {
             let from = value_of(alloc, *operand, *from, piece)?;
             let to = value_of(alloc, *operand, *to, piece)?;
-            Ok(Some((*operand, Asked::Within(Some(from), Some(to)))))
+            Ok(Some((*operand, Demand::Within(Some(from), Some(to)))))
         }
         _ => Ok(None),
     }
@@ -150,22 +159,22 @@ fn add_value(
         return Err(PieceFault::NotSupported(piece));
     }
     match &mut last.asked {
-        Asked::OneOf(values) => {
+        Demand::OneOf(values) => {
             values.push(value)?;
             Ok(())
         }
-        Asked::Within(_, _) => Err(PieceFault::NotSupported(piece)),
+        Demand::Within(_, _) | Demand::Except(_) => Err(PieceFault::NotSupported(piece)),
     }
 }
 
 /// The conditions that the pieces say, in their order.
 pub(crate) fn conditions(
     alloc: Global,
-    pieces: &[Piece<'_>],
+    pieces: &[SqlPiece<'_>],
 ) -> Result<Vec<Condition>, PieceFault> {
     let mut found = Vec::new(alloc);
     for (piece, said) in pieces.iter().enumerate() {
-        if let Piece::OrIs(operand, value) = said {
+        if let SqlPiece::OrIs(operand, value) = said {
             let value = value_of(alloc, *operand, *value, piece)?;
             add_value(&mut found, *operand, value, piece)?;
         } else if let Some((operand, asked)) = asked_by(alloc, said, piece)? {

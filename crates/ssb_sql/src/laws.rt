@@ -1,11 +1,16 @@
 //! What is true of reading, over the definitions in `specs/`.
 //!
 //! Each is the contract of a function that does nothing.
-ghost use Rattle.ssb_sql.specs.Laws.{StatementsAreRead, TokensMeanOneThing};
+ghost use Rattle.ssb_sql.specs.Laws.{StatementsAreRead, StatementsSayTheirGroups, TokensMeanOneThing};
 
 /// Each statement of the shape is read, as what it says.
 pub fn statements_are_read()
     ensures { StatementsAreRead }
+{}
+
+/// A statement as it is written says the groups and the limit that its writer chose.
+pub fn statements_say_their_groups()
+    ensures { StatementsSayTheirGroups }
 {}
 
 /// Statements of the same tokens say the same.

@@ -94,7 +94,7 @@ fn less<'a>(text: &'a str) -> Front<'a> {
     if text.starts_with("<=") {
         cut(Lexeme::Mark(Mark::LessOrEqual), text, 2)
     } else if text.starts_with("<>") {
-        cut(Lexeme::Bad, text, 2)
+        cut(Lexeme::Mark(Mark::NotEqual), text, 2)
     } else {
         cut(Lexeme::Mark(Mark::Less), text, 1)
     }
@@ -105,6 +105,15 @@ fn greater<'a>(text: &'a str) -> Front<'a> {
         cut(Lexeme::Mark(Mark::GreaterOrEqual), text, 2)
     } else {
         cut(Lexeme::Mark(Mark::Greater), text, 1)
+    }
+}
+
+// `!=`, or nothing that a statement has.
+fn exclamation<'a>(text: &'a str) -> Front<'a> {
+    if text.starts_with("!=") {
+        cut(Lexeme::Mark(Mark::NotEqual), text, 2)
+    } else {
+        cut(Lexeme::Bad, text, 1)
     }
 }
 
@@ -137,6 +146,7 @@ pub(crate) fn front_of(text: &str) -> Option<Front<'_>> {
         '/' => slash(text),
         '<' => less(text),
         '>' => greater(text),
+        '!' => exclamation(text),
         '\'' => quoted(text),
         c if is_blank(c) => {
             let length = text.find(|c: char| !is_blank(c)).unwrap_or(text.len());

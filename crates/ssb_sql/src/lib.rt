@@ -5,6 +5,7 @@
 //! ```
 #![tactic(auto)]
 
+mod aggregate_step;
 mod asking;
 mod building;
 mod checks;
@@ -16,18 +17,22 @@ mod narrowed;
 pub mod piece;
 mod piece_fault;
 pub mod reading;
+mod several;
 mod sql_text;
 mod star_words;
 pub mod state;
 pub mod statement;
 pub mod step;
+mod steps;
 pub mod token;
+mod token_parts;
 mod tokens;
 mod words;
 
-pub use fault::{Place, SqlFault};
-pub use piece::{Operand, Order, Piece};
+pub use fault::{SqlFault, TextPlace};
+pub use piece::{Aggregate, Comparison, Operand, SignedNumber, SqlPiece};
 pub use reading::{ReadFault, pieces};
+pub use several::statements_of;
 pub use sql_text::statement_of;
-pub use statement::{MOST_SHOWN, Shown, SortKey, Statement};
-pub use token::{LineColumn, Mark, Token, Word};
+pub use statement::{GroupTest, MOST_SHOWN, Shown, SortKey, Statement};
+pub use token::{LineColumn, Mark, SqlToken, SqlWord};

@@ -4,10 +4,10 @@ ghost use Rattle.ssb_sql.specs.Faults.{IsFault};
 ghost use Rattle.ssb_sql.specs.Reading.{Outcome, read, said, say_all};
 ghost use Rattle.ssb_sql.specs.declared.reading.ReadFault.TheVariants.{OutOfMemory};
 
-use crate::piece::Piece;
+use crate::piece::SqlPiece;
 use crate::state::{InList, State};
 use crate::step::{may_end, step};
-use crate::token::Token;
+use crate::token::SqlToken;
 use std::alloc::{AllocError, Global};
 
 /// Why tokens are no statement.
@@ -29,7 +29,7 @@ impl From<AllocError> for ReadFault {
 
 // Adds what a token says.
 #[tactic(auto, using(crate::proofs::SayLaws::say_all_last))]
-fn note<'a>(found: &mut Vec<Piece<'a>>, says: Option<Piece<'a>>) -> Result<(), AllocError>
+fn note<'a>(found: &mut Vec<SqlPiece<'a>>, says: Option<SqlPiece<'a>>) -> Result<(), AllocError>
     ensures { OnOk result ((outcome : Outcome)
         → say_all found.new.items outcome ≡ say_all found.old.items (said says.entry outcome)) }
 {
@@ -40,7 +40,7 @@ fn note<'a>(found: &mut Vec<Piece<'a>>, says: Option<Piece<'a>>) -> Result<(), A
 }
 
 /// What the tokens of a statement say.
-pub fn pieces<'a>(alloc: Global, tokens: &[Token<'a>]) -> Result<Vec<Piece<'a>>, ReadFault>
+pub fn pieces<'a>(alloc: Global, tokens: &[SqlToken<'a>]) -> Result<Vec<SqlPiece<'a>>, ReadFault>
     ensures pieces { IfOk result (λ found. read tokens.now ≡ Ok found.items) }
     ensures fault { IfErr result (λ fault. IsFault (read tokens.now) fault) }
 {

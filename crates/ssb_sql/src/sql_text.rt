@@ -1,12 +1,16 @@
 //! The statement that a text spells.
 
+ghost use Rattle.std.specs.Prelude.{◌≡◌, IfOk, Ok};
+ghost use Rattle.ssb_sql.specs.Reading.{read};
+ghost use Rattle.ssb_sql.specs.Said.{IsRead, Says, limit_said};
+
 use crate::asking::questions_of;
 use crate::building::{Printed, groups_in, limit_in};
 use crate::checks::table_fault;
 use crate::conditions::{Condition, conditions, same_operand};
-use crate::fault::{Place, SqlFault};
+use crate::fault::{SqlFault, TextPlace};
 use crate::narrowed::narrow;
-use crate::piece::Piece;
+use crate::piece::SqlPiece;
 use crate::piece_fault::PieceFault;
 use crate::reading::{ReadFault, pieces};
 use crate::star_words::add_words;
@@ -20,23 +24,25 @@ use std::alloc::Global;
 
 // A statement being read: its tokens, and what they say.
 #[derive(Drop)]
-struct Reading<'a> {
+struct TextReading<'a> {
     tokens: Tokens<'a>,
-    pieces: Vec<Piece<'a>>,
+    pieces: Vec<SqlPiece<'a>>,
 }
 
-impl<'a> Reading<'a> {
-    fn of(alloc: Global, text: &'a str) -> Result<Reading<'a>, SqlFault> {
+impl<'a> TextReading<'a> {
+    fn of(alloc: Global, text: &'a str) -> Result<TextReading<'a>, SqlFault>
+        ensures { IfOk result (λ reading. read reading.tokens.tokens.items ≡ Ok reading.pieces.items) }
+    {
         let tokens = Tokens::of(alloc, text)?;
         match pieces(alloc, tokens.tokens.as_slice()) {
-            Ok(pieces) => Ok(Reading { tokens, pieces }),
+            Ok(pieces) => Ok(TextReading { tokens, pieces }),
             Err(ReadFault::Unexpected(left)) => Err(tokens.unexpected(left)),
             Err(ReadFault::OutOfMemory) => Err(SqlFault::OutOfMemory),
         }
     }
 
     // The place of the token that says the piece of this number, from 0.
-    fn place(&self, piece: usize) -> Place {
+    fn place(&self, piece: usize) -> TextPlace {
         let mut state = State::List(InList::Start);
         let mut said = 0usize;
         for (number, token) in self.tokens.tokens.iter().enumerate() {
@@ -88,12 +94,17 @@ fn words_of(alloc: Global, conditions: &[Condition]) -> Result<Vec<Value>, Piece
 // The statement of these group columns and tests.
 fn parts_of(
     alloc: Global,
-    pieces: &[Piece<'_>],
+    pieces: &[SqlPiece<'_>],
     groups: Vec<Column>,
     tests: &[Value],
-) -> Result<Statement, PieceFault> {
-    let printed = Printed::of(alloc, pieces, groups.as_slice())?;
+) -> Result<Statement, PieceFault>
+    ensures groups { IfOk result (λ statement. statement.groups.items ≡ groups.items) }
+    ensures limit { IfOk result (λ statement. statement.limit ≡ limit_said pieces.now) }
+{
+    let mut printed = Printed::of(alloc, pieces, groups.as_slice())?;
+    let having = printed.having_in(alloc, pieces)?;
     let order = printed.order_in(alloc, pieces, groups.as_slice())?;
+    let printed = printed.asked()?;
     let last = pieces.len().saturating_sub(1);
     let questions = questions_of(
         alloc,
@@ -113,13 +124,16 @@ fn parts_of(
         groups,
         shown,
         heads,
+        having,
         order,
         limit: limit_in(pieces),
     })
 }
 
 // The statement that the pieces say. Of each operand the tests come once, in the order of its first condition.
-fn statement_in(alloc: Global, pieces: &[Piece<'_>]) -> Result<Statement, PieceFault> {
+fn statement_in(alloc: Global, pieces: &[SqlPiece<'_>]) -> Result<Statement, PieceFault>
+    ensures { IfOk result (Says pieces.now) }
+{
     if let Some(fault) = table_fault(pieces) {
         return Err(fault);
     }
@@ -130,8 +144,10 @@ fn statement_in(alloc: Global, pieces: &[Piece<'_>]) -> Result<Statement, PieceF
 }
 
 /// The statement that a text spells.
-pub fn statement_of(alloc: Global, text: &str) -> Result<Statement, SqlFault> {
-    let reading = Reading::of(alloc, text)?;
+pub fn statement_of(alloc: Global, text: &str) -> Result<Statement, SqlFault>
+    ensures { IfOk result IsRead }
+{
+    let reading = TextReading::of(alloc, text)?;
     match statement_in(alloc, reading.pieces.as_slice()) {
         Ok(statement) => Ok(statement),
         Err(fault) => Err(reading.fault(fault)),

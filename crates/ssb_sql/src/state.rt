@@ -1,7 +1,7 @@
 //! How far a statement has been read.
-use crate::piece::{Operand, Order, Piece};
+use crate::piece::{Aggregate, Comparison, Operand, SqlPiece};
 use crate::token::LineColumn;
-use ssb_questions::{Measure, Spelled};
+use ssb_questions::Spelled;
 use ssb_schema::Table;
 
 /// In the list behind SELECT.
@@ -11,30 +11,67 @@ pub enum InList {
     Start,
     /// A column, or an aggregate.
     Item,
-    /// Behind SUM.
-    Sum,
-    /// A column to add up.
-    Summed,
-    /// Behind that column.
-    SumOf(LineColumn),
-    /// Behind `LO_REVENUE -`.
-    Minus,
-    /// Behind `LO_EXTENDEDPRICE *`.
-    Times,
-    /// Behind `LO_DISCOUNT *`.
-    TimesPrice,
-    /// `)` comes.
-    End(Measure),
-    /// Behind COUNT.
-    Count,
-    /// `*` comes.
-    Counted,
     /// Behind a column, or an aggregate.
     Total,
     /// A name comes.
     As,
     /// `,` or FROM comes.
     Behind,
+}
+
+/// What an aggregate is for.
+#[derive(Clone, Copy)]
+pub enum Purpose {
+    /// It is printed.
+    Printing,
+    /// Groups are kept by it.
+    Keeping,
+    /// Rows stand by it.
+    Ordering,
+}
+
+/// What is done with numbers of lines.
+#[derive(Clone, Copy)]
+pub enum Adding {
+    Sum,
+    Average,
+}
+
+/// In an aggregate.
+#[derive(Clone, Copy)]
+pub enum InAggregate {
+    /// `(` comes, behind SUM or AVG.
+    Adds(Adding),
+    /// A column to add up.
+    Added(Adding),
+    /// Behind that column.
+    AddedOf(Adding, LineColumn),
+    /// Behind `LO_REVENUE -`.
+    Minus(Adding),
+    /// Behind `LO_EXTENDEDPRICE *`.
+    Times(Adding),
+    /// Behind `LO_DISCOUNT *`.
+    TimesPrice(Adding),
+    /// `)` comes.
+    Close(Aggregate),
+    /// `(` comes, behind COUNT; `*` comes.
+    Count,
+    Counted,
+    /// Behind NULLIF.
+    NullIf(InNullIf),
+}
+
+/// In NULLIF of the number of lines and 0.
+#[derive(Clone, Copy)]
+pub enum InNullIf {
+    /// `(` comes; COUNT; `(`; `*`; `)`; `,`; 0.
+    Open,
+    Count,
+    CountOpen,
+    Star,
+    CountClose,
+    Comma,
+    Zero,
 }
 
 /// Behind FROM.
@@ -77,24 +114,58 @@ pub enum InTests<'a> {
     Tested(Operand),
     /// A value comes.
     Equal(Operand),
-    Stands(Operand, Order),
+    Stands(Operand, Comparison),
     /// The first value of BETWEEN comes; AND; the last value.
     From(Operand),
     And(Operand, Spelled<'a>),
     To(Operand, Spelled<'a>),
-    /// `(` comes, behind IN; the first value; `,` or `)`; another value.
-    In(Operand),
-    First(Operand),
-    Listed(Operand),
-    Next(Operand),
-    /// Behind `(`: what is tested comes; `=`; a value; OR or `)`; what is tested; `=`; a value.
+    /// Behind IN.
+    Values(Operand, InValues),
+    /// Behind `(`.
+    Choice(InChoice),
+}
+
+/// In a list of values.
+#[derive(Clone, Copy)]
+pub enum InValues {
+    /// `(` comes.
     Open,
-    OpenTested(Operand),
-    OpenEqual(Operand),
+    /// The first value comes.
+    First,
+    /// `,` or `)` comes.
+    Listed,
+    /// Another value comes.
+    Next,
+}
+
+/// In a choice between values.
+#[derive(Clone, Copy)]
+pub enum InChoice {
+    /// What is tested comes; `=`; a value.
+    Open,
+    Tested(Operand),
+    Equal(Operand),
+    /// OR or `)` comes.
     Either,
+    /// What is tested comes again; `=`; a value.
     Or,
     OrTested(Operand),
     OrEqual(Operand),
+}
+
+/// Behind HAVING.
+#[derive(Clone, Copy)]
+pub enum InHaving {
+    /// An aggregate comes.
+    Test,
+    /// Behind it.
+    Tested(Aggregate),
+    /// A number comes, or `-`.
+    Stands(Aggregate, Comparison),
+    /// A number comes, behind `-`.
+    Minus(Aggregate, Comparison),
+    /// AND, or what follows the tests of groups.
+    Behind,
 }
 
 /// Behind the conditions.
@@ -108,7 +179,7 @@ pub enum InEnd {
     Grouped,
     /// BY comes, behind ORDER.
     OrderBy,
-    /// A column or a name comes.
+    /// A column, a name, a place or an aggregate comes.
     Key,
     /// Behind it.
     Keyed,
@@ -128,12 +199,14 @@ pub enum State<'a> {
     List(InList),
     Tables(InTables),
     Tests(InTests<'a>),
+    Having(InHaving),
     End(InEnd),
+    Aggregate(Purpose, InAggregate),
 }
 
 /// What a token leads to, and what it says.
 #[derive(Clone, Copy)]
-pub struct Step<'a> {
+pub struct SqlStep<'a> {
     pub next: State<'a>,
-    pub says: Option<Piece<'a>>,
+    pub says: Option<SqlPiece<'a>>,
 }

@@ -1,5 +1,6 @@
 //! A statement: what a report of several aggregates asks.
 
+use crate::piece::{Comparison, SignedNumber};
 use ssb_questions::{Measure, Question};
 use ssb_schema::{Column, Text};
 
@@ -15,6 +16,17 @@ pub enum Shown {
     Sum(usize),
     /// The number of lines that the question at this place asks; 0 over none.
     Count(usize),
+    /// The sum that the question at the first place asks, by the number of lines that the question at the second asks;
+    /// NULL over none.
+    Average(usize, usize),
+}
+
+/// What a group must have for its row: something computed of its lines that stands so to a number. NULL stands to none.
+#[derive(Clone, Copy, Debug, PartialEq, Eq)]
+pub struct GroupTest {
+    pub shown: Shown,
+    pub comparison: Comparison,
+    pub number: SignedNumber,
 }
 
 /// What rows stand by.
@@ -38,6 +50,8 @@ pub struct Statement {
     pub shown: Vec<Shown>,
     /// The heads of what is printed, which are distinct.
     pub heads: Vec<Text>,
+    /// What each group must have for its row.
+    pub having: Vec<GroupTest>,
     /// What rows stand by, the first key first; rows that these do not tell apart stand by the group columns.
     pub order: Vec<SortKey>,
     /// How many rows are printed at most.

@@ -4,10 +4,12 @@ use ssb_schema::{Column, Table};
 
 /// A word of the language.
 #[derive(Clone, Copy)]
-pub enum Word {
+pub enum SqlWord {
     Select,
     Sum,
+    Average,
     Count,
+    NullIf,
     As,
     From,
     Join,
@@ -19,6 +21,7 @@ pub enum Word {
     In,
     Between,
     Group,
+    Having,
     Order,
     By,
     Asc,
@@ -38,6 +41,7 @@ pub enum Mark {
     Star,
     Minus,
     Equal,
+    NotEqual,
     Less,
     LessOrEqual,
     Greater,
@@ -56,8 +60,8 @@ pub enum LineColumn {
 
 /// What stands between blanks.
 #[derive(Clone, Copy)]
-pub enum Token<'a> {
-    Word(Word),
+pub enum SqlToken<'a> {
+    Word(SqlWord),
     Mark(Mark),
     Table(Table),
     /// A column of a dimension that questions read.
@@ -70,6 +74,8 @@ pub enum Token<'a> {
     LineKey(Table),
     /// A number, or a text in quotes.
     Value(Spelled<'a>),
+    /// A number of more than 32 bits.
+    Large(u64),
     /// Another name.
     Name(&'a str),
     /// A word of SQL, or a column, that no statement here has.

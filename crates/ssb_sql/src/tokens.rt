@@ -1,8 +1,8 @@
 //! The tokens of a text.
 
-use crate::fault::{Place, SqlFault, place_at};
+use crate::fault::{SqlFault, TextPlace, place_at};
 use crate::lexeme::{Front, Lexeme, front_of};
-use crate::token::{Token, Word};
+use crate::token::{SqlToken, SqlWord};
 use crate::words::{table_with, token_of};
 use ssb_questions::Spelled;
 use ssb_schema::{Table, number};
@@ -12,17 +12,17 @@ use std::alloc::{AllocError, Global};
 #[derive(Drop)]
 pub(crate) struct Tokens<'a> {
     pub text: &'a str,
-    pub tokens: Vec<Token<'a>>,
+    pub tokens: Vec<SqlToken<'a>>,
     pub places: Vec<usize>,
     // The tables with their names.
-    sources: Vec<Source<'a>>,
+    sources: Vec<NamedTable<'a>>,
     // The names before columns, with the tables of these and their places.
     qualifiers: Vec<Qualifier<'a>>,
     naming: Naming,
 }
 
 #[derive(Clone, Copy)]
-struct Source<'a> {
+struct NamedTable<'a> {
     name: &'a str,
     table: Table,
 }
@@ -46,7 +46,7 @@ enum Naming {
 }
 
 // The text behind blanks and comments.
-fn behind_gaps(text: &str) -> &str {
+pub(crate) fn behind_gaps(text: &str) -> &str {
     let mut behind = text;
     for _ in 0..text.len() {
         match front_of(behind) {
@@ -70,20 +70,21 @@ enum NoToken {
     UnknownName,
 }
 
-fn number_token(digits: &str) -> Result<Token<'_>, NoToken> {
+fn number_token(digits: &str) -> Result<SqlToken<'_>, NoToken> {
     match number(digits.as_bytes()) {
-        Some(n) if n < 4_294_967_296 => Ok(Token::Value(Spelled::Number(n as u32))),
-        _ => Err(NoToken::Bad),
+        Some(n) if n < 4_294_967_296 => Ok(SqlToken::Value(Spelled::Number(n as u32))),
+        Some(n) => Ok(SqlToken::Large(n)),
+        None => Err(NoToken::Bad),
     }
 }
 
 // The text between two quotes, as it stands there.
-fn text_token(quoted: &str) -> Result<Token<'_>, NoToken> {
+fn text_token(quoted: &str) -> Result<SqlToken<'_>, NoToken> {
     match quoted
         .strip_prefix('\'')
         .and_then(|text| text.strip_suffix('\''))
     {
-        Some(text) => Ok(Token::Value(Spelled::Text(text))),
+        Some(text) => Ok(SqlToken::Value(Spelled::Text(text))),
         None => Err(NoToken::Bad),
     }
 }
@@ -91,12 +92,12 @@ fn text_token(quoted: &str) -> Result<Token<'_>, NoToken> {
 // A token, the table whose column it is where a name stands before it, and what stands behind it.
 #[derive(Clone, Copy)]
 struct Next<'a> {
-    token: Token<'a>,
+    token: SqlToken<'a>,
     qualified: Option<Table>,
     rest: &'a str,
 }
 
-fn plain<'a>(token: Token<'a>, rest: &'a str) -> Next<'a> {
+fn plain<'a>(token: SqlToken<'a>, rest: &'a str) -> Next<'a> {
     Next {
         token,
         qualified: None,
@@ -128,7 +129,7 @@ fn qualified<'a>(rest: &'a str) -> Result<Next<'a>, NoToken> {
 // COLLATE, with the "C" behind it.
 fn collated<'a>(rest: &'a str) -> Result<Next<'a>, NoToken> {
     match behind_gaps(rest).strip_prefix("\"C\"") {
-        Some(rest) => Ok(plain(Token::Word(Word::ByBytes), rest)),
+        Some(rest) => Ok(plain(SqlToken::Word(SqlWord::ByBytes), rest)),
         None => Err(NoToken::Bad),
     }
 }
@@ -149,13 +150,13 @@ fn next_in<'a>(found: Front<'a>) -> Result<Next<'a>, NoToken> {
         Lexeme::Word => word_token(found.piece, found.rest),
         Lexeme::Number => Ok(plain(number_token(found.piece)?, found.rest)),
         Lexeme::Text => Ok(plain(text_token(found.piece)?, found.rest)),
-        Lexeme::Mark(mark) => Ok(plain(Token::Mark(mark), found.rest)),
+        Lexeme::Mark(mark) => Ok(plain(SqlToken::Mark(mark), found.rest)),
         Lexeme::Gap | Lexeme::Point | Lexeme::Bad => Err(NoToken::Bad),
     }
 }
 
 // Whether a table is read under the name before a column.
-fn is_named(sources: &[Source<'_>], qualifier: &Qualifier<'_>) -> bool {
+fn is_named(sources: &[NamedTable<'_>], qualifier: &Qualifier<'_>) -> bool {
     sources.iter().any(|own| own.table == qualifier.table
         && own.name.eq_ignore_ascii_case(qualifier.name))
 }
@@ -192,11 +193,11 @@ impl<'a> Tokens<'a> {
     // Adds a token, whose first word, or what it is, is this.
     fn add(&mut self, next: Next<'a>, first: &'a str, at: usize) -> Result<(), SqlFault> {
         match (self.naming, next.token) {
-            (Naming::Table, Token::Word(Word::As)) => {
+            (Naming::Table, SqlToken::Word(SqlWord::As)) => {
                 self.naming = Naming::As;
                 return Ok(());
             }
-            (Naming::Table | Naming::As, Token::Name(name)) => {
+            (Naming::Table | Naming::As, SqlToken::Name(name)) => {
                 self.rename(name);
                 return Ok(());
             }
@@ -217,8 +218,8 @@ impl<'a> Tokens<'a> {
 
     fn push(&mut self, next: Next<'a>, first: &'a str, at: usize) -> Result<(), AllocError> {
         self.naming = Naming::Outside;
-        if let Token::Table(table) = next.token {
-            self.sources.push(Source { name: first, table })?;
+        if let SqlToken::Table(table) = next.token {
+            self.sources.push(NamedTable { name: first, table })?;
             self.naming = Naming::Table;
         }
         if let Some(table) = next.qualified {
@@ -247,7 +248,7 @@ impl<'a> Tokens<'a> {
     }
 
     /// The place of a token, by its number from 0; that behind the last where there are not so many.
-    pub fn place(&self, number: usize) -> Place {
+    pub fn place(&self, number: usize) -> TextPlace {
         let at = self.places.get(number).copied().unwrap_or(self.text.len());
         place_at(self.text, at)
     }
@@ -257,7 +258,8 @@ impl<'a> Tokens<'a> {
         let number = self.tokens.len().saturating_sub(left);
         let place = self.place(number);
         match self.tokens.get(number) {
-            Some(Token::Foreign) => SqlFault::NotSupported(place),
+            Some(SqlToken::Foreign) => SqlFault::NotSupported(place),
+            Some(SqlToken::Large(_)) => SqlFault::BadToken(place),
             _ => SqlFault::Unexpected(place),
         }
     }

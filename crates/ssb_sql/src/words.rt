@@ -1,28 +1,31 @@
 //! What words stand for.
 
-use crate::token::{LineColumn, Token, Word};
+use crate::token::{LineColumn, SqlToken, SqlWord};
 use ssb_schema::{Column, Table, query_columns};
 
-static WORDS: [(&str, Word); 19] = [
-    ("SELECT", Word::Select),
-    ("SUM", Word::Sum),
-    ("COUNT", Word::Count),
-    ("AS", Word::As),
-    ("FROM", Word::From),
-    ("JOIN", Word::Join),
-    ("INNER", Word::Inner),
-    ("ON", Word::On),
-    ("WHERE", Word::Where),
-    ("AND", Word::And),
-    ("OR", Word::Or),
-    ("IN", Word::In),
-    ("BETWEEN", Word::Between),
-    ("GROUP", Word::Group),
-    ("ORDER", Word::Order),
-    ("BY", Word::By),
-    ("ASC", Word::Asc),
-    ("DESC", Word::Desc),
-    ("LIMIT", Word::Limit),
+static WORDS: [(&str, SqlWord); 22] = [
+    ("SELECT", SqlWord::Select),
+    ("SUM", SqlWord::Sum),
+    ("AVG", SqlWord::Average),
+    ("COUNT", SqlWord::Count),
+    ("NULLIF", SqlWord::NullIf),
+    ("AS", SqlWord::As),
+    ("FROM", SqlWord::From),
+    ("JOIN", SqlWord::Join),
+    ("INNER", SqlWord::Inner),
+    ("ON", SqlWord::On),
+    ("WHERE", SqlWord::Where),
+    ("AND", SqlWord::And),
+    ("OR", SqlWord::Or),
+    ("IN", SqlWord::In),
+    ("BETWEEN", SqlWord::Between),
+    ("GROUP", SqlWord::Group),
+    ("HAVING", SqlWord::Having),
+    ("ORDER", SqlWord::Order),
+    ("BY", SqlWord::By),
+    ("ASC", SqlWord::Asc),
+    ("DESC", SqlWord::Desc),
+    ("LIMIT", SqlWord::Limit),
 ];
 
 static TABLES: [(&str, Table); 6] = [
@@ -57,10 +60,9 @@ static LINE_COLUMNS: [(&str, LineColumn); 5] = [
 ];
 
 // Words of SQL that a statement here does not have.
-static FOREIGN: [&str; 46] = [
+static FOREIGN: [&str; 43] = [
     "ALL",
     "ANY",
-    "AVG",
     "CASE",
     "CAST",
     "COALESCE",
@@ -79,7 +81,6 @@ static FOREIGN: [&str; 46] = [
     "FETCH",
     "FULL",
     "GLOB",
-    "HAVING",
     "INSERT",
     "INTERSECT",
     "INTO",
@@ -91,7 +92,6 @@ static FOREIGN: [&str; 46] = [
     "NATURAL",
     "NOT",
     "NULL",
-    "NULLIF",
     "OFFSET",
     "OUTER",
     "OVER",
@@ -147,37 +147,37 @@ pub(crate) fn table_with(name: &str) -> Option<Table> {
 }
 
 // What a column's name stands for.
-fn column_token<'a>(name: &str) -> Option<Token<'a>> {
+fn column_token<'a>(name: &str) -> Option<SqlToken<'a>> {
     if let Some(column) = column_named(name) {
-        return Some(Token::Column(column));
+        return Some(SqlToken::Column(column));
     }
     if let Some(column) = named(&LINE_COLUMNS, name) {
-        return Some(Token::Line(column));
+        return Some(SqlToken::Line(column));
     }
     if let Some(table) = named(&KEYS, name) {
-        return Some(Token::Key(table));
+        return Some(SqlToken::Key(table));
     }
     if let Some(table) = named(&LINE_KEYS, name) {
-        return Some(Token::LineKey(table));
+        return Some(SqlToken::LineKey(table));
     }
     table_with(name)?;
-    Some(Token::Foreign)
+    Some(SqlToken::Foreign)
 }
 
 /// What a word stands for: ASCII case does not count.
-pub(crate) fn token_of(word: &str) -> Token<'_> {
+pub(crate) fn token_of(word: &str) -> SqlToken<'_> {
     if let Some(known) = named(&WORDS, word) {
-        return Token::Word(known);
+        return SqlToken::Word(known);
     }
     if let Some(table) = table_named(word) {
-        return Token::Table(table);
+        return SqlToken::Table(table);
     }
     if let Some(token) = column_token(word) {
         return token;
     }
     if is_in(&FOREIGN, word) {
-        Token::Foreign
+        SqlToken::Foreign
     } else {
-        Token::Name(word)
+        SqlToken::Name(word)
     }
 }

@@ -1,4 +1,5 @@
 mod FirstLaws
+mod KeptLaws
 mod OrderLaws
 mod SideLaws
 mod StarLaws

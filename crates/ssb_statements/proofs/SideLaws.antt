@@ -1,7 +1,7 @@
 -- The answers to a statement's questions have one row for each group, and the same groups in the same order.
 use Rattle.std.proofs.Common.{◌≡◌, ◌∙◌, ap, refl, arith, ℕ, ◌+◌, ℤ, pos, ◌+ℤ◌, Bool, true, false, List, [], ◌∷◌}
 use Rattle.std.proofs.Common.{length, map, Option, None, Some, slice_get, if◌then◌else◌, ◌<◌, zero, suc, sym, subst}
-use Rattle.std.specs.Prelude.{All, option_map, unwrap_or}
+use Rattle.std.specs.Prelude.{All, filter, option_map, unwrap_or, ◌&&◌}
 use Rattle.std.specs.Option.{option_and_then}
 use Rattle.std.proofs.lemmas.List.Elements.{All-head, All-tail}
 use Rattle.std.proofs.lemmas.List.{length-map}
@@ -23,11 +23,13 @@ use Rattle.ssb_answers.specs.declared.answer.ResultRow.{ResultRow}
 use Rattle.ssb_answers.specs.declared.answer.Answer.{Answer}
 use Rattle.ssb_sql.specs.declared.statement.Shown.{Shown}
 use Rattle.ssb_sql.specs.declared.statement.Shown.TheVariants as shown
-use Rattle.ssb_statements.specs.Arranged.{cell_at, cells_at, row_at, row_count, rows_in, sum_at}
+use Rattle.ssb_sql.specs.declared.statement.GroupTest.{GroupTest}
+use Rattle.ssb_statements.specs.Arranged.{cell_at, cells_at, count_at, is_kept_at, number_of, row_at, row_count, rows_in}
+use Rattle.ssb_statements.specs.Arranged.{sum_at}
 use Rattle.ssb_statements.specs.Laws.{StatementsAreTheirQuestions}
-use Rattle.ssb_statements.specs.SideBySide.{AreAnswers, IsPrinted, item_of, plan_for}
-use Rattle.ssb_statements.specs.Statement.{cell, group_cmp, groups_found, row}
-use Rattle.ssb_statements.specs.declared.cell.Cell.TheVariants.{Plain, Number}
+use Rattle.ssb_statements.specs.SideBySide.{AreAnswers, IsPrinted, IsTested, item_of, plan_for, test_of}
+use Rattle.ssb_statements.specs.Statement.{average, cell, group_cmp, groups_found, is_kept, passes, passes_test, row}
+use Rattle.ssb_statements.specs.declared.cell.StatementCell.TheVariants.{Plain, Number, Decimal}
 use Rattle.std.proofs.lemmas.Option.{slice_get-map, slice_get_within}
 
 -- ---- an order that looks at what was mapped alone
@@ -82,15 +84,32 @@ answer_rows plan measure dimensions facts =
 
 -- ---- rows by their numbers
 
--- a function of numbers that is one of the elements there
-by_places : {X Y : Type 0} (f : ℕ → Y) (h : X → Y) (xs : List X) (a : ℕ)
-    → ((i : ℕ) (x : X) → slice_get xs i ≡ Some x → f (a + i) ≡ h x) → map f (range_with_len a (length xs)) ≡ map h xs
-by_places f h [] a same = refl
-by_places f h (x ∷ xs) a same =
+chosen_same : {X Y : Type 0} (f : ℕ → Y) (h : X → Y) (kept : Bool) (a : ℕ) (x : X) (ns : List ℕ) (xs : List X)
+    → f a ≡ h x → map f ns ≡ map h xs
+    → map f (if kept then a ∷ ns else ns) ≡ map h (if kept then x ∷ xs else xs)
+chosen_same f h true a x ns xs first rest = ap (λ y. y ∷ map f ns) first ∙ ap (λ ys. h x ∷ ys) rest
+chosen_same f h false a x ns xs first rest = rest
+
+chosen_maps : {X Y : Type 0} (f : ℕ → Y) (h : X → Y) (kept own : Bool) (a : ℕ) (x : X) (ns : List ℕ) (xs : List X)
+    → kept ≡ own → f a ≡ h x → map f ns ≡ map h xs
+    → map f (if kept then a ∷ ns else ns) ≡ map h (if own then x ∷ xs else xs)
+chosen_maps f h kept own a x ns xs same first rest =
+    subst (λ is. map f (if kept then a ∷ ns else ns) ≡ map h (if is then x ∷ xs else xs)) same
+    (chosen_same f h kept a x ns xs first rest)
+
+-- functions of numbers that are those of the elements there: a value, and whether they are kept
+by_places : {X Y : Type 0} (f : ℕ → Y) (h : X → Y) (p : ℕ → Bool) (q : X → Bool) (xs : List X) (a : ℕ)
+    → ((i : ℕ) (x : X) → slice_get xs i ≡ Some x → f (a + i) ≡ h x)
+    → ((i : ℕ) (x : X) → slice_get xs i ≡ Some x → p (a + i) ≡ q x)
+    → map f (filter p (range_with_len a (length xs))) ≡ map h (filter q xs)
+by_places f h p q [] a same kept = refl
+by_places f h p q (x ∷ xs) a same kept =
     let first : f a ≡ h x = subst (λ n. f n ≡ h x) (omega arith) (same 0 x refl) in
-    let rest : map f (range_with_len (a + 1) (length xs)) ≡ map h xs = by_places f h xs (a + 1)
-    (λ i y here. subst (λ n. f n ≡ h y) (omega arith) (same (suc i) y here)) in
-    grind arith
+    let stays : p a ≡ q x = subst (λ n. p n ≡ q x) (omega arith) (kept 0 x refl) in
+    let rest : map f (filter p (range_with_len (a + 1) (length xs))) ≡ map h (filter q xs) = by_places f h p q xs (a + 1)
+    (λ i y here. subst (λ n. f n ≡ h y) (omega arith) (same (suc i) y here))
+    (λ i y here. subst (λ n. p n ≡ q y) (omega arith) (kept (suc i) y here)) in
+    chosen_maps f h (p a) (q x) a x (filter p (range_with_len (a + 1) (length xs))) (filter q xs) stays first rest
 
 -- adding 1 for each line counts the lines
 fold_counts : (members : List Combination) (n : ℕ)
@@ -151,6 +170,27 @@ module _ (plan : Plan) (measures : List Measure) (dimensions : Dimensions) (fact
   cell_is some i group here (shown.Count place) is =
       ap (λ o. Number (Some (unwrap_or o (pos 0)))) (sum_is place i Lines group is here)
       ∙ ap (λ n. Number (Some n)) (counted (in_group plan group found))
+  cell_is some i group here (shown.Average sum lines) is =
+      let asked = has measures sum is.0 in
+      let total : sum_at answers sum i
+      ≡ sum_over (unwrap_or (slice_get measures sum) Lines) (in_group plan group found) =
+      sum_is sum i asked.0 group asked.1 here
+      ∙ ap (λ m. sum_over m (in_group plan group found)) (ap (λ o. unwrap_or o Lines) (sym asked.1)) in
+      let count : count_at answers lines i ≡ pos (length (in_group plan group found)) =
+      ap (λ o. unwrap_or o (pos 0)) (sum_is lines i Lines group is.1 here) ∙ counted (in_group plan group found) in
+      ap (λ s. Decimal (average s (count_at answers lines i))) total
+      ∙ ap (λ n. Decimal (average (sum_over (unwrap_or (slice_get measures sum) Lines) (in_group plan group found)) n))
+      count
+
+  tests_are : 0 < length measures → (i : ℕ) (group : List Value) → slice_get groups i ≡ Some group
+      → (tests : List GroupTest) → All (IsTested measures) tests
+      → is_kept_at answers tests i ≡ is_kept plan (map (test_of measures) tests) found group
+  tests_are some i group here [] are = refl
+  tests_are some i group here (one ∷ tests) tested =
+      ap (λ c. passes one.comparison (number_of one.number) c && is_kept_at answers tests i)
+      (cell_is some i group here one.shown (All-head (IsTested measures) one tests tested))
+      ∙ ap (λ kept. passes_test (in_group plan group found) group (test_of measures one) && kept)
+      (tests_are some i group here tests (All-tail (IsTested measures) one tests tested))
 
   cells_are : 0 < length measures → (i : ℕ) (group : List Value) → slice_get groups i ≡ Some group
       → (all : List Shown) → All (IsPrinted measures) all
@@ -176,11 +216,16 @@ module _ (plan : Plan) (measures : List Measure) (dimensions : Dimensions) (fact
       ∙ length-map groups (row_of (plan_for plan asked.0) found)
 
 pub sides : StatementsAreTheirQuestions
-sides plan measures shown dimensions facts answers are some printed =
-    ap (λ n. map (cells_at answers shown) (range_with_len 0 n))
+sides plan measures shown having dimensions facts answers are some printed tested =
+    ap (λ n. map (cells_at answers shown) (filter (is_kept_at answers having) (range_with_len 0 n)))
     (count_is plan measures dimensions facts answers are answers refl some)
     ∙ by_places (cells_at answers shown) (row plan (map (item_of measures) shown) (combinations plan dimensions facts))
+    (is_kept_at answers having)
+    (is_kept plan (map (test_of measures) having) (combinations plan dimensions facts))
     (groups_found plan (combinations plan dimensions facts)) 0
     (λ i group here. subst (λ n. cells_at answers shown n
     ≡ row plan (map (item_of measures) shown) (combinations plan dimensions facts) group) (omega arith)
     (cells_are plan measures dimensions facts answers are some i group here shown printed))
+    (λ i group here. subst (λ n. is_kept_at answers having n
+    ≡ is_kept plan (map (test_of measures) having) (combinations plan dimensions facts) group) (omega arith)
+    (tests_are plan measures dimensions facts answers are some i group here having tested))

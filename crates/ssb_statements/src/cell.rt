@@ -4,18 +4,21 @@ use ssb_questions::Value;
 
 /// What stands in a row of a statement.
 #[derive(Debug)]
-pub enum Cell {
+pub enum StatementCell {
     /// The value of a group column.
     Plain(Option<Value>),
-    /// An aggregate, or NULL.
+    /// A sum or a number of lines, or NULL.
     Number(Option<i64>),
+    /// An average in ten-thousandths, or NULL.
+    Decimal(Option<i128>),
 }
 
-impl Drop for Cell {
+impl Drop for StatementCell {
     fn drop(self) {
         match self {
-            Cell::Plain(_) => {}
-            Cell::Number(_) => {}
+            StatementCell::Plain(_) => {}
+            StatementCell::Number(_) => {}
+            StatementCell::Decimal(_) => {}
         }
     }
 }

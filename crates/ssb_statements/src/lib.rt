@@ -11,7 +11,8 @@
 
 mod arranging;
 mod cell;
+mod having;
 pub mod laws;
 
 pub use arranging::arranged;
-pub use cell::Cell;
+pub use cell::StatementCell;

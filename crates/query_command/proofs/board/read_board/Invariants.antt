@@ -6,5 +6,5 @@ abbrev pub invariant-loop-before : goal.invariant-loop-before
 invariant-loop-before g l = record {
   ready : IsRecordReader l.reader;
   so_far : HasReadKnown g.R.Read.remaining (g.R.Read.remaining l.fn.source) l.reader l.before l.titles.items
-      l.questions.items;
+      l.asked.items;
 }

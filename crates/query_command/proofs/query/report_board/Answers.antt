@@ -1,33 +1,33 @@
 use Rattle.std.proofs.Common.{◌≡◌, Err, inr, rules}
-use Rattle.query_command.specs.Reported.{HasReports}
-use Rattle.ssb_formats.specs.Titled.{board_shown}
-use Rattle.query_command.proofs.ReportLaws.{reports_of_answers}
+use Rattle.query_command.proofs.AskedReportsLaws.{reports_under}
 use Rattle.ssb_files.proofs.ResultLaws.{on_ok_from, on_err_from, is_no_refusal, is_no_word}
 use Rattle.query_command.proofs.query.report_board.Goals as goal
 
 pub returns-clause-report : goal.returns-clause-report
 returns-clause-report g c =
-    on_ok_from c.write_titled.result _ _ _ c.write_titled.ensures.written (λ written texts are.
-    let format = c.args.settings.format in
-    let board = c.args.board.now in
-    let shown = board_shown format c.as_slice-titles.result.now c.as_slice.result.now in
-    let has : HasReports format texts board.titles.items board.questions.items shown
-    = rw (c.as_slice-titles.ensures.value, c.as_slice.ensures.value)
-    (reports_of_answers format texts board.titles.items board.questions.items c.in_ok-answers.answers.items
-    (rw c.as_slice-questions.ensures.value at c.in_ok-answers.ensures.answers texts are)) in
-    (shown, has, written))
+    on_ok_from c.write_titled.result _ _ _ c.write_titled.ensures.written (λ written texts are. (
+      _,
+      reports_under c.args.settings.format texts c.args.board.now.titles.items c.args.board.now.asked.items
+          c.as_slice-titles.result.now c.as_slice-asked.result.now c.in_ok-answers.answers.items
+          c.as_slice.result.now c.in_ok-reports.reports.items c.as_slice-2.result.now
+          c.as_slice-titles.ensures.value c.as_slice-asked.ensures.value c.as_slice.ensures.value
+          c.as_slice-2.ensures.value (c.in_ok-answers.ensures.answers texts are)
+          (c.in_ok-reports.ensures.reports texts),
+      written,
+    ))
 
 pub returns-clause-fault : goal.returns-clause-fault
 returns-clause-fault g c =
-    on_err_from c.write_titled.result _ _ _ c.write_titled.ensures.written (λ written. inr (λ texts are.
-    let format = c.args.settings.format in
-    let board = c.args.board.now in
-    let shown = board_shown format c.as_slice-titles.result.now c.as_slice.result.now in
-    let has : HasReports format texts board.titles.items board.questions.items shown
-    = rw (c.as_slice-titles.ensures.value, c.as_slice.ensures.value)
-    (reports_of_answers format texts board.titles.items board.questions.items c.in_ok-answers.answers.items
-    (rw c.as_slice-questions.ensures.value at c.in_ok-answers.ensures.answers texts are)) in
-    (shown, has, written)))
+    on_err_from c.write_titled.result _ _ _ c.write_titled.ensures.written (λ written. inr (λ texts are. (
+      _,
+      reports_under c.args.settings.format texts c.args.board.now.titles.items c.args.board.now.asked.items
+          c.as_slice-titles.result.now c.as_slice-asked.result.now c.in_ok-answers.answers.items
+          c.as_slice.result.now c.in_ok-reports.reports.items c.as_slice-2.result.now
+          c.as_slice-titles.ensures.value c.as_slice-asked.ensures.value c.as_slice.ensures.value
+          c.as_slice-2.ensures.value (c.in_ok-answers.ensures.answers texts are)
+          (c.in_ok-reports.ensures.reports texts),
+      written,
+    )))
 
 pub returns-clause-data : goal.returns-clause-data
 returns-clause-data g c = is_no_refusal c.write_titled.result _ c.write_titled.ensures.fault

@@ -6,7 +6,7 @@ returns-in-Ok-report_board-clause-reports g c = λ status text texts known are.
     let has = c.in-Ok-report_board.ensures.report texts are in
     record {
       titles = c.in-Ok.board.titles.items;
-      questions = c.in-Ok.board.questions.items;
+      asked = c.in-Ok.board.asked.items;
       board = c.in-Ok.ensures.board text known;
       report = has.0;
       of_base = has.1;
@@ -21,7 +21,7 @@ returns-clause-fault g c = λ status.
           let has = part texts are in
           record {
             titles = c.in-Ok.board.titles.items;
-            questions = c.in-Ok.board.questions.items;
+            asked = c.in-Ok.board.asked.items;
             board = c.in-Ok.ensures.board text known;
             report = has.0;
             of_base = has.1;

@@ -1,32 +1,27 @@
-use Rattle.std.proofs.Common.{◌≡◌, Err, inl, inr, rules}
-use Rattle.ssb_files.proofs.ResultLaws.{err_then, is_no_refusal, is_no_word, ok_then}
-use Rattle.query_command.proofs.StatementLaws.{rows_of_text}
+use Rattle.std.proofs.Common.{◌≡◌, Err, inr, rules}
+use Rattle.query_command.proofs.AskedReportsLaws.{reports_beside}
+use Rattle.ssb_files.proofs.ResultLaws.{on_ok_from, on_err_from, is_no_refusal, is_no_word}
 use Rattle.query_command.proofs.statement.report.Goals as goal
 
 pub returns-clause-report : goal.returns-clause-report
 returns-clause-report g c =
-    ok_then c.write.result _ _ c.write.ensures.text (λ has texts are. (
-      has.0,
-      rows_of_text c.args.settings.format texts c.args.statement.now c.in_ok-answers.answers.items
-          c.as_slice-questions.result.now c.as_slice.result.now has.0
-          (c.in_ok-answers.ensures.answers texts are) c.as_slice-questions.ensures.value
-          c.as_slice.ensures.value has.1,
-      has.2,
+    on_ok_from c.write.result _ _ _ c.write.ensures.written (λ written texts are. (
+      _,
+      reports_beside c.args.settings.format texts c.args.asked.now c.in_ok-answers.answers.items c.as_slice.result.now
+          c.in_ok-reports.reports.items c.as_slice-2.result.now c.as_slice.ensures.value c.as_slice-2.ensures.value
+          (c.in_ok-answers.ensures.answers texts are) (c.in_ok-reports.ensures.reports texts),
+      written,
     ))
 
 pub returns-clause-fault : goal.returns-clause-fault
 returns-clause-fault g c =
-    err_then c.write.result _ _ c.write.ensures.part (λ part. elim part [
-      | inl same ↦ inl same
-      | inr has ↦ inr (λ texts are. (
-        has.0,
-        rows_of_text c.args.settings.format texts c.args.statement.now c.in_ok-answers.answers.items
-            c.as_slice-questions.result.now c.as_slice.result.now has.0
-            (c.in_ok-answers.ensures.answers texts are) c.as_slice-questions.ensures.value
-            c.as_slice.ensures.value has.1,
-        has.2,
-      ))
-    ])
+    on_err_from c.write.result _ _ _ c.write.ensures.written (λ written. inr (λ texts are. (
+      _,
+      reports_beside c.args.settings.format texts c.args.asked.now c.in_ok-answers.answers.items c.as_slice.result.now
+          c.in_ok-reports.reports.items c.as_slice-2.result.now c.as_slice.ensures.value c.as_slice-2.ensures.value
+          (c.in_ok-answers.ensures.answers texts are) (c.in_ok-reports.ensures.reports texts),
+      written,
+    )))
 
 pub returns-clause-data : goal.returns-clause-data
 returns-clause-data g c = is_no_refusal c.write.result _ c.write.ensures.fault

@@ -3,5 +3,4 @@ use Rattle.ssb_formats.proofs.statement_text.json_text.Goals as goal
 
 pub object_line-requires : goal.object_line-requires
 object_line-requires c =
-    rw (c.in_ok-members.ensures, c.in_ok-columns.ensures, c.in_ok-rows.ensures)
-    (statement_exact c.args.at c.args.heads.now c.args.rows.now)
+    rw c.in_ok-members.ensures (statement_exact c.args.at c.args.heads.now c.args.rows.now)

@@ -1,0 +1,156 @@
+//! Several reports, each an answer or the rows of a statement: their questions, and what the answers make of them.
+
+ghost use Rattle.std.specs.Prelude.{◌≡◌, ◌∷◌, ◌++◌, [], List, IfOk, OnOk, flat_map, map};
+ghost use Rattle.query_command.specs.ReportsAsked as spec;
+ghost use Rattle.query_command.specs.ReportsAsked.{AreReported, HasRows};
+ghost use Rattle.ssb_answers.specs.declared.answer.Answer.{Answer};
+ghost use Rattle.ssb_formats.specs.declared.reports.Reported.{Reported};
+ghost use Rattle.ssb_questions.specs.declared.query.Query.{Query};
+ghost use Rattle.ssb_questions.specs.declared.value.Value.{Value};
+
+use ssb_answers::Answer;
+use ssb_formats::{Reported, StatementRows};
+use ssb_questions::clause::kind_in;
+use ssb_questions::{ConstantKind, Question};
+use ssb_schema::Column;
+use ssb_sql::{Shown, Statement};
+use ssb_statements::arranged;
+use std::alloc::{AllocError, Global};
+
+/// What is reported.
+#[derive(Debug, Drop)]
+pub enum ReportAsked {
+    /// The answer to a question.
+    Question(Question),
+    /// The rows of a statement.
+    Statement(Statement),
+}
+
+// Whether a printed column has numbers.
+fn is_number(groups: &[Column], shown: Shown) -> bool
+    ensures { result ≡ spec.is_number groups.now shown }
+{
+    match shown {
+        Shown::Group(place) => match groups.get(place) {
+            Some(column) => matches!(kind_in(*column), ConstantKind::Number),
+            None => false,
+        },
+        Shown::Sum(_) | Shown::Count(_) | Shown::Average(_, _) => true,
+    }
+}
+
+fn number_flags(alloc: Global, groups: &[Column], shown: &[Shown]) -> Result<Vec<bool>, AllocError>
+    ensures { IfOk result (λ flags. flags.items ≡ map (spec.is_number groups.now) shown.now) }
+{
+    let mut flags = Vec::new(alloc);
+    for one in shown {
+        flags.push(is_number(groups, *one))?;
+    }
+    Ok(flags)
+}
+
+// The questions of what is asked.
+fn questions_in(asked: &ReportAsked) -> &[Question]
+    ensures { result.now ≡ spec.questions_in asked.now }
+{
+    match asked {
+        ReportAsked::Question(question) => std::slice::from_ref(question),
+        ReportAsked::Statement(statement) => statement.questions.as_slice(),
+    }
+}
+
+// Adds the questions of a report.
+fn push_questions(questions: &mut Vec<Question>, asked: &ReportAsked) -> Result<(), AllocError>
+    ensures { OnOk result (questions.new.items ≡ questions.old.items ++ spec.questions_in asked.now) }
+{
+    let own = questions_in(asked);
+    for question in own {
+        questions.push(question.share()?)?;
+    }
+    Ok(())
+}
+
+/// The questions of several reports, one after another.
+pub(crate) fn questions_of(
+    alloc: Global,
+    asked: &[ReportAsked],
+) -> Result<Vec<Question>, AllocError>
+    ensures { IfOk result (λ questions. questions.items ≡ flat_map spec.questions_in asked.now) }
+{
+    let mut questions = Vec::new(alloc);
+    for one in asked {
+        push_questions(&mut questions, one)?;
+    }
+    Ok(questions)
+}
+
+// The rows of a statement, of the answers to its questions.
+fn rows_of(
+    alloc: Global,
+    statement: &Statement,
+    answers: &[Answer],
+) -> Result<StatementRows, AllocError>
+    ensures { IfOk result (λ rows. HasRows statement.now answers.now rows) }
+{
+    let rows = arranged(alloc, statement, answers)?;
+    let groups = statement.groups.as_slice();
+    let columns = statement.shown.as_slice();
+    let are_numbers = number_flags(alloc, groups, columns)?;
+    let heads = statement.heads.clone()?;
+    Ok(StatementRows {
+        heads,
+        are_numbers,
+        at: 0,
+        rows,
+    })
+}
+
+// Adds what the answers to the questions of a report make of it. Each question has one, so nothing is left out.
+fn push_report<'a>(
+    alloc: Global,
+    asked: &ReportAsked,
+    answers: &'a [Answer],
+    reports: &mut Vec<Reported<'a>>,
+) -> Result<(), AllocError>
+    ensures { OnOk result ((answered : Query × List Value → Answer)
+        → answers.now ≡ map answered (spec.questions_in asked.now)
+        → (report : Reported) × (reports.new.items ≡ reports.old.items ++ report ∷ [])
+        × spec.IsReported answers.now asked.now report) }
+{
+    match asked {
+        ReportAsked::Question(_) => {
+            if let [answer] = answers {
+                reports.push(Reported::Answered(answer))?;
+            }
+        }
+        ReportAsked::Statement(statement) => {
+            let rows = rows_of(alloc, statement, answers)?;
+            reports.push(Reported::Listed(rows))?;
+        }
+    }
+    Ok(())
+}
+
+/// Adds what the answers to the questions of several reports make of these.
+pub(crate) fn push_reports<'a>(
+    alloc: Global,
+    asked: &[ReportAsked],
+    answers: &'a [Answer],
+    reports: &mut Vec<Reported<'a>>,
+) -> Result<(), AllocError>
+    ensures { OnOk result ((answered : Query × List Value → Answer)
+        → answers.now ≡ map answered (flat_map spec.questions_in asked.now)
+        → (more : List Reported) × (reports.new.items ≡ reports.old.items ++ more)
+        × AreReported answered asked.now more) }
+{
+    match asked {
+        [] => Ok(()),
+        [first, others @ ..] => {
+            let questions = questions_in(first);
+            let count = questions.len().min(answers.len());
+            let (own, rest) = answers.split_at(count);
+            push_report(alloc, first, own, reports)?;
+            push_reports(alloc, others, rest, reports)
+        }
+    }
+}

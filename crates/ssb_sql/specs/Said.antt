@@ -1,0 +1,36 @@
+-- What a statement has of what its pieces say: its group columns, and how many rows are printed.
+use Rattle.std.specs.Prelude.{◌≡◌, ℕ, List, Option, None, Some, Ok, slice_get, filter_map}
+use Rattle.ssb_schema.specs.declared.column.Column.{Column}
+use Rattle.ssb_sql.specs.Reading.{read}
+use Rattle.ssb_sql.specs.declared.piece.SqlPiece.{SqlPiece}
+use Rattle.ssb_sql.specs.declared.piece.SqlPiece.TheVariants as piece
+use Rattle.ssb_sql.specs.declared.statement.Statement.{Statement}
+use Rattle.ssb_sql.specs.declared.token.SqlToken.{SqlToken}
+
+-- the group column that a piece says
+abbrev pub group_said : SqlPiece → Option Column
+group_said (piece.GroupsBy column) = Some column
+group_said _ = None
+
+abbrev pub groups_said : List SqlPiece → List Column
+groups_said pieces = filter_map group_said pieces
+
+-- how many rows are printed at most, where a piece says so
+abbrev pub most_said : SqlPiece → Option ℕ
+most_said (piece.Limit most) = Some most
+most_said _ = None
+
+abbrev pub limit_said : List SqlPiece → Option ℕ
+limit_said pieces = slice_get (filter_map most_said pieces) 0
+
+-- a statement has the groups and the limit that pieces say
+pub record Says (pieces : List SqlPiece) (statement : Statement) : Type 0 where
+  pub groups : statement.groups.items ≡ groups_said pieces
+  pub limit : statement.limit ≡ limit_said pieces
+
+-- it is what some tokens say
+pub record IsRead (statement : Statement) : Type 0 where
+  pub tokens : List SqlToken
+  pub pieces : List SqlPiece
+  pub read : read tokens ≡ Ok pieces
+  pub says : Says pieces statement
