@@ -25,11 +25,11 @@ use std::thread::Threads;
 
 /// Where the journal is, which changes are asked for, and what is told.
 #[derive(Drop)]
-pub struct ChangesPlace<'a, P> {
+pub struct ChangesPlace<'j, 'b, P> {
     /// The journal's file, which is there.
-    pub journal: &'a P,
+    pub journal: &'j P,
     /// The bytes of the tables, which are counted while these are loaded.
-    pub bytes: &'a TableBytes,
+    pub bytes: &'b TableBytes,
     /// Which changes are written.
     pub start: ChangesStart,
     /// Whether it is told how many commits the journal has.
@@ -77,7 +77,7 @@ pub fn changes<
     rt: &R,
     hashing: RandomState,
     tables: TableFiles<I>,
-    place: &ChangesPlace<'_, P>,
+    place: &ChangesPlace<'_, '_, P>,
     out: &mut W,
     err: &mut E,
 ) -> Result<(), ChangesFault>
@@ -132,7 +132,7 @@ pub fn run_changes<
     rt: &R,
     hashing: RandomState,
     tables: TableFiles<I>,
-    place: &ChangesPlace<'_, P>,
+    place: &ChangesPlace<'_, '_, P>,
     out: &mut W,
     err: &mut E,
 ) -> u8

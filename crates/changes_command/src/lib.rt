@@ -1,4 +1,4 @@
-//! Signed lines: what each commit of a journal brought and took away, for others. No word of the program calls it.
+//! The word `changes`: what each commit of a journal brought and took away, as signed lines on standard output.
 //!
 //! ```text
 //! tables ── base_of ─▶ base ─────────────┐

@@ -9,8 +9,10 @@ use Rattle.ssb_questions.specs.declared.plan.Measure.{Measure}
 use Rattle.ssb_questions.specs.declared.plan.Measure.TheVariants.{Revenue, Profit, PriceTimesDiscount, Quantity, Lines}
 use Rattle.ssb_questions.specs.declared.plan.Plan.{Plan}
 use Rattle.ssb_explain.specs.Conditions.{conditions, line_conditions, where_all}
+use Rattle.ssb_explain.specs.Lines.{commit_conditions, lines_table, sign_names}
 use Rattle.ssb_explain.specs.Names.{column_sql, dimensions, key_sql, line_key_sql, same_table, table_sql}
 use Rattle.ssb_explain.specs.Texts.{commas, joined}
+use Rattle.ssb_explain.specs.declared.lines.ReadLines.{ReadLines}
 use Rattle.ssb_explain.specs.declared.system.System.{System}
 use Rattle.ssb_explain.specs.declared.system.System.TheVariants.{Sqlite, Postgresql, Clickhouse}
 
@@ -48,15 +50,15 @@ abbrev pub join_text : Table → List ℕ
 join_text t = concat
     (codes "\nJOIN " ∷ table_sql t ∷ codes " ON " ∷ line_key_sql t ∷ codes " = " ∷ key_sql t ∷ [])
 
-abbrev pub plain_conditions : System → Plan → List (List ℕ)
-plain_conditions system plan =
-    flat_map (λ t. conditions system (tests_on plan t)) dimensions ++ line_conditions plan
+abbrev pub plain_conditions : System → ReadLines → Plan → List (List ℕ)
+plain_conditions system lines plan =
+    (flat_map (λ t. conditions system (tests_on plan t)) dimensions ++ line_conditions plan) ++ commit_conditions lines
 
-abbrev pub plain_source : System → Plan → List ℕ
-plain_source system plan = concat
-    (codes "lineorder"
+abbrev pub plain_source : System → ReadLines → Plan → List ℕ
+plain_source system lines plan = concat
+    (lines_table lines
     ∷ joined [] (map join_text (filter (is_needed plan) dimensions))
-    ∷ where_all (codes "\nWHERE ") (codes "\n  AND ") (plain_conditions system plan) ∷ [])
+    ∷ where_all (codes "\nWHERE ") (codes "\n  AND ") (plain_conditions system lines plan) ∷ [])
 
 -- ClickHouse: one join in each SELECT, so that joins stand within one another, and each tested dimension also as a
 -- condition of the lines, so that fewer of them are joined
@@ -64,9 +66,9 @@ abbrev pub keys_pass : System → Plan → Table → List ℕ
 keys_pass system plan t = concat
     (line_key_sql t ∷ codes " IN (SELECT " ∷ key_sql t ∷ codes " FROM " ∷ passing system plan t ∷ codes ")" ∷ [])
 
-abbrev pub key_conditions : System → Plan → List (List ℕ)
-key_conditions system plan =
-    map (keys_pass system plan) (filter (is_tested plan) dimensions) ++ line_conditions plan
+abbrev pub key_conditions : System → ReadLines → Plan → List (List ℕ)
+key_conditions system lines plan =
+    (map (keys_pass system plan) (filter (is_tested plan) dimensions) ++ line_conditions plan) ++ commit_conditions lines
 
 abbrev pub inner_join_text : System → Plan → Table → List ℕ
 inner_join_text system plan t = concat
@@ -82,8 +84,8 @@ measured Quantity = codes "lo_quantity" ∷ []
 measured Lines = []
 
 -- what the outer joins and the sum still need
-abbrev pub kept : Plan → List Table → List (List ℕ) → List (List ℕ)
-kept plan outer columns = measured plan.measure ++ map line_key_sql outer ++ columns
+abbrev pub kept : ReadLines → Plan → List Table → List (List ℕ) → List (List ℕ)
+kept lines plan outer columns = sign_names lines ++ measured plan.measure ++ map line_key_sql outer ++ columns
 
 abbrev pub selected_from : List (List ℕ) → List ℕ → List ℕ → List ℕ → List ℕ
 selected_from names source join tested = concat
@@ -93,28 +95,29 @@ selected_from names source join tested = concat
 abbrev pub last_join : Plan → List ℕ → List ℕ → Table → List ℕ
 last_join plan rows tested t = concat (rows ∷ inner_join_text Clickhouse plan t ∷ tested ∷ [])
 
-abbrev pub next_rows : Plan → List ℕ → List ℕ → List (List ℕ) → Table → List Table → List ℕ
-next_rows plan rows tested columns t outer =
-    selected_from (kept plan outer (columns ++ names_on plan t)) rows (inner_join_text Clickhouse plan t) tested
+abbrev pub next_rows : ReadLines → Plan → List ℕ → List ℕ → List (List ℕ) → Table → List Table → List ℕ
+next_rows lines plan rows tested columns t outer =
+    selected_from (kept lines plan outer (columns ++ names_on plan t)) rows (inner_join_text Clickhouse plan t) tested
 
 -- a source of rows, joined with a dimension, and then with the outer ones; the conditions stand behind the first join,
 -- and the group columns so far are kept
-abbrev pub joined_from : Plan → List ℕ → List ℕ → List (List ℕ) → Table → List Table → List ℕ
-joined_from plan rows tested columns t [] = last_join plan rows tested t
-joined_from plan rows tested columns t (next ∷ outer) =
-    joined_from plan (next_rows plan rows tested columns t (next ∷ outer)) [] (columns ++ names_on plan t) next outer
+abbrev pub joined_from : ReadLines → Plan → List ℕ → List ℕ → List (List ℕ) → Table → List Table → List ℕ
+joined_from lines plan rows tested columns t [] = last_join plan rows tested t
+joined_from lines plan rows tested columns t (next ∷ outer) =
+    joined_from lines plan (next_rows lines plan rows tested columns t (next ∷ outer)) [] (columns ++ names_on plan t)
+    next outer
 
 -- the lines, joined with these dimensions
-abbrev pub joined_source : Plan → List ℕ → List Table → List ℕ
-joined_source plan tested [] = concat (codes "lineorder" ∷ tested ∷ [])
-joined_source plan tested (t ∷ outer) = joined_from plan (codes "lineorder") tested [] t outer
+abbrev pub joined_source : ReadLines → Plan → List ℕ → List Table → List ℕ
+joined_source lines plan tested [] = concat (lines_table lines ∷ tested ∷ [])
+joined_source lines plan tested (t ∷ outer) = joined_from lines plan (lines_table lines) tested [] t outer
 
-abbrev pub nested_source : Plan → List ℕ
-nested_source plan = joined_source plan
-    (where_all (codes "\nWHERE ") (codes "\n  AND ") (key_conditions Clickhouse plan))
+abbrev pub nested_source : ReadLines → Plan → List ℕ
+nested_source lines plan = joined_source lines plan
+    (where_all (codes "\nWHERE ") (codes "\n  AND ") (key_conditions Clickhouse lines plan))
     (filter (is_grouped plan) dimensions)
 
-abbrev pub source : System → Plan → List ℕ
-source Sqlite plan = plain_source Sqlite plan
-source Postgresql plan = plain_source Postgresql plan
-source Clickhouse plan = nested_source plan
+abbrev pub source : System → ReadLines → Plan → List ℕ
+source Sqlite lines plan = plain_source Sqlite lines plan
+source Postgresql lines plan = plain_source Postgresql lines plan
+source Clickhouse lines plan = nested_source lines plan

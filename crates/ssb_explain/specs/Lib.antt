@@ -5,6 +5,7 @@ pub mod Words
 pub mod Names
 pub mod Conditions
 pub mod Joins
+pub mod Lines
 pub mod Statement
 -- that the words ask the same
 pub mod Laws

@@ -6,6 +6,7 @@ ghost use Rattle.ssb_explain.specs.Joins as spec;
 ghost use Rattle.ssb_explain.specs.Names.{dimensions};
 
 use crate::conditions::{add_conditions, add_line_conditions, conditions, where_all};
+use crate::lines::{ReadLines, add_commit_condition, lines_table};
 use crate::names::{DIMENSIONS, column_names, key_sql, line_key_sql, same_table, table_sql};
 use crate::system::System;
 use crate::texts::joined;
@@ -121,26 +122,37 @@ fn join_texts(alloc: Global, tables: &[Table]) -> Result<Vec<String>, AllocError
     Ok(texts)
 }
 
-fn plain_conditions(alloc: Global, system: System, plan: &Plan) -> Result<Vec<String>, AllocError>
-    ensures { IfOk result (λ found. map string_bytes found.items ≡ spec.plain_conditions system plan.now) }
+fn plain_conditions(
+    alloc: Global,
+    system: System,
+    lines: ReadLines,
+    plan: &Plan,
+) -> Result<Vec<String>, AllocError>
+    ensures { IfOk result (λ found. map string_bytes found.items ≡ spec.plain_conditions system lines plan.now) }
 {
     let mut found = Vec::new(alloc);
     for table in &DIMENSIONS {
         add_conditions(alloc, system, &mut found, tests_on(plan, *table))?;
     }
     add_line_conditions(alloc, &mut found, plan)?;
+    add_commit_condition(alloc, &mut found, lines)?;
     Ok(found)
 }
 
 /// What SQLite and PostgreSQL read: the lines joined with each dimension that is tested or grouped by, and the
 /// conditions.
-pub fn plain_source(alloc: Global, system: System, plan: &Plan) -> Result<String, AllocError>
-    ensures { IfOk result (λ text. string_bytes text ≡ spec.plain_source system plan.now) }
+pub fn plain_source(
+    alloc: Global,
+    system: System,
+    lines: ReadLines,
+    plan: &Plan,
+) -> Result<String, AllocError>
+    ensures { IfOk result (λ text. string_bytes text ≡ spec.plain_source system lines plan.now) }
 {
     let tables = needed_tables(alloc, plan)?;
     let joins = join_texts(alloc, tables.as_slice())?;
     let joins = joined(alloc, "", joins.as_slice())?;
-    let conditions = plain_conditions(alloc, system, plan)?;
+    let conditions = plain_conditions(alloc, system, lines, plan)?;
     let conditions = where_all(alloc, "\nWHERE ", "\n  AND ", conditions.as_slice())?;
-    ["lineorder", joins.as_str(), conditions.as_str()].concat(alloc)
+    [lines_table(lines), joins.as_str(), conditions.as_str()].concat(alloc)
 }

@@ -14,13 +14,15 @@
 //!
 //! ```text
 //! let words = explanation(alloc, &question)?;
-//! let sql = sql_statement(alloc, System::Postgresql, &question)?;
+//! let target = SqlTarget { system: System::Postgresql, lines: ReadLines::Lineorder };
+//! let sql = sql_statement(alloc, target, &question)?;
 //! ```
 #![tactic(auto)]
 
 mod conditions;
 mod joins;
 pub mod laws;
+mod lines;
 mod names;
 mod nested;
 mod statement;
@@ -28,6 +30,7 @@ mod system;
 mod texts;
 mod words;
 
-pub use statement::sql_statement;
+pub use lines::ReadLines;
+pub use statement::{SqlTarget, sql_statement};
 pub use system::{NoSuchSystem, System};
 pub use words::{explanation, record_line};

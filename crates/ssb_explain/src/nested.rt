@@ -8,6 +8,7 @@ ghost use Rattle.ssb_explain.specs.Names as names;
 
 use crate::conditions::{add_line_conditions, where_all};
 use crate::joins::{is_grouped, is_tested, names_on, passing};
+use crate::lines::{ReadLines, add_commit_condition, lines_table, sign_names};
 use crate::names::{DIMENSIONS, key_sql, line_key_sql};
 use crate::system::System;
 use crate::texts::commas;
@@ -59,12 +60,18 @@ fn all_keys_pass(
     Ok(found)
 }
 
-fn key_conditions(alloc: Global, system: System, plan: &Plan) -> Result<Vec<String>, AllocError>
-    ensures { IfOk result (λ found. map string_bytes found.items ≡ spec.key_conditions system plan.now) }
+fn key_conditions(
+    alloc: Global,
+    system: System,
+    lines: ReadLines,
+    plan: &Plan,
+) -> Result<Vec<String>, AllocError>
+    ensures { IfOk result (λ found. map string_bytes found.items ≡ spec.key_conditions system lines plan.now) }
 {
     let tables = tested_tables(alloc, plan)?;
     let mut found = all_keys_pass(alloc, system, plan, tables.as_slice())?;
     add_line_conditions(alloc, &mut found, plan)?;
+    add_commit_condition(alloc, &mut found, lines)?;
     Ok(found)
 }
 
@@ -139,14 +146,16 @@ fn add_copies(alloc: Global, kept: &mut Vec<String>, texts: &[String]) -> Result
 // What the outer joins and the sum still need, with the group columns so far.
 fn kept(
     alloc: Global,
+    lines: ReadLines,
     plan: &Plan,
     outer: &[Table],
     columns: &[String],
 ) -> Result<Vec<String>, AllocError>
     ensures { IfOk result (λ kept. map string_bytes kept.items
-        ≡ spec.kept plan.now outer.now (map string_bytes columns.now)) }
+        ≡ spec.kept lines plan.now outer.now (map string_bytes columns.now)) }
 {
     let mut kept = Vec::new(alloc);
+    add_names(alloc, &mut kept, sign_names(lines))?;
     add_names(alloc, &mut kept, measured(plan.measure))?;
     add_line_keys(alloc, &mut kept, outer)?;
     add_copies(alloc, &mut kept, columns)?;
@@ -253,20 +262,21 @@ fn columns_with(
 // The source joined with a dimension, of which the outer joins need what is kept.
 fn joined_once(
     alloc: Global,
+    lines: ReadLines,
     plan: &Plan,
     source: &RowSource,
     table: Table,
     outer: &[Table],
 ) -> Result<RowSource, AllocError>
     ensures text { IfOk result (λ made. string_bytes made.text
-        ≡ spec.next_rows plan.now (string_bytes source.now.text) (string_bytes source.now.tested)
+        ≡ spec.next_rows lines plan.now (string_bytes source.now.text) (string_bytes source.now.tested)
         (map string_bytes source.now.columns.items) table outer.now) }
     ensures tested { IfOk result (λ made. string_bytes made.tested ≡ []) }
     ensures columns { IfOk result (λ made. map string_bytes made.columns.items
         ≡ map string_bytes source.now.columns.items ++ spec.names_on plan.now table) }
 {
     let columns = columns_with(alloc, plan, source, table)?;
-    let kept = kept(alloc, plan, outer, columns.as_slice())?;
+    let kept = kept(alloc, lines, plan, outer, columns.as_slice())?;
     let text = joined_text(alloc, plan, source, table, kept.as_slice())?;
     Ok(RowSource {
         text,
@@ -279,19 +289,20 @@ fn joined_once(
 #[tactic(auto, using(crate::proofs::JoinLaws::one_within))]
 fn joined_from(
     alloc: Global,
+    lines: ReadLines,
     plan: &Plan,
     source: RowSource,
     table: Table,
     outer: &[Table],
 ) -> Result<String, AllocError>
-    ensures { IfOk result (λ text. string_bytes text ≡ spec.joined_from plan.now (string_bytes source.text)
+    ensures { IfOk result (λ text. string_bytes text ≡ spec.joined_from lines plan.now (string_bytes source.text)
         (string_bytes source.tested) (map string_bytes source.columns.items) table outer.now) }
 {
     match outer {
         [] => joined_last(alloc, plan, &source, table),
         [next, rest @ ..] => {
-            let source = joined_once(alloc, plan, &source, table, outer)?;
-            let text = joined_from(alloc, plan, source, *next, rest)?;
+            let source = joined_once(alloc, lines, plan, &source, table, outer)?;
+            let text = joined_from(alloc, lines, plan, source, *next, rest)?;
             Ok(text)
         }
     }
@@ -300,32 +311,33 @@ fn joined_from(
 // The lines joined with these dimensions, one after the other, where the conditions hold.
 fn joined_source(
     alloc: Global,
+    lines: ReadLines,
     plan: &Plan,
     tested: String,
     tables: &[Table],
 ) -> Result<String, AllocError>
     ensures { IfOk result (λ text. string_bytes text
-        ≡ spec.joined_source plan.now (string_bytes tested) tables.now) }
+        ≡ spec.joined_source lines plan.now (string_bytes tested) tables.now) }
 {
     match tables {
-        [] => ["lineorder", tested.as_str()].concat(alloc),
+        [] => [lines_table(lines), tested.as_str()].concat(alloc),
         [table, outer @ ..] => {
             let source = RowSource {
-                text: String::from_str(alloc, "lineorder")?,
+                text: String::from_str(alloc, lines_table(lines))?,
                 tested,
                 columns: Vec::new(alloc),
             };
-            joined_from(alloc, plan, source, *table, outer)
+            joined_from(alloc, lines, plan, source, *table, outer)
         }
     }
 }
 
 /// What ClickHouse reads.
-pub fn nested_source(alloc: Global, plan: &Plan) -> Result<String, AllocError>
-    ensures { IfOk result (λ text. string_bytes text ≡ spec.nested_source plan.now) }
+pub fn nested_source(alloc: Global, lines: ReadLines, plan: &Plan) -> Result<String, AllocError>
+    ensures { IfOk result (λ text. string_bytes text ≡ spec.nested_source lines plan.now) }
 {
     let tables = grouped_tables(alloc, plan)?;
-    let conditions = key_conditions(alloc, System::Clickhouse, plan)?;
+    let conditions = key_conditions(alloc, System::Clickhouse, lines, plan)?;
     let tested = where_all(alloc, "\nWHERE ", "\n  AND ", conditions.as_slice())?;
-    joined_source(alloc, plan, tested, tables.as_slice())
+    joined_source(alloc, lines, plan, tested, tables.as_slice())
 }
