@@ -63,7 +63,7 @@ left_export base marks file tables calls after all left any =
 -- over the tables that were loaded
 exports-of : (texts : Table → List ℕ) (known : Option (List ℕ)) (base : Tables) (marks : List TableMark) (file : List ℕ)
     (calls : List FolderCall) → IsLoadedToServe texts base → AreMarks base marks
-    → HaveChecksums texts marks → IsKnown known file → IsExport base marks file calls → Exports texts known
+    → HaveChecksums texts marks → IsKnown known file → IsExport base marks file calls → Exports texts known calls
 exports-of texts known base marks file calls loaded marked checked is_file is = record {
   base = base;
   loaded = loaded;
@@ -75,6 +75,7 @@ exports-of texts known base marks file calls loaded marked checked is_file is = 
   commits = is.after.commits;
   has = is.after.has;
   legal = is.after.legal;
+  filled = subst (λ (now : Tables). HasAll (base_texts now) calls) is.after.are is.has;
   read_back = subst (λ (now : Tables). AreReadBack (base_texts now) now) is.after.are (record {
     loaded = record {
       limited = ap (λ (now : Tables). limits_of now.limits) is.after.are ∙ loaded.limited;
@@ -87,7 +88,7 @@ exports-of texts known base marks file calls loaded marked checked is_file is = 
 pub exports : (texts : Table → List ℕ) (known : Option (List ℕ)) (base held : Tables) (marks : List TableMark)
     (file : List ℕ) (calls : List FolderCall) → IsLoadedToServe texts base → AreMarks base marks
     → HaveChecksums texts marks
-    → IsKnown known file → held ≡ base → IsExport held marks file calls → Exports texts known
+    → IsKnown known file → held ≡ base → IsExport held marks file calls → Exports texts known calls
 exports texts known base held marks file calls loaded marked checked is_file same is =
     exports-of texts known base marks file calls loaded marked checked is_file
     (subst (λ (b : Tables). IsExport b marks file calls) same is)

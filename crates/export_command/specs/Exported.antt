@@ -1,6 +1,7 @@
 -- What an export leaves.
 use Rattle.std.specs.Prelude.{◌≡◌, ◌⊎◌, ℕ, List, length, Option, None}
 use Rattle.export_command.specs.After.{tables_after}
+use Rattle.export_command.specs.Status.{export_status}
 use Rattle.export_command.specs.declared.fault.ExportRefusal.{ExportRefusal}
 use Rattle.export_command.specs.declared.fault.ExportRefusal.TheVariants as refusal
 use Rattle.journal.specs.Groups.{AreTorn}
@@ -148,9 +149,10 @@ pub record AreReadBack (texts : Table → List ℕ) (tables : Tables) : Type 0 w
   pub loaded : IsLoadedToServe texts tables
   pub sound : IsSound tables
 
--- the five texts spell a base; the commits that the journal's file has are a legal history over it, and the texts of
--- the tables after it are read back as these. The file is the known one, where one is known
-pub record Exports (texts : Table → List ℕ) (known : Option (List ℕ)) : Type 0 where
+-- the five texts spell a base; the commits that the journal's file has are a legal history over it; and by these calls
+-- the folder has the texts of the tables after it, which are read back as these. The file is the known one, where one is
+-- known
+pub record Exports (texts : Table → List ℕ) (known : Option (List ℕ)) (calls : List FolderCall) : Type 0 where
   pub base : Tables
   pub loaded : IsLoadedToServe texts base
   pub marks : List TableMark
@@ -161,4 +163,10 @@ pub record Exports (texts : Table → List ℕ) (known : Option (List ℕ)) : Ty
   pub commits : List CommitRecord
   pub has : HasCommits marks commits file
   pub legal : IsLegal base commits
+  pub filled : HasAll (base_texts (tables_after base commits)) calls
   pub read_back : AreReadBack (base_texts (tables_after base commits)) (tables_after base commits)
+
+-- a fault of which the status is 1 tells this
+abbrev pub IsExportRefused : (Table → List ℕ) → Option (List ℕ) → Type 0 → Type 0 → Type 0
+IsExportRefused texts known Taken Missing =
+    (why : JobFault ExportRefusal) × (export_status why ≡ 1) × TellsExportFault texts known Taken Missing why

@@ -1,14 +1,14 @@
 //! `export`: the tables after a journal's commits, into a folder.
 
-ghost use Rattle.std.specs.Prelude.{◌≡◌, ◌≢◌, ℕ, [], List, true, IfOk, IfErr, OnOk};
+ghost use Rattle.std.specs.Prelude.{◌≡◌, ◌≢◌, ℕ, [], List, true, IfOk, IfErr, IfSome, IsSome, OnOk};
 ghost use Rattle.journal_opening.specs.Kept.{IsKnown};
 ghost use Rattle.export_command.specs.Exported.{Exports, IsExport, IsFillFault, IsFindFault, IsJournalRefusal};
-ghost use Rattle.export_command.specs.Exported.{LeftNoneOrExport, TellsExportFault};
+ghost use Rattle.export_command.specs.Exported.{IsExportRefused, LeftNoneOrExport, TellsExportFault};
 ghost use Rattle.export_command.specs.Standing.{Follows};
 ghost use Rattle.export_command.specs.Status.{export_status};
 ghost use Rattle.ssb_schema.specs.declared.table.Table.{Table};
 ghost use Rattle.ssb_text.specs.Layouts.{AreRows};
-ghost use Rattle.table_folder.specs.FilesFolder.{IsUntouched};
+ghost use Rattle.table_folder.specs.FilesFolder.{IsUntouched, calls_on};
 
 use crate::fault::ExportRefusal::Journal;
 use crate::fault::{ExportFault, ExportRefusal, NotEmpty};
@@ -242,15 +242,22 @@ fn find_folder<'a, F: Files>(
 
 /// Writes the tables as they are after a journal's commits into a folder, and tells on `err` how many commits these
 /// were. The folder is looked at first, then the tables are read, and then the journal, which is as it was.
-pub fn export<R: Threads + Sync + AllocGlobal, F: Files, P: OpensJournal, I: Read + Drop, E: Write>(
+pub fn export<
+    'a,
+    R: Threads + Sync + AllocGlobal,
+    F: Files,
+    P: OpensJournal,
+    I: Read + Drop,
+    E: Write,
+>(
     rt: &R,
     hashing: RandomState,
     tables: TableFiles<I>,
-    place: &ExportPlace<'_, F, P>,
+    place: &ExportPlace<'a, F, P>,
     err: &mut E,
-) -> Result<(), ExportFault>
-    ensures exported { OnOk result ((texts : Table → List ℕ) → AreRows I.remaining tables texts
-        → Exports texts (P.holds place.now.journal.now)) }
+) -> Result<FilesFolder<'a, F>, ExportFault>
+    ensures exported { IfOk result (λ folder. (texts : Table → List ℕ) → AreRows I.remaining tables texts
+        → Exports texts (P.holds place.now.journal.now) (calls_on folder)) }
     ensures fault { IfErr result (λ fault. (texts : Table → List ℕ) → AreRows I.remaining tables texts
         → TellsExportFault texts (P.holds place.now.journal.now) (P.is_taken place.now.journal.now)
         (P.is_missing place.now.journal.now) fault) }
@@ -273,17 +280,31 @@ pub fn export<R: Threads + Sync + AllocGlobal, F: Files, P: OpensJournal, I: Rea
         marks: &marks,
         file,
     };
-    match read_journal(alloc, hashing, source) {
-        Ok(read) => export_into(alloc, read, &mut folder, err, place.tells),
+    let read = match read_journal(alloc, hashing, source) {
+        Ok(read) => read,
+        Err(fault) => return Err(fault),
+    };
+    match export_into(alloc, read, &mut folder, err, place.tells) {
+        Ok(()) => Ok(folder),
         Err(fault) => Err(fault),
     }
 }
 
+/// How an export ended.
+#[derive(Drop)]
+pub struct ExportEnd<'a, F: Files> {
+    /// The exit status.
+    pub status: u8,
+    /// The folder, where it has all tables.
+    pub folder: Option<FilesFolder<'a, F>>,
+}
+
 /// Exports the tables, as `export` does, and tells a fault on a line of `err`.
 ///
-/// The result is the exit status: 0 where the folder has all tables, 1 where the folder, the data or the journal is
-/// refused and nothing was made, and else 4.
+/// The exit status is 0 where the folder has all tables, 1 where the folder, the data or the journal is refused and
+/// nothing was made, and else 4.
 pub fn run_export<
+    'a,
     R: Threads + Sync + AllocGlobal,
     F: Files,
     P: OpensJournal,
@@ -293,15 +314,25 @@ pub fn run_export<
     rt: &R,
     hashing: RandomState,
     tables: TableFiles<I>,
-    place: &ExportPlace<'_, F, P>,
+    place: &ExportPlace<'a, F, P>,
     err: &mut E,
-) -> u8
-    ensures exported { result ≡ 0 → (texts : Table → List ℕ) → AreRows I.remaining tables texts
-        → Exports texts (P.holds place.now.journal.now) }
-    ensures others { result ≢ 0 → result ≢ 1 → result ≡ 4 }
+) -> ExportEnd<'a, F>
+    ensures exported { IfSome result.folder (λ folder. (texts : Table → List ℕ) → AreRows I.remaining tables texts
+        → Exports texts (P.holds place.now.journal.now) (calls_on folder)) }
+    ensures filled { result.status ≡ 0 → IsSome result.folder }
+    ensures refused { result.status ≡ 1 → (texts : Table → List ℕ) → AreRows I.remaining tables texts
+        → IsExportRefused texts (P.holds place.now.journal.now) (P.is_taken place.now.journal.now)
+        (P.is_missing place.now.journal.now) }
+    ensures others { result.status ≢ 0 → result.status ≢ 1 → result.status ≡ 4 }
 {
     match export(rt, hashing, tables, place, err) {
-        Ok(()) => 0,
-        Err(fault) => fault.tell(err),
+        Ok(folder) => ExportEnd {
+            status: 0,
+            folder: Some(folder),
+        },
+        Err(fault) => ExportEnd {
+            status: fault.tell(err),
+            folder: None,
+        },
     }
 }

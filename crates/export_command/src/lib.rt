@@ -17,7 +17,7 @@
 //! [`export_into`], over these and a folder as its model has it (`table_folder`): at `Ok` the folder has the five texts
 //! of the tables, each crash from then on leaves them, and a load of them gives these tables; a crash at any moment until
 //! then leaves no `lineorder`, or all five. [`run_export`] opens both: with status 0 the tables spell a base, and the
-//! texts of the tables after the commits of the file spell these, which are sound.
+//! folder that it hands back has the texts of the tables after the commits of the file, which spell these tables.
 //!
 //! ```text
 //! let read = read_journal(alloc, hashing, ExportSource { base, marks: &marks, file })?;
@@ -34,7 +34,8 @@ mod tables_after;
 mod writing;
 
 pub use exporting::{
-    ExportPlace, ExportSource, JournalTables, export, export_into, read_journal, run_export,
+    ExportEnd, ExportPlace, ExportSource, JournalTables, export, export_into, read_journal,
+    run_export,
 };
 pub use fault::{ExportFault, ExportRefusal, NotEmpty};
 pub use laws::tables_after_are_sound;

@@ -1,6 +1,9 @@
 -- The base that five texts spell, and the texts that spell none.
-use Rattle.std.specs.Prelude.{◌≡◌, ℕ, List}
+use Rattle.std.specs.Prelude.{◌≡◌, ℕ, Bool, List}
 use Rattle.ssb_files.specs.Status.{data_status}
+use Rattle.ssb_files.specs.Told.{told}
+use Rattle.ssb_files.specs.declared.fault.Fault.{Fault}
+use Rattle.ssb_files.specs.declared.fault.Fault.TheVariants as program
 use Rattle.ssb_files.specs.declared.loading.LoadedFor.{LoadedFor}
 use Rattle.ssb_files.specs.declared.loading.LoadedFor.TheVariants as purpose
 use Rattle.ssb_text.specs.Load.{IsLoadFault, SpellsBase}
@@ -27,6 +30,15 @@ pub record AreRefusedFor (commits : ℕ) (texts : Table → List ℕ) : Type 0 w
   pub fault : LoadError
   pub first : IsLoadFault limits texts fault
   pub of_data : data_status fault ≡ 1
+
+-- a fault of the program is the first fault that the five texts have, as it is told where a line of heads stands above
+-- the rows or not
+pub record TellsRefusal (commits : ℕ) (has_heads : Bool) (texts : Table → List ℕ) (fault : Fault) : Type 0 where
+  pub limits : Limits
+  pub limited : limits_of limits ≡ (most_dimension_rows, most_lines, commits)
+  pub found : LoadError
+  pub first : IsLoadFault limits texts found
+  pub tells : fault ≡ program.Data (told has_heads found)
 
 -- the same for a warehouse whose history is kept whole beside it
 abbrev pub IsLoaded : (Table → List ℕ) → Tables → Type 0

@@ -2,7 +2,7 @@
 
 ghost use Rattle.std.specs.Prelude.{◌≡◌, ◌≢◌, ℕ, List, IfOk, IfErr};
 ghost use Rattle.ssb_base.specs.Limits.{limits_of, most_dimension_rows, most_lines};
-ghost use Rattle.ssb_files.specs.Loaded.{AreRefusedFor, IsLoadedFor, commits_for};
+ghost use Rattle.ssb_files.specs.Loaded.{AreRefusedFor, IsLoadedFor, TellsRefusal, commits_for};
 ghost use Rattle.ssb_files.specs.Status.{data_status, status_of};
 ghost use Rattle.ssb_files.specs.Told as spec;
 ghost use Rattle.ssb_text.specs.Checksums.{AreChecksums};
@@ -106,6 +106,9 @@ pub fn base_of<I: Read + Drop>(
         → AreRows I.remaining tables texts → IsLoadedFor (commits_for purpose) texts base) }
     ensures data { IfErr result (λ fault. status_of fault ≡ 1 → (texts : Table → List ℕ)
         → AreRows I.remaining tables texts → AreRefusedFor (commits_for purpose) texts) }
+    ensures told { IfErr result (λ fault. status_of fault ≡ 1 → (texts : Table → List ℕ)
+        → AreRows I.remaining tables texts
+        → TellsRefusal (commits_for purpose) tables.layout.has_heads texts fault) }
     ensures later { IfErr result (λ fault. status_of fault ≢ 2) }
     ensures earlier { IfErr result (λ fault. status_of fault ≢ 3) }
 {
@@ -130,6 +133,9 @@ pub fn checked_base_of<I: Read + Drop>(
         → AreRows I.remaining tables texts → AreChecksums texts loaded.1) }
     ensures data { IfErr result (λ fault. status_of fault ≡ 1 → (texts : Table → List ℕ)
         → AreRows I.remaining tables texts → AreRefusedFor (commits_for purpose) texts) }
+    ensures told { IfErr result (λ fault. status_of fault ≡ 1 → (texts : Table → List ℕ)
+        → AreRows I.remaining tables texts
+        → TellsRefusal (commits_for purpose) tables.layout.has_heads texts fault) }
     ensures later { IfErr result (λ fault. status_of fault ≢ 2) }
     ensures earlier { IfErr result (λ fault. status_of fault ≢ 3) }
 {

@@ -1,8 +1,13 @@
 -- What a folder of the operating system shows.
-use Rattle.std.specs.Prelude.{◌≡◌, []}
+use Rattle.std.specs.Prelude.{◌≡◌, List, []}
+use Rattle.table_folder.specs.Calls.{FolderCall}
 use Rattle.table_folder.specs.Noted.{calls_of}
 use Rattle.table_folder.specs.declared.files_folder.FilesFolder.{FilesFolder}
 
+-- the calls that were made on it, the newest first
+abbrev pub calls_on : {F File Dir : Type 0} → FilesFolder F File Dir → List FolderCall
+calls_on folder = calls_of folder.noted.items
+
 -- no call was made on it
 abbrev pub IsUntouched : {F File Dir : Type 0} → FilesFolder F File Dir → Type 0
-IsUntouched folder = calls_of folder.noted.items ≡ []
+IsUntouched folder = calls_on folder ≡ []

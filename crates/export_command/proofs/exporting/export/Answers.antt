@@ -6,7 +6,7 @@ use Rattle.ssb_files.specs.declared.job.JobFault.TheVariants.{Program}
 use Rattle.ssb_schema.specs.declared.table.Table.{Table}
 use Rattle.ssb_text.specs.Layouts.{AreRows}
 use Rattle.export_command.specs.Exported.{IsJournalRefusal, TellsExportFault}
-use Rattle.export_command.proofs.ExportLaws.{exports, file_fault_tells, find_fault_tells, on_ok}
+use Rattle.export_command.proofs.ExportLaws.{exports, file_fault_tells, find_fault_tells}
 use Rattle.export_command.proofs.ExportLaws.{read_fault_tells}
 use Rattle.export_command.proofs.exporting.export.Goals as goal
 
@@ -47,10 +47,8 @@ returns-in-Err-clause-fault g c =
     c.in-Err.error
     (λ same. c.in-Err.ensures.taken (ap Err same)) c.in-Err.ensures.missing
 
-pub returns-in-Ok-read_journal-clause-exported : goal.returns-in-Ok-read_journal-clause-exported
-returns-in-Ok-read_journal-clause-exported g c =
-    on_ok _ _ c.export_into.result
-    (λ is texts are.
+pub returns-in-Ok-export_into-clause-exported : goal.returns-in-Ok-export_into-clause-exported
+returns-in-Ok-export_into-clause-exported g c = λ texts are.
     let base = c.in_ok-read.read.0 in
     let read = c.in-Ok-read_journal.read in
     let marks = sym c.in-Ok-read_journal.ensures.marks in
@@ -59,11 +57,10 @@ returns-in-Ok-read_journal-clause-exported g c =
     (subst (HaveChecksums texts) marks
     (c.table_marks-marks.ensures.checksums texts (c.in_ok-read.ensures.checksums texts are)))
     (subst (λ known. IsKnown known read.file) c.in-Ok.ensures.held c.in-Ok-read_journal.ensures.known)
-    (c.in-Ok-read_journal.ensures.base ∙ c.in_ok-base.ensures.ok) is)
-    c.export_into.ensures.exported
+    (c.in-Ok-read_journal.ensures.base ∙ c.in_ok-base.ensures.ok) c.in-Ok-export_into.ensures.exported
 
-pub returns-clause-fault : goal.returns-clause-fault
-returns-clause-fault g c = λ texts are.
+pub returns-in-Err-read_journal-clause-fault : goal.returns-in-Err-read_journal-clause-fault
+returns-in-Err-read_journal-clause-fault g c = λ texts are.
     let fault = c.in-Err-read_journal.fault in
     let marks = c.table_marks-marks.result in
     read_fault_tells texts _ _ _ c.in_ok-read.read.0 c.in_ok-base.base.value marks fault

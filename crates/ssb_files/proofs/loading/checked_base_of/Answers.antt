@@ -1,7 +1,8 @@
 use Rattle.std.proofs.Common.{◌≡◌, ◌∙◌, ℕ, List, Err, ap, sym, rules}
 use Rattle.ssb_base.specs.Limits.{limits_of}
-use Rattle.ssb_files.specs.Loaded.{AreRefusedFor, commits_for}
+use Rattle.ssb_files.specs.Loaded.{AreRefusedFor, TellsRefusal, commits_for}
 use Rattle.ssb_files.specs.Status.{status_of}
+use Rattle.ssb_files.specs.declared.fault.Fault.TheVariants.{Data}
 use Rattle.ssb_schema.specs.declared.table.Table.{Table}
 use Rattle.ssb_text.specs.Layouts.{AreRows}
 use Rattle.ssb_files.proofs.loading.checked_base_of.Goals as goal
@@ -20,6 +21,24 @@ returns-in-Err-clause-data g c = λ of_data texts are. record {
   first = c.in-Err.ensures.fault texts (c.in_ok-rows.ensures.rows texts are);
   of_data = sym c.told.ensures.status ∙ of_data;
 }
+
+pub returns-in-Err-clause-told : goal.returns-in-Err-clause-told
+returns-in-Err-clause-told g c = λ of_data texts are. record {
+  limits = c.limits_for.result;
+  limited = c.limits_for.ensures;
+  found = c.in-Err.fault;
+  first = c.in-Err.ensures.fault texts (c.in_ok-rows.ensures.rows texts are);
+  tells = ap Data c.told.ensures.fault;
+}
+
+pub returns-in_err-rows-clause-told : goal.returns-in_err-rows-clause-told
+returns-in_err-rows-clause-told g c =
+    let is : c.from_residual.result ≡ Err c.in_err-rows.field-0.0 = search rules in
+    let here : status_of c.in_err-rows.field-0.0 ≡ 1 → (texts : Table → List ℕ)
+    → AreRows g.I.Read.remaining c.args.tables texts
+    → TellsRefusal (commits_for c.args.purpose) c.args.tables.layout.has_heads texts c.in_err-rows.field-0.0 =
+    λ one texts are. absurd (c.in_err-rows.ensures.data one texts are) in
+    rw is here
 
 pub returns-in_err-rows-clause-data : goal.returns-in_err-rows-clause-data
 returns-in_err-rows-clause-data g c =
