@@ -1,6 +1,7 @@
 //! Every fault that has a number, with the values that the page's words in capitals stand for.
 
 use crate::help::push_help;
+use changes_command::NoSuchCommit;
 use export_command::NotEmpty;
 use journal_file::{NoJournal, OpenError};
 use query_command::{BoardLineFault, NoReports};
@@ -13,7 +14,7 @@ use ssb_questions::{ConstantsFault, NoSuchQuery, Query};
 use ssb_schema::{C_CITY, SchemaFault, Table};
 use ssb_script::{QuestionsError, RequestError, ScriptError};
 use ssb_server::OpenFault;
-use ssb_sql::{Place, SqlFault};
+use ssb_sql::{SqlFault, TextPlace};
 use ssb_text::LoadError;
 use std::alloc::{AllocError, Global};
 use std::fmt::Display;
@@ -95,14 +96,15 @@ impl ListsFaults for BoardLineFault {
         BoardLineFault::NoTitle
     }
 
-    // What is wrong with a question has the number that it has anywhere.
+    // What is wrong with a question or a statement has the number that it has anywhere.
     fn next(&self) -> Option<BoardLineFault> {
         match self {
             BoardLineFault::NoTitle => Some(BoardLineFault::NotUtf8),
             BoardLineFault::NotUtf8 => Some(BoardLineFault::TooManyReports),
             BoardLineFault::TooManyReports
             | BoardLineFault::NoSuchQuery(_)
-            | BoardLineFault::Constants(_) => None,
+            | BoardLineFault::Constants(_)
+            | BoardLineFault::Sql(_) => None,
         }
     }
 }
@@ -117,7 +119,7 @@ impl ListsFaults for NoReports {
     }
 }
 
-const SQL_PLACE: Place = Place { line: 2, column: 4 };
+const SQL_PLACE: TextPlace = TextPlace { line: 2, column: 4 };
 
 impl ListsFaults for SqlFault {
     fn first() -> SqlFault {
@@ -274,6 +276,16 @@ impl ListsFaults for NoJournal<&'static str> {
     }
 }
 
+impl ListsFaults for NoSuchCommit {
+    fn first() -> NoSuchCommit {
+        NoSuchCommit { number: 3 }
+    }
+
+    fn next(&self) -> Option<NoSuchCommit> {
+        None
+    }
+}
+
 impl ListsFaults for NotEmpty {
     fn first() -> NotEmpty {
         NotEmpty
@@ -379,6 +391,7 @@ pub fn all_lines(alloc: Global) -> Result<Vec<String>, AllocError> {
     push_lines::<OpenError>(alloc, &mut lines)?;
     push_lines::<NoJournal<&'static str>>(alloc, &mut lines)?;
     push_lines::<NotEmpty>(alloc, &mut lines)?;
+    push_lines::<NoSuchCommit>(alloc, &mut lines)?;
     push_lines::<ReadOnly>(alloc, &mut lines)?;
     push_lines::<PathFault<&'static str>>(alloc, &mut lines)?;
     push_lines::<QuestionsError>(alloc, &mut lines)?;

@@ -2,11 +2,13 @@
 
 use crate::faults::{ListsFaults, push_lines};
 use ssb_hints::{
-    ClashHelp, ConstantsHelp, JournalHelp, PathHelp, PathRole, QuestionHelp, QuestionNote,
-    RefusalHelp, RowHelp, RowPlace, ScriptHelp, StarHelp,
+    AuditHelp, BoardHelp, ClashHelp, ConstantsHelp, FileKind, JournalHelp, PathHelp, PathRole,
+    PromptHelp, QuestionHelp, QuestionNote, RefusalHelp, RowHelp, RowPlace, RunNote, ScriptHelp,
+    StarHabit, StarHelp, StatementHelp, TableHelp,
 };
 use ssb_questions::{Query, Question};
-use ssb_schema::{C_CITY, Table};
+use ssb_schema::{C_CITY, SchemaFault, Table};
+use ssb_script::ScriptError;
 use ssb_text::Delimiter;
 use std::alloc::{AllocError, Global};
 use std::collections::BTreeSet;
@@ -52,7 +54,9 @@ impl ListsFaults for ClashHelp<'static> {
             },
             ClashHelp::NotATrace(path) => ClashHelp::HasBytes(path),
             ClashHelp::HasBytes(path) => ClashHelp::InUse(path),
-            ClashHelp::InUse(_) => return None,
+            ClashHelp::InUse(path) => ClashHelp::NotMetrics(path),
+            ClashHelp::NotMetrics(_) => ClashHelp::NotEmpty("tables"),
+            ClashHelp::NotEmpty(_) => return None,
         })
     }
 }
@@ -97,6 +101,132 @@ impl ListsFaults for StarHelp<'static> {
     }
 }
 
+impl ListsFaults for StarHabit<'static> {
+    fn first() -> StarHabit<'static> {
+        StarHabit::Blank("C_CITY=UNITED", "KI1")
+    }
+
+    fn next(&self) -> Option<StarHabit<'static>> {
+        Some(match self {
+            StarHabit::Blank(_, _) => StarHabit::NotEqual,
+            StarHabit::NotEqual => StarHabit::OneEnd,
+            StarHabit::OneEnd => StarHabit::Limit,
+            StarHabit::Limit => StarHabit::Order,
+            StarHabit::Order => StarHabit::Call,
+            StarHabit::Call => StarHabit::Average,
+            StarHabit::Average => StarHabit::By,
+            StarHabit::By => StarHabit::Stroke("D_YEAR", "1993", "1995"),
+            StarHabit::Stroke(_, _, _) => return None,
+        })
+    }
+}
+
+impl ListsFaults for StatementHelp<'static> {
+    fn first() -> StatementHelp<'static> {
+        StatementHelp::BadToken("LO_TAX")
+    }
+
+    fn next(&self) -> Option<StatementHelp<'static>> {
+        Some(match self {
+            StatementHelp::BadToken(_) => StatementHelp::NotEqual,
+            StatementHelp::NotEqual => StatementHelp::Unexpected("LO_TAX"),
+            StatementHelp::Unexpected(_) => StatementHelp::EndsEarly,
+            StatementHelp::EndsEarly => StatementHelp::NotSupported("LO_TAX"),
+            StatementHelp::NotSupported(_) => StatementHelp::Words,
+            StatementHelp::Words => StatementHelp::Sums,
+            StatementHelp::Sums => StatementHelp::UnknownName("LO_TAX"),
+            StatementHelp::UnknownName(part) => StatementHelp::NotJoined(part),
+            StatementHelp::NotJoined(part) => StatementHelp::NotAGroup(part),
+            StatementHelp::NotAGroup(part) => StatementHelp::BadValue(part),
+            StatementHelp::BadValue(part) => StatementHelp::TooMany(part),
+            StatementHelp::TooMany(part) => StatementHelp::SameHead(part),
+            StatementHelp::SameHead(_) => return None,
+        })
+    }
+}
+
+impl ListsFaults for TableHelp<'static> {
+    fn first() -> TableHelp<'static> {
+        TableHelp::OtherName("answers", Table::Customer)
+    }
+
+    fn next(&self) -> Option<TableHelp<'static>> {
+        Some(match self {
+            TableHelp::OtherName(name, table) => TableHelp::Packed(name, *table),
+            TableHelp::Packed(name, _) => TableHelp::OtherBenchmark(name),
+            TableHelp::OtherBenchmark(path) => TableHelp::NoRows(path),
+            TableHelp::NoRows(path) => TableHelp::OtherKind(path, FileKind::Utf16),
+            TableHelp::OtherKind(path, kind) => TableHelp::OtherKind(path, kind_behind(*kind)?),
+        })
+    }
+}
+
+// The kind behind this one, if it is not the last.
+fn kind_behind(kind: FileKind) -> Option<FileKind> {
+    Some(match kind {
+        FileKind::Utf16 => FileKind::Gzip,
+        FileKind::Gzip => FileKind::Zstd,
+        FileKind::Zstd => FileKind::Xz,
+        FileKind::Xz => FileKind::Bzip2,
+        FileKind::Bzip2 => FileKind::Zip,
+        FileKind::Zip => FileKind::Parquet,
+        FileKind::Parquet => FileKind::Arrow,
+        FileKind::Arrow => FileKind::Sqlite,
+        FileKind::Sqlite => return None,
+    })
+}
+
+impl ListsFaults for PromptHelp<'static> {
+    fn first() -> PromptHelp<'static> {
+        PromptHelp::NoRequest("LO_TAX")
+    }
+
+    fn next(&self) -> Option<PromptHelp<'static>> {
+        Some(match self {
+            PromptHelp::NoRequest(_) => PromptHelp::NoSql,
+            PromptHelp::NoSql => PromptHelp::NoTables,
+            PromptHelp::NoTables => PromptHelp::NoUndo,
+            PromptHelp::NoUndo => PromptHelp::NoSemicolon,
+            PromptHelp::NoSemicolon => PromptHelp::InBlock(
+                3,
+                ScriptError::Row(3, SchemaFault::FieldTooLong(C_CITY)),
+            ),
+            PromptHelp::InBlock(_, _) => return None,
+        })
+    }
+}
+
+impl ListsFaults for BoardHelp {
+    fn first() -> BoardHelp {
+        BoardHelp::Form
+    }
+
+    fn next(&self) -> Option<BoardHelp> {
+        match self {
+            BoardHelp::Form => Some(BoardHelp::NotUtf8),
+            BoardHelp::NotUtf8 => Some(BoardHelp::TooManyReports),
+            BoardHelp::TooManyReports => None,
+        }
+    }
+}
+
+impl ListsFaults for AuditHelp {
+    fn first() -> AuditHelp {
+        AuditHelp::Refused
+    }
+
+    fn next(&self) -> Option<AuditHelp> {
+        Some(match self {
+            AuditHelp::Refused => AuditHelp::WrongRows,
+            AuditHelp::WrongRows => AuditHelp::WentBack,
+            AuditHelp::WentBack => AuditHelp::TooManyCommits,
+            AuditHelp::TooManyCommits => AuditHelp::NoRecord,
+            AuditHelp::NoRecord => AuditHelp::CutOff,
+            AuditHelp::CutOff => return None,
+        })
+    }
+}
+
 impl ListsFaults for RowHelp<'static, 'static> {
     fn first() -> RowHelp<'static, 'static> {
         RowHelp::FieldCount(PLACE, 3, 8)
@@ -104,8 +234,12 @@ impl ListsFaults for RowHelp<'static, 'static> {
 
     fn next(&self) -> Option<RowHelp<'static, 'static>> {
         Some(match self {
-            RowHelp::FieldCount(_, _, _) => RowHelp::Commas(3, Delimiter::bar()),
-            RowHelp::Commas(_, _) => RowHelp::ColumnNames,
+            RowHelp::FieldCount(_, _, _) => RowHelp::Mark(3, b',', Delimiter::bar()),
+            RowHelp::Mark(_, b',', _) => RowHelp::Mark(3, b';', Delimiter::bar()),
+            RowHelp::Mark(_, b';', _) => RowHelp::Mark(3, b'\t', Delimiter::bar()),
+            RowHelp::Mark(_, _, _) => RowHelp::Parted(Delimiter::bar()),
+            RowHelp::Parted(_) => RowHelp::Quotes,
+            RowHelp::Quotes => RowHelp::ColumnNames,
             RowHelp::ColumnNames => RowHelp::NotUtf8(PLACE, "C_CITY"),
             RowHelp::NotUtf8(_, _) => RowHelp::NotANumber(PLACE, "C_CITY", "1x"),
             RowHelp::NotANumber(_, _, _) => RowHelp::OutOfRange(PLACE, "C_CITY", "1x", 1, 7),
@@ -131,11 +265,24 @@ impl ListsFaults for ScriptHelp<'static> {
             ScriptHelp::Format => ScriptHelp::Alone("LO_TAX"),
             ScriptHelp::Alone(_) => ScriptHelp::Key,
             ScriptHelp::Key => ScriptHelp::LineCount(3),
-            ScriptHelp::LineCount(_) => ScriptHelp::LineNumber(C_CITY),
-            ScriptHelp::LineNumber(_) => ScriptHelp::Place("LO_TAX"),
+            ScriptHelp::LineCount(_) => ScriptHelp::LineNumber(C_CITY, "1x"),
+            ScriptHelp::LineNumber(_, _) => ScriptHelp::LineRange(C_CITY, "1x", 1, 7),
+            ScriptHelp::LineRange(_, _, _, _) => ScriptHelp::LineText(C_CITY, 3),
+            ScriptHelp::LineText(_, _) => ScriptHelp::Place("LO_TAX"),
             ScriptHelp::Place(_) => ScriptHelp::NoEnd("answers", 3, "LO_TAX"),
-            ScriptHelp::NoEnd(_, _, _) => ScriptHelp::OnlyQuestions,
-            ScriptHelp::OnlyQuestions => return None,
+            ScriptHelp::NoEnd(_, _, _) => ScriptHelp::EmptyBlock,
+            ScriptHelp::EmptyBlock => ScriptHelp::TooManyQuestions,
+            ScriptHelp::TooManyQuestions => ScriptHelp::TooManyActions,
+            ScriptHelp::TooManyActions => ScriptHelp::NoLines,
+            ScriptHelp::NoLines => ScriptHelp::TooManyLines,
+            ScriptHelp::TooManyLines => ScriptHelp::KeysDiffer,
+            ScriptHelp::KeysDiffer => ScriptHelp::LineRepeated(3),
+            ScriptHelp::LineRepeated(_) => ScriptHelp::TooLong,
+            ScriptHelp::TooLong => ScriptHelp::RequestTooLong,
+            ScriptHelp::RequestTooLong => ScriptHelp::ReadOnly,
+            ScriptHelp::ReadOnly => ScriptHelp::OnlyQuestions,
+            ScriptHelp::OnlyQuestions => ScriptHelp::TooManyGroups,
+            ScriptHelp::TooManyGroups => return None,
         })
     }
 }
@@ -147,7 +294,8 @@ impl ListsFaults for JournalHelp<'static> {
 
     fn next(&self) -> Option<JournalHelp<'static>> {
         Some(match self {
-            JournalHelp::NoJournal => JournalHelp::NewerForm("answers", "3"),
+            JournalHelp::NoJournal => JournalHelp::FewerCommits("answers"),
+            JournalHelp::FewerCommits(path) => JournalHelp::NewerForm(path, "3"),
             JournalHelp::NewerForm(path, _) => JournalHelp::NotAJournal(path),
             JournalHelp::NotAJournal(path) => JournalHelp::OtherTables(path, "customer"),
             JournalHelp::OtherTables(path, _) => JournalHelp::Refused(path),
@@ -187,7 +335,7 @@ fn constants_text(alloc: Global) -> Result<String, AllocError> {
     }
 }
 
-// Adds each note on a question.
+// Adds each note.
 fn push_notes(alloc: Global, lines: &mut Vec<String>) -> Result<(), AllocError> {
     let mut values = BTreeSet::new(alloc);
     values.insert(String::from_str(alloc, "77")?)?;
@@ -195,23 +343,38 @@ fn push_notes(alloc: Global, lines: &mut Vec<String>) -> Result<(), AllocError> 
         QuestionNote::NoRow(C_CITY, "1x", &values),
         QuestionNote::DidYouMean("Q2.1"),
         QuestionNote::TurnedRound("C_CITY", "1", "7"),
+        QuestionNote::NoneBetween(C_CITY, "1 to 7", &values),
+        QuestionNote::MoreThanWithin(C_CITY, 3, C_CITY, 8),
     ] {
         lines.push(format!(in alloc; "note: {note}")?)?;
     }
+    let note = RunNote::Refused("answers", 3, "47 Absent 77");
+    lines.push(format!(in alloc; "note: {note}")?)?;
     Ok(())
+}
+
+// Adds each line of help about files, words and questions.
+fn push_texts(alloc: Global, texts: &mut Vec<String>) -> Result<(), AllocError> {
+    push_lines::<PathHelp<'static>>(alloc, texts)?;
+    push_lines::<ClashHelp<'static>>(alloc, texts)?;
+    push_lines::<QuestionHelp<'static>>(alloc, texts)?;
+    push_lines::<StarHelp<'static>>(alloc, texts)?;
+    push_lines::<StarHabit<'static>>(alloc, texts)?;
+    push_lines::<StatementHelp<'static>>(alloc, texts)?;
+    push_lines::<RowHelp<'static, 'static>>(alloc, texts)?;
+    push_lines::<TableHelp<'static>>(alloc, texts)?;
+    push_lines::<ScriptHelp<'static>>(alloc, texts)?;
+    push_lines::<PromptHelp<'static>>(alloc, texts)?;
+    push_lines::<BoardHelp>(alloc, texts)?;
+    push_lines::<AuditHelp>(alloc, texts)?;
+    push_lines::<JournalHelp<'static>>(alloc, texts)?;
+    push_lines::<RefusalHelp>(alloc, texts)
 }
 
 /// Adds each line of help, and each note.
 pub fn push_help(alloc: Global, lines: &mut Vec<String>) -> Result<(), AllocError> {
     let mut texts = Vec::new(alloc);
-    push_lines::<PathHelp<'static>>(alloc, &mut texts)?;
-    push_lines::<ClashHelp<'static>>(alloc, &mut texts)?;
-    push_lines::<QuestionHelp<'static>>(alloc, &mut texts)?;
-    push_lines::<StarHelp<'static>>(alloc, &mut texts)?;
-    push_lines::<RowHelp<'static, 'static>>(alloc, &mut texts)?;
-    push_lines::<ScriptHelp<'static>>(alloc, &mut texts)?;
-    push_lines::<JournalHelp<'static>>(alloc, &mut texts)?;
-    push_lines::<RefusalHelp>(alloc, &mut texts)?;
+    push_texts(alloc, &mut texts)?;
     texts.push(constants_text(alloc)?)?;
     for text in texts {
         lines.push(format!(in alloc; "help: {text}")?)?;

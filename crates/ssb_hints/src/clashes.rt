@@ -41,6 +41,10 @@ pub enum ClashHelp<'a> {
     HasBytes(&'a str),
     /// Another process has it.
     InUse(&'a str),
+    /// It is to keep figures, and has something else.
+    NotMetrics(&'a str),
+    /// Tables are to be written into it, and it has files.
+    NotEmpty(&'a str),
 }
 
 impl<'a> fmt::Display for ClashHelp<'a> {
@@ -66,6 +70,14 @@ impl<'a> fmt::Display for ClashHelp<'a> {
                     "another process has {path}; end that one, or name another path"
                 )
             }
+            ClashHelp::NotMetrics(path) => write!(
+                f,
+                "{path} has bytes and is no file of figures; name a file that does not exist, or one of such figures"
+            ),
+            ClashHelp::NotEmpty(path) => write!(
+                f,
+                "{path} has files, or is no folder; name a folder that does not exist, or is empty"
+            ),
         }
     }
 }
@@ -137,6 +149,12 @@ pub fn help_with_clash<F: Files, E: Write>(
 ) -> io::Result<()> {
     if let Some(path) = fault.strip_prefix("94 InUse ") {
         return write_line(err, &ClashHelp::InUse(path));
+    }
+    if let Some(path) = fault.strip_prefix("64 NotMetrics ") {
+        return write_line(err, &ClashHelp::NotMetrics(path));
+    }
+    if let ("95 NotEmpty", Some(path)) = (fault, named.folder) {
+        return write_line(err, &ClashHelp::NotEmpty(path));
     }
     if let Some(path) = fault.strip_prefix("97 HasBytes ") {
         return match named.trace {

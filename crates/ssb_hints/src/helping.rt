@@ -1,16 +1,18 @@
 //! The help that a fault's line has.
 
+use crate::audits::help_with_audit;
+use crate::boards::help_with_board;
 use crate::clashes::help_with_clash;
 use crate::failed_calls::{STANDARD_INPUT, STANDARD_OUTPUT};
 use crate::fault_lines::FaultLines;
 use crate::journals::help_with_journal;
 use crate::named::Named;
-use crate::notes::note_question;
 use crate::observed_files::ObservedFiles;
 use crate::paths::{help_with_last_call, help_with_path};
 use crate::questions::help_with_question;
-use crate::rows::help_with_tables;
-use crate::script_files::{help_with_board, help_with_script_file, help_with_trace};
+use crate::rows::{help_with_table_path, help_with_tables};
+use crate::script_files::{help_with_script_file, help_with_standing, help_with_trace};
+use crate::statements::help_with_statements;
 use std::alloc::{AllocError, Global};
 use std::io;
 use std::io::{Print, Write};
@@ -32,7 +34,7 @@ fn path_of<'a>(named: &Named<'a>, subject: &str) -> Option<&'a str> {
         "board" => named.board,
         "standing" => named.standing,
         "trace" => named.trace,
-        "journal" => named.journal,
+        "journal" | "changes" => named.journal,
         _ => script_of(named, subject.strip_prefix("script ")?),
     }
 }
@@ -48,13 +50,17 @@ fn help_with_numbered<F: Files, E: Write>(
     if let ("data", Some(tables)) = (subject, named.data) {
         return help_with_tables(files, tables, words, err);
     }
+    if let ("audit", [number, ..]) = (subject, words) {
+        return help_with_audit(number, err);
+    }
     let Some(path) = path_of(named, subject) else {
         return Ok(());
     };
     match subject {
         "board" => help_with_board(files, path, words, err),
+        "standing" => help_with_standing(files, path, words, err),
         "trace" => help_with_trace(files, path, words, err),
-        "journal" => help_with_journal(files, path, words, err),
+        "journal" | "changes" => help_with_journal(files, path, words, err),
         _ => help_with_script_file(files, path, words, err),
     }
 }
@@ -79,7 +85,11 @@ fn help_with_words<F: Files, E: Write>(
     err: &mut E,
 ) -> io::Result<()> {
     if let Some(path) = fault.strip_prefix("cannot read ") {
-        return help_with_path(files, path, err);
+        help_with_path(files, path, err)?;
+        return match named.data {
+            Some(tables) => help_with_table_path(files, tables.folder, path, err),
+            None => Ok(()),
+        };
     }
     if let Some(path) = fault.strip_prefix("cannot write ") {
         return help_with_path(files, path, err);
@@ -131,6 +141,30 @@ fn client_fault(fault: &str) -> Option<(usize, &str)> {
     Some((number.parse::<usize>().ok()?, fault))
 }
 
+// Says what is wrong with the question of the words, where they have one.
+fn help_with_some_question<E: Write>(
+    alloc: Global,
+    named: &Named<'_>,
+    err: &mut E,
+) -> io::Result<()> {
+    if let Some(name) = named.query {
+        help_with_question(alloc, name, named.constants, err)?;
+    }
+    Ok(())
+}
+
+// Says what is wrong with the statements of the words, where they have some; else why they were not read.
+fn help_with_some_statement<F: Files, E: Write>(
+    files: &ObservedFiles<'_, F>,
+    named: &Named<'_>,
+    err: &mut E,
+) -> io::Result<()> {
+    match named.statement {
+        Some(text) => help_with_statements(files.alloc(), text, err),
+        None => help_with_path(files, STANDARD_INPUT, err),
+    }
+}
+
 // Says what is wrong, by what a fault says behind the program's name.
 fn help_with_fault<F: Files, E: Write>(
     files: &ObservedFiles<'_, F>,
@@ -147,12 +181,10 @@ fn help_with_fault<F: Files, E: Write>(
     let Some((subject, told)) = fault.split_once(": ") else {
         return help_with_words(files, named, fault, err);
     };
-    match (subject, named.query) {
-        ("query", Some(name)) => {
-            help_with_question(files.alloc(), name, named.constants, err)?;
-            Ok(())
-        }
-        ("paths", _) => help_with_clash(files, named, told, err),
+    match subject {
+        "query" => help_with_some_question(files.alloc(), named, err),
+        "sql" => help_with_some_statement(files, named, err),
+        "paths" | "metrics" | "export" => help_with_clash(files, named, told, err),
         _ => {
             let words = words_of(files.alloc(), told)?;
             help_with_numbered(files, named, subject, words.as_slice(), err)
@@ -171,13 +203,5 @@ pub fn write_help<F: Files, P: Print, E: Write>(
 ) {
     if let Some(fault) = faults.last_fault() {
         let _ = help_with_fault(files, named, fault.as_str(), err);
-    }
-}
-
-/// Writes what the question of a command looks for that no row has, where it was answered: one line or more, each begun
-/// with `note: `, or none.
-pub fn write_notes<F: Files + AllocGlobal, E: Write>(files: &F, named: &Named<'_>, err: &mut E) {
-    if let (Some(tables), Some(name)) = (named.data, named.query) {
-        let _ = note_question(files, tables, name, named.constants, err);
     }
 }

@@ -13,6 +13,8 @@ use std::{fmt, io};
 pub enum JournalHelp<'a> {
     /// It is not there.
     NoJournal,
+    /// It has fewer commits than those behind which others are asked for.
+    FewerCommits(&'a str),
     /// It has this form, which is not known yet.
     NewerForm(&'a str, &'a str),
     /// It is another file.
@@ -37,6 +39,11 @@ impl<'a> fmt::Display for JournalHelp<'a> {
             JournalHelp::NoJournal => f.write_str(
                 "look whether the path is right, and whether its disk is there; a journal begins with serve \
                  --new-journal",
+            ),
+            JournalHelp::FewerCommits(path) => write!(
+                f,
+                "{path} has fewer commits; look whether it is the journal whose first ones you have, and no older copy of \
+                 it"
             ),
             JournalHelp::NewerForm(path, form) => write!(
                 f,
@@ -119,6 +126,7 @@ pub fn help_with_journal<F: Files, E: Write>(
 ) -> io::Result<()> {
     match words {
         ["65", ..] => help_with_no_journal(files, path, err),
+        ["69", ..] => write_line(err, &JournalHelp::FewerCommits(path)),
         ["66", _, form] => write_line(err, &JournalHelp::NewerForm(path, form)),
         ["90", ..] => write_line(err, &JournalHelp::NotAJournal(path)),
         ["91", _, table] => write_line(err, &JournalHelp::OtherTables(path, table)),

@@ -17,6 +17,8 @@ pub struct Named<'a> {
     pub query: Option<&'a str>,
     /// Its constants.
     pub constants: &'a [&'a str],
+    /// The text of statements, where the words have it.
+    pub statement: Option<&'a str>,
     /// The board.
     pub board: Option<&'a str>,
     /// The scripts of a run.
@@ -27,6 +29,8 @@ pub struct Named<'a> {
     pub trace: Option<&'a str>,
     /// The journal.
     pub journal: Option<&'a str>,
+    /// The folder of an export.
+    pub folder: Option<&'a str>,
     /// IN and OUT of each client of a server in turn; none where standard input and output are served.
     pub clients: &'a [&'a str],
 }
@@ -38,11 +42,13 @@ impl<'a> Named<'a> {
             data: None,
             query: None,
             constants: &[],
+            statement: None,
             board: None,
             scripts: &[],
             standing: None,
             trace: None,
             journal: None,
+            folder: None,
             clients: &[],
         }
     }

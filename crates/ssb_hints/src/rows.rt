@@ -5,6 +5,7 @@ use crate::named::NamedTables;
 use crate::observed_files::ObservedFiles;
 use crate::paths::help_with_path;
 use crate::records::{open_plain, record_of, text_at};
+use crate::table_files::{help_with_kind, help_with_missing, help_with_no_rows};
 use csv::ByteRecord;
 use ssb_schema::{Column, Kind, Table};
 use ssb_text::{Barred, Delimiter, TableLayout, field_at, trimmed_at};
@@ -31,8 +32,12 @@ impl<'a> fmt::Display for RowPlace<'a> {
 pub enum RowHelp<'p, 'a> {
     /// How many fields it has, and how many are wanted.
     FieldCount(RowPlace<'p>, usize, usize),
-    /// How many commas it has, where it has nothing that parts fields, and what parts them.
-    Commas(usize, Delimiter),
+    /// How often it has this mark, where it has nothing that parts fields, and what parts them.
+    Mark(usize, u8, Delimiter),
+    /// A text has what parts fields.
+    Parted(Delimiter),
+    /// Fields stand between quotes.
+    Quotes,
     /// It names columns.
     ColumnNames,
     /// This column is no text.
@@ -50,16 +55,34 @@ pub enum RowHelp<'p, 'a> {
 }
 
 // A tab is named, since nobody sees it.
-fn write_commas<W: fmt::Write>(
-    f: &mut fmt::Formatter<W>,
-    count: usize,
-    delimiter: Delimiter,
-) -> fmt::Result {
-    write!(f, "it has {count} commas; fields are parted by ")?;
-    match delimiter.byte() {
+fn write_mark<W: fmt::Write>(f: &mut fmt::Formatter<W>, byte: u8) -> fmt::Result {
+    match byte {
         b'\t' => f.write_str("tab"),
         byte => f.write_char(char::from(byte)),
     }
+}
+
+// A semicolon ends a command of a shell, unless it is quoted.
+fn write_counted<W: fmt::Write>(
+    f: &mut fmt::Formatter<W>,
+    count: usize,
+    byte: u8,
+    delimiter: Delimiter,
+) -> fmt::Result {
+    let (name, word) = match byte {
+        b'\t' => ("tabs", "tab"),
+        b';' => ("semicolons", "';'"),
+        _ => ("commas", ","),
+    };
+    write!(f, "it has {count} {name}, and fields are parted by ")?;
+    write_mark(f, delimiter.byte())?;
+    write!(f, "; give --delimiter {word}")
+}
+
+fn write_parted<W: fmt::Write>(f: &mut fmt::Formatter<W>, delimiter: Delimiter) -> fmt::Result {
+    f.write_str("a text with ")?;
+    write_mark(f, delimiter.byte())?;
+    f.write_str(" in it is two fields; part the fields by a character that no text has")
 }
 
 impl<'p, 'a> fmt::Display for RowHelp<'p, 'a> {
@@ -68,8 +91,14 @@ impl<'p, 'a> fmt::Display for RowHelp<'p, 'a> {
             RowHelp::FieldCount(place, found, wanted) => {
                 write!(f, "{place} has {found} fields, and {wanted} are wanted")
             }
-            RowHelp::Commas(count, delimiter) => write_commas(f, *count, *delimiter),
-            RowHelp::ColumnNames => f.write_str("it looks like column names; the file has none"),
+            RowHelp::Mark(count, byte, delimiter) => write_counted(f, *count, *byte, *delimiter),
+            RowHelp::Parted(delimiter) => write_parted(f, *delimiter),
+            RowHelp::Quotes => f.write_str(
+                "quotes are read as a part of the text; write the table without them",
+            ),
+            RowHelp::ColumnNames => f.write_str(
+                "it looks like column names; give --heads where the first row has them",
+            ),
             RowHelp::NotUtf8(place, column) => write!(f, "{place} column {column} is not UTF-8"),
             RowHelp::NotANumber(place, column, value) => write!(
                 f,
@@ -146,12 +175,26 @@ fn begins_with_letter(record: &ByteRecord) -> bool {
     }
 }
 
-// How many commas a row's first field has: none where commas part fields, since a bar is read for each.
-fn commas_in(record: &ByteRecord) -> usize {
+// How often a row's first field has a byte: not once where that parts fields, since a bar is read for each.
+fn count_in(record: &ByteRecord, wanted: u8) -> usize {
     field_at(record, 0)
         .iter()
-        .filter(|byte| **byte == b',')
+        .filter(|byte| **byte == wanted)
         .count()
+}
+
+// What the fields of a row of one field may be parted by, and how often the row has it.
+fn mark_in(record: &ByteRecord) -> Option<(usize, u8)> {
+    let mut found = None;
+    let mut most = 0usize;
+    for mark in [b',', b';', b'\t'] {
+        let count = count_in(record, mark);
+        if count > most {
+            most = count;
+            found = Some((count, mark));
+        }
+    }
+    found
 }
 
 // A row that is told of.
@@ -172,16 +215,25 @@ fn help_with_names<E: Write>(row: &ToldRow<'_>, err: &mut E) -> io::Result<()> {
 }
 
 fn help_with_count<E: Write>(row: &ToldRow<'_>, err: &mut E) -> io::Result<()> {
-    let found = row.record.len();
-    write_line(
-        err,
-        &RowHelp::FieldCount(row.place, found, row.table.kinds().len()),
-    )?;
-    let commas = commas_in(&row.record);
-    if found == 1 && commas > 0 {
-        write_line(err, &RowHelp::Commas(commas, row.layout.delimiter))?;
+    let (found, wanted) = (row.record.len(), row.table.kinds().len());
+    write_line(err, &RowHelp::FieldCount(row.place, found, wanted))?;
+    if found > wanted {
+        write_line(err, &RowHelp::Parted(row.layout.delimiter))?;
+    }
+    if found == 1 {
+        if let Some((count, mark)) = mark_in(&row.record) {
+            write_line(err, &RowHelp::Mark(count, mark, row.layout.delimiter))?;
+        }
     }
     help_with_names(row, err)
+}
+
+// Says that quotes are read as they are, where a number stands in them.
+fn help_with_quotes<E: Write>(value: &str, err: &mut E) -> io::Result<()> {
+    if value.starts_with('"') {
+        return write_line(err, &RowHelp::Quotes);
+    }
+    Ok(())
 }
 
 fn help_with_number<E: Write>(
@@ -191,6 +243,7 @@ fn help_with_number<E: Write>(
     err: &mut E,
 ) -> io::Result<()> {
     write_line(err, &RowHelp::NotANumber(row.place, column.name(), value))?;
+    help_with_quotes(value, err)?;
     help_with_names(row, err)
 }
 
@@ -300,6 +353,36 @@ fn told_row<'a, F: Files + AllocGlobal>(
     }))
 }
 
+// Says that a dimension has no rows, where it has none.
+fn help_with_dimension<F: Files, E: Write>(
+    files: &ObservedFiles<'_, F>,
+    folder: &str,
+    name: &str,
+    err: &mut E,
+) -> io::Result<()> {
+    match table_named(name) {
+        Some(table) => help_with_no_rows(files, folder, table, err),
+        None => Ok(()),
+    }
+}
+
+/// Says which files may be meant by that of a path, which cannot be read, where it is a table of this folder.
+pub(crate) fn help_with_table_path<F: Files, E: Write>(
+    files: &ObservedFiles<'_, F>,
+    folder: &str,
+    path: &str,
+    err: &mut E,
+) -> io::Result<()> {
+    let Some((within, name)) = path.rsplit_once('/') else {
+        return Ok(());
+    };
+    let table = name.strip_suffix(".tbl").and_then(|name| table_named(name));
+    match table {
+        Some(table) if within == folder => help_with_missing(files, folder, table, err),
+        _ => Ok(()),
+    }
+}
+
 /// Says what is wrong with tables, by the words of the fault: its number, its name, the table, and the row with what
 /// else it tells. A row is counted with the line of heads, as a fault counts it.
 pub fn help_with_tables<F: Files, E: Write>(
@@ -318,6 +401,12 @@ pub fn help_with_tables<F: Files, E: Write>(
     let [row, rest @ ..] = rest else {
         return help_with_path(files, path.as_str(), err);
     };
+    if help_with_kind(files, path.as_str(), err)? {
+        return Ok(());
+    }
+    if let ["8", _, _, dimension] = rest {
+        help_with_dimension(files, tables.folder, dimension, err)?;
+    }
     match told_row(files, path.as_str(), table, tables.layout, row)? {
         Some(row) => help_with_row(files.alloc(), &row, number, rest, err),
         None => Ok(()),

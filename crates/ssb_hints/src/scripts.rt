@@ -3,79 +3,15 @@
 use crate::lines::write_line;
 use crate::nearest::nearest;
 use crate::questions::{QuestionHelp, help_with_question};
-use crate::records::{record_of, texts_from};
+use crate::records::{record_of, text_at, texts_from};
+use crate::script_help::ScriptHelp;
 use csv::ByteRecord;
-use ssb_schema::{Column, Kind, Table, number};
+use ssb_schema::{Column, Kind, SchemaFault, Table, number};
+use ssb_script::ScriptError;
 use ssb_text::{has_columns, next_record, record_reader, trimmed_at};
 use std::alloc::Global;
+use std::io;
 use std::io::{Read, Write};
-use std::{fmt, io};
-
-/// Help about a script.
-#[derive(Clone, Copy)]
-pub enum ScriptHelp<'a> {
-    /// The path, the number of a record, and the record.
-    Record(&'a str, u64, &'a str),
-    /// The words that records begin with.
-    Words,
-    /// The names of formats are wanted.
-    Format,
-    /// A word that stands alone.
-    Alone(&'a str),
-    /// A key is wanted.
-    Key,
-    /// How many fields a line has behind its word.
-    LineCount(usize),
-    /// The column of a line that is no number.
-    LineNumber(Column),
-    /// The word may be in a wrong place.
-    Place(&'a str),
-    /// The record where what does not end began, and the word that ends it.
-    NoEnd(&'a str, u64, &'a str),
-    /// Only questions may stand.
-    OnlyQuestions,
-}
-
-impl<'a> fmt::Display for ScriptHelp<'a> {
-    fn fmt<W: fmt::Write>(&self, f: &mut fmt::Formatter<W>) -> fmt::Result {
-        match self {
-            ScriptHelp::Record(path, number, record) => {
-                write!(f, "{path} record {number} is {record}")
-            }
-            ScriptHelp::Words => f.write_str(
-                "a record begins with query, ask, answer, begin, add, amend, line, withdraw, commit or abort, in a live \
-                 session also with format, in small letters and without spaces",
-            ),
-            ScriptHelp::Format => f.write_str(
-                "format stands alone, in a live session; it takes report, table, csv, json, markdown or bars",
-            ),
-            ScriptHelp::Alone(word) => write!(f, "{word} takes no fields"),
-            ScriptHelp::Key => f.write_str("withdraw takes one field, the key of an order"),
-            ScriptHelp::LineCount(count) => write!(
-                f,
-                "line takes the 17 fields of a row of lineorder, and was given {count}"
-            ),
-            ScriptHelp::LineNumber(column) => write!(
-                f,
-                "column {column} is not a number of 1 to 20 digits"
-            ),
-            ScriptHelp::Place(word) => write!(
-                f,
-                "{word} is in a wrong place; query, ask and begin stand alone, add, amend and withdraw between begin \
-                 and commit, line below add or amend"
-            ),
-            ScriptHelp::NoEnd(path, number, word) => {
-                write!(
-                    f,
-                    "{path} record {number} begins what has no end; end it with {word} or abort"
-                )
-            }
-            ScriptHelp::OnlyQuestions => {
-                f.write_str("a file of standing questions has 1 to 64 query records and no others")
-            }
-        }
-    }
-}
 
 // The words that records begin with.
 const WORDS: [&str; 11] = [
@@ -98,12 +34,20 @@ fn no_number(record: &ByteRecord) -> Option<Column> {
     None
 }
 
-fn help_with_line<E: Write>(record: &ByteRecord, given: usize, err: &mut E) -> io::Result<()> {
+fn help_with_line<E: Write>(
+    alloc: Global,
+    record: &ByteRecord,
+    given: usize,
+    err: &mut E,
+) -> io::Result<()> {
     if !has_columns(record, 18) {
         return write_line(err, &ScriptHelp::LineCount(given));
     }
     match no_number(record) {
-        Some(column) => write_line(err, &ScriptHelp::LineNumber(column)),
+        Some(column) => {
+            let value = text_at(alloc, record, column.place)?;
+            write_line(err, &ScriptHelp::LineNumber(column, value.as_str()))
+        }
         None => write_line(err, &ScriptHelp::Place("line")),
     }
 }
@@ -131,6 +75,11 @@ fn stands_alone(word: &str) -> bool {
     )
 }
 
+/// Whether records begin with this word.
+pub fn begins_record(word: &str) -> bool {
+    WORDS.iter().any(|own| *own == word)
+}
+
 // Says what is wrong with the fields of a record, the word first.
 fn help_with_fields<E: Write>(
     alloc: Global,
@@ -145,7 +94,7 @@ fn help_with_fields<E: Write>(
             }
             write_line(err, &ScriptHelp::Place("query"))
         }
-        ["line", rest @ ..] => help_with_line(record, rest.len(), err),
+        ["line", rest @ ..] => help_with_line(alloc, record, rest.len(), err),
         ["withdraw", ..] => help_with_key(record, err),
         ["format", ..] => write_line(err, &ScriptHelp::Format),
         [word] if stands_alone(word) => write_line(err, &ScriptHelp::Place(word)),
@@ -155,13 +104,8 @@ fn help_with_fields<E: Write>(
     }
 }
 
-/// Writes what is wrong with a record that a script, or a live session, does not take there: its question, its word,
-/// its fields or its place.
-pub fn write_record_help<E: Write>(
-    alloc: Global,
-    record: &ByteRecord,
-    err: &mut E,
-) -> io::Result<()> {
+// Says what is wrong with a record that a script does not take there: its question, its word, its fields or its place.
+fn help_with_bad_line<E: Write>(alloc: Global, record: &ByteRecord, err: &mut E) -> io::Result<()> {
     let texts = texts_from(alloc, record, 0)?;
     let mut fields = Vec::new(alloc);
     for text in texts.iter() {
@@ -170,17 +114,82 @@ pub fn write_record_help<E: Write>(
     help_with_fields(alloc, record, fields.as_slice(), err)
 }
 
+// Says which numbers a column takes, and what a `line` record has there.
+fn help_with_range<E: Write>(
+    alloc: Global,
+    record: &ByteRecord,
+    column: Column,
+    err: &mut E,
+) -> io::Result<()> {
+    match column.kind() {
+        Some(Kind::Number { least, most }) => {
+            let value = text_at(alloc, record, column.place)?;
+            write_line(
+                err,
+                &ScriptHelp::LineRange(column, value.as_str(), least, most),
+            )
+        }
+        _ => Ok(()),
+    }
+}
+
+// Says what the schema refuses: a `line` record, or what began with the record.
+fn help_with_schema<E: Write>(
+    alloc: Global,
+    record: &ByteRecord,
+    fault: SchemaFault,
+    err: &mut E,
+) -> io::Result<()> {
+    match fault {
+        SchemaFault::NoLines => write_line(err, &ScriptHelp::NoLines),
+        SchemaFault::TooManyLines => write_line(err, &ScriptHelp::TooManyLines),
+        SchemaFault::KeysDiffer => write_line(err, &ScriptHelp::KeysDiffer),
+        SchemaFault::LineRepeated(number) => write_line(err, &ScriptHelp::LineRepeated(number)),
+        SchemaFault::TooManyActions => write_line(err, &ScriptHelp::TooManyActions),
+        SchemaFault::OutOfRange(column) => help_with_range(alloc, record, column, err),
+        SchemaFault::FieldTooLong(column) => {
+            let bytes = trimmed_at(record, column.place).len();
+            write_line(err, &ScriptHelp::LineText(column, bytes))
+        }
+        _ => Ok(()),
+    }
+}
+
+/// The number of the record that a fault is told of, from 1, where it is told of one.
+pub fn record_told(fault: &ScriptError) -> Option<u64> {
+    match fault {
+        ScriptError::BadLine(number)
+        | ScriptError::EmptyBlock(number)
+        | ScriptError::Row(number, _)
+        | ScriptError::TooManyQuestions(number) => Some(*number),
+        _ => None,
+    }
+}
+
+/// Writes what is wrong with the record that a fault of a script, or of a request, is told of.
+pub fn write_record_help<E: Write>(
+    alloc: Global,
+    record: &ByteRecord,
+    fault: &ScriptError,
+    err: &mut E,
+) -> io::Result<()> {
+    match fault {
+        ScriptError::BadLine(_) => help_with_bad_line(alloc, record, err),
+        ScriptError::EmptyBlock(_) => write_line(err, &ScriptHelp::EmptyBlock),
+        ScriptError::Row(_, fault) => help_with_schema(alloc, record, *fault, err),
+        ScriptError::TooManyQuestions(_) => write_line(err, &ScriptHelp::TooManyQuestions),
+        _ => Ok(()),
+    }
+}
+
 /// Shows the record of this number of a text that is called so, and gives it.
 pub fn show_record<I: Read + Drop, E: Write>(
     alloc: Global,
     name: &str,
     source: I,
-    number: &str,
+    number: u64,
     err: &mut E,
 ) -> io::Result<Option<ByteRecord>> {
-    let Ok(number) = number.parse::<u64>() else {
-        return Ok(None);
-    };
     let Some(record) = record_of(alloc, source, number)? else {
         return Ok(None);
     };
@@ -190,28 +199,19 @@ pub fn show_record<I: Read + Drop, E: Write>(
     Ok(Some(record))
 }
 
-// Shows the record of this number.
-fn help_with_place<I: Read + Drop, E: Write>(
+/// Shows the record of a fault of a text that is called so, and says what is wrong with it.
+pub fn help_with_record<I: Read + Drop, E: Write>(
     alloc: Global,
     name: &str,
     source: I,
-    number: &str,
+    fault: &ScriptError,
     err: &mut E,
 ) -> io::Result<()> {
-    show_record(alloc, name, source, number, err)?;
-    Ok(())
-}
-
-// Shows the record of this number, and says what is wrong with it.
-fn help_with_record<I: Read + Drop, E: Write>(
-    alloc: Global,
-    name: &str,
-    source: I,
-    number: &str,
-    err: &mut E,
-) -> io::Result<()> {
+    let Some(number) = record_told(fault) else {
+        return Ok(());
+    };
     match show_record(alloc, name, source, number, err)? {
-        Some(record) => write_record_help(alloc, &record, err),
+        Some(record) => write_record_help(alloc, &record, fault, err),
         None => Ok(()),
     }
 }
@@ -248,24 +248,19 @@ fn help_with_end<I: Read + Drop, E: Write>(
     }
 }
 
-/// Says what is wrong with a script that is called so, by the words of its fault: its number, its name, and what else
-/// it tells, which is mostly the number of a record.
-pub fn help_with_script<I: Read + Drop, E: Write>(
+/// Writes what is wrong with the text of a script, or of a request, that is called so, by a fault that is told of no
+/// record.
+pub fn write_script_help<I: Read + Drop, E: Write>(
     alloc: Global,
     name: &str,
     source: I,
-    words: &[&str],
+    fault: &ScriptError,
     err: &mut E,
 ) -> io::Result<()> {
-    let number = words.get(2).copied().unwrap_or("");
-    match words.first().copied().unwrap_or("") {
-        "70" => help_with_record(alloc, name, source, number, err),
-        "71" => help_with_end(alloc, name, source, "begin", "commit", err),
-        "77" => help_with_end(alloc, name, source, "ask", "answer", err),
-        "98" => {
-            help_with_record(alloc, name, source, number, err)?;
-            write_line(err, &ScriptHelp::OnlyQuestions)
-        }
-        _ => help_with_place(alloc, name, source, number, err),
+    match fault {
+        ScriptError::NoCommit => help_with_end(alloc, name, source, "begin", "commit", err),
+        ScriptError::NoAnswer => help_with_end(alloc, name, source, "ask", "answer", err),
+        ScriptError::TooLong => write_line(err, &ScriptHelp::TooLong),
+        _ => Ok(()),
     }
 }

@@ -3,6 +3,7 @@
 use crate::lines::write_line;
 use crate::nearest::nearest;
 use crate::questions::QuestionHelp;
+use crate::star_habits::help_with_habit;
 use ssb_questions::{Clause, clause_of};
 use ssb_schema::{Column, query_columns};
 use std::alloc::Global;
@@ -202,8 +203,15 @@ pub fn help_with_star<E: Write>(
     place: usize,
     err: &mut E,
 ) -> io::Result<()> {
-    let help = help_at(words, place.saturating_sub(1));
+    let at = place.saturating_sub(1);
+    let help = help_at(words, at);
     write_line(err, &help)?;
+    let before = words.get(at.saturating_sub(1)).copied().unwrap_or("");
+    if let StarHelp::NoMeasure(word) | StarHelp::NoClause(word) | StarHelp::BadValue(word) = help {
+        if help_with_habit(before, word, err)? {
+            return Ok(());
+        }
+    }
     match help {
         StarHelp::NoClause(word) => help_with_columns(alloc, word, err),
         _ => Ok(()),

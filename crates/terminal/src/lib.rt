@@ -2,11 +2,12 @@
 //! other line, and what is shown beside the replies.
 //!
 //! ```text
-//! a typed line ─┬─ help, timing, status          does something here; the session reads a line of no bytes
-//!               ├─ quit, exit                    the session's input ends
+//! a typed line ─┬─ help, ?, timing, status       does something here; the session reads a line of no bytes
+//!               ├─ quit, exit, \q                the session's input ends
 //!               ├─ q1.1 1994 1 3 0 24            the session reads query|Q1.1|1994|1|3|0|24
-//!               ├─ format csv                    the session reads format|csv
-//!               └─ any other, as begin           the session reads it as it was typed
+//!               ├─ star COUNT 'C_CITY=CHINA    0' the session reads query|star|COUNT|C_CITY=CHINA    0
+//!               ├─ withdraw 7;                   the session reads withdraw|7
+//!               └─ any other                     the session reads it as it was typed
 //! a reply ──────┬─ fault: .., refused at ..      help below it on the screen, about the request that was typed
 //!               └─ any other
 //! ```
@@ -17,9 +18,9 @@
 //! contract.
 //!
 //! ```text
-//! let request = TypedRequest::new(rt.alloc());
+//! let request = TypedRequest::new(rt.alloc(), true);
 //! let input = Prompted::new(rt.alloc(), rt, terminal, screen, &shows, &request)?; // what the session is to read
-//! let output = HelpedOutput::new(rt.alloc(), output, screen, Some(&request));     // what it is to write to
+//! let output = HelpedOutput::new(rt.alloc(), output, screen, &request, &shows); // what it is to write to
 //! ```
 #![tactic(auto)]
 
@@ -28,6 +29,8 @@ mod helped;
 mod on_demand;
 mod prompted;
 mod question;
+mod quotes;
+mod record_word;
 mod request;
 mod request_help;
 mod stopwatch;
@@ -37,5 +40,6 @@ pub use helped::HelpedOutput;
 pub use on_demand::ShowsOnDemand;
 pub use prompted::Prompted;
 pub use question::session_line;
+pub use record_word::RecordWord;
 pub use request::TypedRequest;
-pub use word::TerminalWord;
+pub use word::{Spelling, TerminalWord};

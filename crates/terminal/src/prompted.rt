@@ -96,12 +96,22 @@ impl<'a, C: Clock, I: Read + Drop, E: Write + Drop, S: ShowsOnDemand> Prompted<'
             TerminalWord::Help => {
                 let _ = self.screen.write_all(self.shows.help().as_bytes());
             }
+            TerminalWord::HelpStar => {
+                let _ = self
+                    .screen
+                    .write_all(self.shows.help_with_star().as_bytes());
+            }
+            TerminalWord::HelpBegin => {
+                let _ = self
+                    .screen
+                    .write_all(self.shows.help_with_refreshes().as_bytes());
+            }
             TerminalWord::Timing => self.watch.switch(&mut self.screen),
             TerminalWord::Status => {
                 let since_reply = self.watch.since_reply();
                 self.shows.show_status(since_reply, &mut self.screen);
             }
-            TerminalWord::Quit | TerminalWord::Exit => {
+            TerminalWord::Quit => {
                 self.has_ended = true;
                 return Ok(());
             }
@@ -122,6 +132,7 @@ impl<'a, C: Clock, I: Read + Drop, E: Write + Drop, S: ShowsOnDemand> Prompted<'
             }
         } else {
             self.begun = begun_behind(self.begun, line);
+            self.request.help_in_block(&mut self.screen);
         }
         Ok(())
     }

@@ -4,8 +4,9 @@ ghost use Rattle.std.specs.Prelude.{◌≡◌, ◌++◌, map, option_map, IfOk, 
 ghost use Rattle.std.specs.List.{flat_map};
 ghost use Rattle.terminal.specs.Typed as spec;
 
-use crate::fields::{fields_of, trimmed};
-use crate::word::are_alike;
+use crate::fields::{are_alike, between_bars, filled_fields, is_barred, said, trimmed, words_of};
+use crate::quotes::{is_quoted, unquoted};
+use crate::record_word::{BARRED, BLANK, RecordWord};
 use ssb_questions::{QUERIES_AND_STAR, Query};
 use std::alloc::{AllocError, Global};
 
@@ -101,33 +102,66 @@ fn question_line(alloc: Global, line: &[u8], fields: &[&[u8]]) -> Result<Vec<u8>
     }
 }
 
-// Whether a field is the word that names a format.
-fn gives_format(field: &[u8]) -> bool
-    ensures { result ≡ spec.gives_format field.now }
-{
-    are_alike(b"format", trimmed(field))
-}
-
-// The record of this word, with the fields behind it.
-fn format_record(alloc: Global, behind: &[&[u8]]) -> Result<Vec<u8>, AllocError>
-    ensures { IfOk result (λ text. text.items ≡ spec.format_record (map (λ field. field.now) behind.now)) }
+// The record of a word, with the fields behind it.
+fn word_record(alloc: Global, word: RecordWord, behind: &[&[u8]]) -> Result<Vec<u8>, AllocError>
+    ensures { IfOk result (λ text. text.items ≡ spec.word_record word (map (λ field. field.now) behind.now)) }
 {
     let mut text = Vec::new(alloc);
-    text.extend_from_slice(b"format")?;
+    text.extend_from_slice(word.spelling())?;
     push_fields(&mut text, behind)?;
     text.push(b'\n')?;
     Ok(text)
 }
 
+// The record that a line's fields spell, which may begin with one of these words, or else the line.
+fn record_spelled(
+    alloc: Global,
+    line: &[u8],
+    words: &[RecordWord],
+    fields: &[&[u8]],
+) -> Result<Vec<u8>, AllocError>
+    ensures { IfOk result (λ bytes. bytes.items
+        ≡ spec.record_spelled line.now words.now (map (λ field. field.now) fields.now)) }
+{
+    let [first, behind @ ..] = fields else {
+        return line.to_vec(alloc);
+    };
+    match RecordWord::among(words, first) {
+        Some(word) => word_record(alloc, word, behind),
+        None => question_line(alloc, line, fields),
+    }
+}
+
+// The record that a quoted text spells, or else the line.
+fn quoted_record(alloc: Global, line: &[u8], text: &[u8]) -> Result<Vec<u8>, AllocError>
+    ensures { IfOk result (λ bytes. bytes.items ≡ spec.quoted_record line.now text.now) }
+{
+    let barred = unquoted(alloc, text)?;
+    let fields = filled_fields(alloc, barred.as_slice())?;
+    record_spelled(alloc, line, &BLANK, fields.as_slice())
+}
+
+// The record that a text spells whose fields blanks part, or else the line.
+fn blank_record(alloc: Global, line: &[u8], text: &[u8]) -> Result<Vec<u8>, AllocError>
+    ensures { IfOk result (λ bytes. bytes.items ≡ spec.blank_record line.now text.now) }
+{
+    if is_quoted(text) {
+        return quoted_record(alloc, line, text);
+    }
+    let fields = words_of(alloc, text)?;
+    record_spelled(alloc, line, &BLANK, fields.as_slice())
+}
+
 /// What a session reads for a line: a record that asks, where it begins with the name of a query, in any case, or with
-/// the word `query` and a name; a record that names a format, where it begins with the word `format`; else the line
-/// itself.
+/// the word `query` and a name; a record that begins with one of the other words, in any case, where blanks part its
+/// fields; else the line itself. Where bars part the fields, of these words `format` alone may be in any case.
 pub fn session_line(alloc: Global, line: &[u8]) -> Result<Vec<u8>, AllocError>
     ensures { IfOk result (λ bytes. bytes.items ≡ spec.session_line line.now) }
 {
-    let fields = fields_of(alloc, trimmed(line))?;
-    match fields.as_slice() {
-        [first, behind @ ..] if gives_format(first) => format_record(alloc, behind),
-        fields => question_line(alloc, line, fields),
+    let text = said(line);
+    if !is_barred(text) {
+        return blank_record(alloc, line, text);
     }
+    let fields = between_bars(alloc, text)?;
+    record_spelled(alloc, line, &BARRED, fields.as_slice())
 }

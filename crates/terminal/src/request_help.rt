@@ -1,49 +1,17 @@
 //! What is wrong with a request that was typed.
 
-use csv::ByteRecord;
-use ssb_hints::{ScriptHelp, write_record_help, write_refusal_help};
-use ssb_script::{MOST_RECORDS, Request, read_script};
-use ssb_text::{next_record, record_reader};
+use ssb_hints::{ScriptHelp, write_block_help, write_refusal_help, write_request_help};
+use ssb_script::{MOST_RECORDS, Request, ScriptError, read_script};
 use std::alloc::Global;
 use std::io;
 use std::io::Write;
 
-// What help calls the request, where it calls a script by its path.
-const REQUEST: &str = "the request's";
-
-// The record of this number, from 1.
-fn record_of(alloc: Global, request: &[u8], number: u64) -> Option<ByteRecord> {
-    let mut reader = record_reader(alloc, request);
-    let mut record = ByteRecord::new(alloc);
-    for _ in 0..number {
-        match next_record(&mut reader, &mut record) {
-            Ok(true) => {}
-            _ => return None,
-        }
+// Says what is wrong with the request, which is read once more.
+fn help_with_request<E: Write>(alloc: Global, request: &[u8], err: &mut E) -> io::Result<()> {
+    match read_script(alloc, request, MOST_RECORDS) {
+        Ok(_) => Ok(()),
+        Err(fault) => write_request_help(alloc, request, &fault, err),
     }
-    Some(record)
-}
-
-// Says what is wrong with the record of this number.
-fn help_with_record<E: Write>(
-    alloc: Global,
-    number: &str,
-    request: &[u8],
-    err: &mut E,
-) -> io::Result<()> {
-    let Ok(number) = number.parse::<u64>() else {
-        return Ok(());
-    };
-    match record_of(alloc, request, number) {
-        Some(record) => write_record_help(alloc, &record, err),
-        None => Ok(()),
-    }
-}
-
-// Says that what its first record begins has no end.
-fn help_with_end<E: Write>(end: &str, err: &mut E) -> io::Result<()> {
-    let help = ScriptHelp::NoEnd(REQUEST, 1, end);
-    writeln!(err, "  help: {help}")
 }
 
 // Says what is wrong by what the fault says.
@@ -53,13 +21,10 @@ fn help_with_fault<E: Write>(
     request: &[u8],
     err: &mut E,
 ) -> io::Result<()> {
-    if let Some(number) = fault.strip_prefix("70 BadLine ") {
-        return help_with_record(alloc, number, request, err);
-    }
     match fault {
-        "71 NoCommit" => help_with_end("commit", err),
-        "77 NoAnswer" => help_with_end("answer", err),
-        _ => Ok(()),
+        "68 ReadOnly" => writeln!(err, "  help: {}", ScriptHelp::ReadOnly),
+        "76 RequestTooLong" => writeln!(err, "  help: {}", ScriptHelp::RequestTooLong),
+        _ => help_with_request(alloc, request, err),
     }
 }
 
@@ -123,7 +88,7 @@ fn help_with_refusal<E: Write>(
 
 /// Writes what is wrong with a request, by the first line of its reply: one line or more, each begun with `  help: `,
 /// or none.
-pub(crate) fn write_request_help<E: Write>(
+pub(crate) fn write_reply_help<E: Write>(
     alloc: Global,
     reply: &str,
     request: &[u8],
@@ -135,5 +100,20 @@ pub(crate) fn write_request_help<E: Write>(
     match ToldRefusal::in_report(reply).or(ToldRefusal::in_json(reply)) {
         Some(refusal) => help_with_refusal(alloc, refusal, request, err),
         None => Ok(()),
+    }
+}
+
+/// Writes what is wrong with the records of a block that has not ended, and gives whether anything is.
+pub(crate) fn write_open_help<E: Write>(
+    alloc: Global,
+    request: &[u8],
+    err: &mut E,
+) -> io::Result<bool> {
+    match read_script(alloc, request, MOST_RECORDS) {
+        Ok(_) | Err(ScriptError::NoCommit | ScriptError::NoAnswer) => Ok(false),
+        Err(fault) => {
+            write_block_help(alloc, request, &fault, err)?;
+            Ok(true)
+        }
     }
 }

@@ -5,5 +5,5 @@ use Rattle.terminal.specs.Typed.{is_bar}
 use Rattle.terminal.proofs.fields.between_bars.Goals as goal
 
 pub returns : goal.returns
-returns c = map_from_collect _ c.collect.ensures.ran (YieldsList-from_slice_split _ is_bar c.args.line.now
+returns c = map_from_collect _ c.collect.ensures.ran (YieldsList-from_slice_split _ is_bar c.args.text.now
     c.split.ensures.rest c.split.ensures.done c.split.ensures.closure (λ x b q k. search (rules, tests)))

@@ -7,6 +7,6 @@ use Rattle.terminal.proofs.fields.words_of.Goals as goal
 
 pub returns : goal.returns
 returns c = map_from_collect _ c.collect.ensures.ran (YieldsList-from_filter _ has_bytes
-    (YieldsList-at c.filter.ensures.source (YieldsList-from_slice_split _ is_ascii_whitespace c.args.line.now
+    (YieldsList-at c.filter.ensures.source (YieldsList-from_slice_split _ is_ascii_whitespace c.args.text.now
     c.split.ensures.rest c.split.ensures.done c.split.ensures.closure (λ x b q k. search (rules, tests))))
     c.filter.ensures.closure (λ x b q k. search (rules, tests)))
