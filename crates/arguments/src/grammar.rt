@@ -1,6 +1,6 @@
 //! Which words there are, as clap takes them.
 
-use crate::help::{AUDIT_HELP, EXPORT_HELP, QUERY_HELP, RUN_HELP, SERVE_HELP};
+use crate::help::{AUDIT_HELP, CHANGES_HELP, EXPORT_HELP, QUERY_HELP, RUN_HELP, SERVE_HELP};
 use clap::builder::ValueParser;
 use clap::{Arg, ArgAction, Command, value_parser};
 use std::alloc::{AllocError, Global};
@@ -156,7 +156,7 @@ fn board_argument<'a>(alloc: Global) -> Result<Arg<'a>, AllocError> {
         alloc,
         "board",
         "FILE",
-        "The questions of FILE in place of one: 1 to 64 lines 'Title|NAME|CONSTANT..', each answer under its title",
+        "The questions of FILE in place of one: 1 to 64 lines 'Title|NAME|CONSTANT..' or 'Title|sql|TEXT', each report under its title",
     )
     .conflicts_with("all")?
     .conflicts_with("explain")
@@ -226,8 +226,8 @@ fn sql_argument<'a>(alloc: Global, explains: bool) -> Result<Arg<'a>, AllocError
         .long("sql")
         .value_name("TEXT")
         .help(
-            "The rows of a statement of SQL in place of a question; with --explain SYSTEM in its place: sqlite, \
-             postgresql or clickhouse, in whose SQL the question is written",
+            "The rows of statements of SQL, parted by ';', in place of a question; -: those of standard input; with \
+             --explain SYSTEM in its place: sqlite, postgresql or clickhouse, in whose SQL the question is written",
         )
         .action(ArgAction::Set)
         .conflicts_with("all")?
@@ -243,6 +243,18 @@ fn system_argument<'a>(alloc: Global) -> Result<Arg<'a>, AllocError> {
         .action(ArgAction::Set)
         .conflicts_with("data")?
         .requires_arg("explain")
+}
+
+// The commit as of which a statement's rows are.
+fn as_of_argument<'a>(alloc: Global) -> Result<Arg<'a>, AllocError> {
+    Arg::new(alloc, "as-of")
+        .long("as-of")
+        .value_name("N")
+        .help("With --explain --sql: over the table of signed lines, as of commit N")
+        .value_parser(value_parser!(u64))
+        .action(ArgAction::Set)
+        .requires_arg("explain")?
+        .requires_arg("sql")
 }
 
 // The words of `query`, where it explains a question or answers it.
@@ -264,6 +276,7 @@ fn query_command<'a>(alloc: Global, explains: bool) -> Result<Command<'a>, Alloc
         .arg(width_argument(alloc))?
         .arg(explain_argument(alloc)?)?
         .arg(sql_argument(alloc, explains)?)?
+        .arg(as_of_argument(alloc)?)?
         .arg(times_argument(
             alloc,
             "Reports on standard error how many seconds each step took",
@@ -414,6 +427,36 @@ fn export_command<'a>(alloc: Global) -> Result<Command<'a>, AllocError> {
     with_telling(alloc, command)
 }
 
+// The words of `changes`.
+fn changes_command<'a>(alloc: Global) -> Result<Command<'a>, AllocError> {
+    let journal = path_argument(
+        alloc,
+        "journal",
+        "FILE",
+        "The journal of a server over these tables; it is not changed",
+    );
+    let after = Arg::new(alloc, "after")
+        .long("after")
+        .value_name("N")
+        .help("Begins behind commit N; without it all commits are written")
+        .value_parser(value_parser!(u64))
+        .action(ArgAction::Set);
+    let base = flag(
+        alloc,
+        "base",
+        "The loaded lines first, as those of commit 0",
+    )
+    .conflicts_with("after")?;
+    let command = over_tables(
+        alloc,
+        "changes",
+        "Writes the lines that each commit of a journal brought, and those that it took away",
+        CHANGES_HELP,
+    )?;
+    let command = command.arg(journal.required(true))?.arg(after)?.arg(base)?;
+    with_telling(alloc, command)
+}
+
 /// All words of the program, where a question is explained or not.
 pub fn command<'a>(alloc: Global, explains: bool) -> Result<Command<'a>, AllocError> {
     Command::new(alloc, "ssb_live")
@@ -426,5 +469,6 @@ pub fn command<'a>(alloc: Global, explains: bool) -> Result<Command<'a>, AllocEr
         .subcommand(run_command(alloc)?)?
         .subcommand(serve_command(alloc)?)?
         .subcommand(audit_command(alloc)?)?
-        .subcommand(export_command(alloc)?)
+        .subcommand(export_command(alloc)?)?
+        .subcommand(changes_command(alloc)?)
 }

@@ -57,8 +57,11 @@ spells it. JSON has one object a line. An empty line parts the answers, but not 
 sums, each as long as its sum is great; that of a negative sum is drawn with another sign. HTML is a page for a browser,
 with tables and bars.
 
-With --board it prints the answers to the questions of FILE, in order, each under its title. A line of FILE is
-'Title|NAME' or 'Title|NAME|CONSTANT..'; there are 1 to 64.
+With --board it prints the reports that FILE asks for, in order, each under its title. A line of FILE is 'Title|NAME',
+'Title|NAME|CONSTANT..' or 'Title|sql|TEXT'; there are 1 to 64.
+
+With --sql it prints the rows of statements of SQL: one SELECT each, of group columns, COUNT, SUM and AVG over lineorder
+and its dimensions, with WHERE, GROUP BY, HAVING, ORDER BY and LIMIT.
 
 With --explain it prints what is asked, and needs no tables: a request of star that asks the same, the printed columns,
 and what the rows are ordered by. With --data DIR also how many rows of each dimension the tests take, and how many
@@ -72,6 +75,9 @@ Examples:
   ssb_live query --data tables --format bars star LO_REVENUE D_YEAR C_REGION=ASIA
   ssb_live query --data tables --all --times
   ssb_live query --data tables --board morning.board --format html > morning.html
+  ssb_live query --data tables --sql 'SELECT d_year, sum(lo_revenue), count(*) FROM lineorder JOIN date
+    ON lo_orderdate = d_datekey GROUP BY d_year ORDER BY 2 DESC LIMIT 3'
+  ssb_live query --data tables --format table --sql - < morning.sql
   ssb_live query --explain Q2.1
   ssb_live query --explain --sql postgresql star COUNT C_REGION"
 );
@@ -151,19 +157,36 @@ lineorder.tbl has all five. If an export fails, delete by hand what it has left 
 Example:
   ssb_live export --data tables --journal orders.journal --to tables-2";
 
+/// What `changes --help` shows.
+pub const CHANGES_HELP: &str = "\
+Reads the commits that 'ssb_live serve --journal' kept in FILE, with the same five table files of a folder, and prints
+what they changed, for other systems. A line 'N|1|' and the 17 fields of a line order: commit N brought this line. A
+line 'N|-1|' and the fields: commit N took it away, by a withdrawal, or as one of the lines that an amended order had.
+Of each line the signs up to commit N add up to 1 where it is live after N commits, and to 0 where it is not.
+
+With --base the loaded lines come first, as those of commit 0. With --after N the commits behind the first N are
+written, so that a system which has some gets the others. FILE is not changed; a server goes on meanwhile only where
+FILE is a copy.
+
+Examples:
+  ssb_live changes --data tables --journal orders.journal --base
+  ssb_live changes --data tables --journal orders.journal --after 1204";
+
 /// What the word `help` shows on the terminal of a live session.
 pub const TERMINAL_HELP: &str = help_with_questions!(
     "\
-Q1.1 asks with the benchmark's constants, and Q1.1 1994 1 3 0 24 with these. Names may be in any case. Where a constant
-has a blank in it, the fields are parted by bars: star|COUNT|C_REGION=MIDDLE EAST. ask, then 1 to 16 questions, then
-answer asks them together: all are answered after the same commits. begin, then add or amend with line|.. records, and
-withdraw|KEY, then commit is one refresh; nothing of it is done without the commit.
+Q1.1 asks with the benchmark's constants, and Q1.1 1994 1 3 0 24 with these. Names may be in any case. A constant with a
+blank in it stands in quotes: star COUNT 'C_REGION=MIDDLE EAST'; or bars part the fields: star|COUNT|C_REGION=MIDDLE
+EAST. ask, then 1 to 16 questions, then answer asks them together: all are answered after the same commits. begin, then
+add or amend with line|.. records, and withdraw KEY, then commit is one refresh; nothing of it is done without commit.
 
   abort       drops the refresh, or the questions, that were begun
   format csv  from then on replies are written so; also table, json, markdown and bars, and report, as at the beginning
   timing      from then on shows how many seconds each reply took; again: no more
   status      shows what the server has done, its memory, and how long ago the last reply came
-  help        shows this
+  help star   shows questions of your own, with examples
+  help begin  shows a refresh, and the 17 fields of a line
+  help, ?     show this
   quit, exit  end the session, as Ctrl-D does; a refresh without its commit is then fault: 71 NoCommit, and not done
 
 Ctrl-C ends the program at once: a refresh without its commit is not done. Without a journal all commits end with it.
@@ -173,3 +196,40 @@ The queries, and their constants in this order:
 ",
     ""
 );
+
+/// What the words `help star` show there.
+pub const STAR_HELP: &str = "\
+star asks a question of your own: a measure, then the columns to group by, then tests, and ORDER=SUM at the end where
+the largest sum is to stand first.
+
+  star COUNT                                  the number of lines
+  star LO_REVENUE D_YEAR                      the revenue of each year
+  star LO_REVENUE C_NATION C_REGION=ASIA ORDER=SUM
+                                              that of each nation in Asia, the largest first
+  star LO_QUANTITY P_MFGR D_YEAR=1993..1995 LO_DISCOUNT=10
+                                              the pieces of each manufacturer from 1993 to 1995, at 10 % discount
+  star COUNT D_YEAR 'C_REGION=MIDDLE EAST' C_REGION=ASIA
+                                              a value with a blank in quotes; two values: lines that have one of these
+
+The measure is LO_REVENUE, LO_REVENUE-LO_SUPPLYCOST, LO_EXTENDEDPRICE*LO_DISCOUNT, LO_QUANTITY or COUNT. The columns are
+C_CITY, C_NATION, C_REGION of customers, S_CITY, S_NATION, S_REGION of suppliers, P_MFGR, P_CATEGORY, P_BRAND1 of parts,
+and D_YEAR, D_YEARMONTHNUM, D_YEARMONTH, D_WEEKNUMINYEAR. LO_QUANTITY and LO_DISCOUNT can be tested too. To see which
+values a column has, group by it: star COUNT C_REGION.
+";
+
+/// What the words `help begin` show there.
+pub const REFRESH_HELP: &str = "\
+A refresh adds, amends and withdraws whole orders. All of it is done at its commit, or nothing of it.
+
+  begin
+  add
+  line|9|1|3|4|3|19930615|5-LOW|0|10|1000000|1000000|2|980000|600000|0|19930701|AIR
+  withdraw 7
+  commit
+
+add makes an order of the 1 to 7 lines below it; amend puts such an order in the place of the one with its key; withdraw
+removes the order of a key. The fields of a line are, in this order: LO_ORDERKEY, LO_LINENUMBER, LO_CUSTKEY, LO_PARTKEY,
+LO_SUPPKEY, LO_ORDERDATE, LO_ORDERPRIORITY, LO_SHIPPRIORITY, LO_QUANTITY, LO_EXTENDEDPRICE, LO_ORDTOTALPRICE,
+LO_DISCOUNT, LO_REVENUE, LO_SUPPLYCOST, LO_TAX, LO_COMMITDATE, LO_SHIPMODE. Its customer, part, supplier and order date
+are rows of the load. abort in the place of commit drops the refresh.
+";

@@ -4,7 +4,7 @@ use crate::grammar::{command, width_of};
 use crate::notice::Notice;
 use clap::ArgMatches;
 use clap::error::ErrorKind;
-use ssb_explain::System;
+use ssb_explain::{ReadLines, SqlTarget, System};
 use ssb_text::{Delimiter, TableLayout};
 use std::alloc::{AllocError, Global};
 
@@ -28,6 +28,8 @@ pub enum Job<'a> {
     Audit(AuditWords<'a>),
     /// The tables after a journal's commits.
     Export(ExportWords<'a>),
+    /// What a journal's commits changed.
+    Changes(ChangesWords<'a>),
 }
 
 /// How answers are written.
@@ -101,7 +103,7 @@ pub struct QueryWords<'a> {
     /// The file of the questions; none where the words have them.
     pub board: Option<&'a str>,
     pub format: FormatWord,
-    /// The text of a statement, in the place of a question.
+    /// The text of statements, in the place of a question; `-` where standard input has it.
     pub sql: Option<&'a str>,
     /// Empty where all are asked, those of a board, or a statement.
     pub name: &'a str,
@@ -119,8 +121,8 @@ pub struct ExplainWords<'a> {
     pub layout: TableLayout,
     pub name: &'a str,
     pub constants: Vec<&'a str>,
-    /// The system whose SQL is written; none where words are.
-    pub sql: Option<System>,
+    /// The system whose SQL is written, and over which lines; none where words are.
+    pub sql: Option<SqlTarget>,
     pub quiet: bool,
     pub hints: HintsWord,
 }
@@ -177,6 +179,26 @@ pub struct ExportWords<'a> {
     pub hints: HintsWord,
 }
 
+/// From where on changes are written.
+#[derive(Clone, Copy)]
+pub enum StartWord {
+    /// From the loaded lines on.
+    Base,
+    /// Behind the first commits, so many of them.
+    After(u64),
+}
+
+/// The words of `changes`.
+#[derive(Drop)]
+pub struct ChangesWords<'a> {
+    pub data: &'a str,
+    pub layout: TableLayout,
+    pub journal: &'a str,
+    pub start: StartWord,
+    pub quiet: bool,
+    pub hints: HintsWord,
+}
+
 impl<'a> Job<'a> {
     /// What the words say of help below a fault.
     pub fn hints(&self) -> HintsWord {
@@ -188,6 +210,7 @@ impl<'a> Job<'a> {
             Job::Serve(words) => words.hints,
             Job::Audit(words) => words.hints,
             Job::Export(words) => words.hints,
+            Job::Changes(words) => words.hints,
         }
     }
 }
@@ -267,19 +290,6 @@ fn check_width(alloc: Global, matches: &ArgMatches<'_>) -> Result<(), Notice> {
     Err(Notice::from(fault))
 }
 
-// Looks whether a statement is to be drawn, which has several numbers a row.
-fn check_format(alloc: Global, matches: &ArgMatches<'_>) -> Result<(), Notice> {
-    let format = word_of(matches, "format");
-    if !matches.contains_id("sql") || (format != "bars" && format != "html") {
-        return Ok(());
-    }
-    let told = format!(in alloc;
-        "the argument '--sql <TEXT>' cannot be used with '--format {format}'"
-    )?;
-    let fault = command(alloc, false)?.error(ErrorKind::ArgumentConflict, told.as_str())?;
-    Err(Notice::from(fault))
-}
-
 // What parts the fields of the tables: a bar, or what the words have.
 fn delimiter_of(alloc: Global, matches: &ArgMatches<'_>) -> Result<Delimiter, Notice> {
     let Some(word) = matches.get_str("delimiter") else {
@@ -334,13 +344,23 @@ fn system_of(matches: &ArgMatches<'_>) -> Option<System> {
     }
 }
 
+// What a statement is written for, where one is asked for.
+fn target_of(matches: &ArgMatches<'_>) -> Option<SqlTarget> {
+    let system = system_of(matches)?;
+    let lines = match matches.get_one::<u64>("as-of") {
+        Some(commits) => ReadLines::AsOf(commits),
+        None => ReadLines::Lineorder,
+    };
+    Some(SqlTarget { system, lines })
+}
+
 fn explain_words<'a>(alloc: Global, matches: &ArgMatches<'a>) -> Result<ExplainWords<'a>, Notice> {
     Ok(ExplainWords {
         data: matches.get_str("data"),
         layout: layout_of(alloc, matches)?,
         name: word_of(matches, "name"),
         constants: words_of(alloc, matches, "constants")?,
-        sql: system_of(matches),
+        sql: target_of(matches),
         quiet: matches.get_flag("quiet"),
         hints: hints_of(matches),
     })
@@ -355,7 +375,6 @@ fn query_job<'a>(
     if matches.get_flag("explain") {
         Ok(Job::Explain(explain_words(alloc, matches)?))
     } else {
-        check_format(alloc, matches)?;
         Ok(Job::Query(query_words(alloc, matches, columns)?))
     }
 }
@@ -410,6 +429,25 @@ fn export_words<'a>(alloc: Global, matches: &ArgMatches<'a>) -> Result<ExportWor
     })
 }
 
+// From where on the words ask for changes; the grammar lets no two words through.
+fn start_of(matches: &ArgMatches<'_>) -> StartWord {
+    if matches.get_flag("base") {
+        return StartWord::Base;
+    }
+    StartWord::After(matches.get_one::<u64>("after").unwrap_or(0))
+}
+
+fn changes_words<'a>(alloc: Global, matches: &ArgMatches<'a>) -> Result<ChangesWords<'a>, Notice> {
+    Ok(ChangesWords {
+        data: word_of(matches, "data"),
+        layout: layout_of(alloc, matches)?,
+        journal: word_of(matches, "journal"),
+        start: start_of(matches),
+        quiet: matches.get_flag("quiet"),
+        hints: hints_of(matches),
+    })
+}
+
 /// What these words ask for, the program's name first, where the environment has this variable COLUMNS, or none; else
 /// what is told in place of that.
 pub fn job_of<'a>(
@@ -424,6 +462,7 @@ pub fn job_of<'a>(
         Some(("serve", words)) => Job::Serve(serve_words(alloc, words)?),
         Some(("audit", words)) => Job::Audit(audit_words(alloc, words)?),
         Some(("export", words)) => Job::Export(export_words(alloc, words)?),
+        Some(("changes", words)) => Job::Changes(changes_words(alloc, words)?),
         Some((_, words)) => query_job(alloc, words, columns)?,
         None => Job::Script,
     })

@@ -1,7 +1,7 @@
 //! The words of the program's command line, and what they ask for.
 //!
 //! ```text
-//! words ── job_of ─┬─ Job: query, run, serve, audit, export, each with its words; or none: a script
+//! words ── job_of ─┬─ Job: query, run, serve, audit, export, changes, each with its words; or none: a script
 //!                  └─ Notice: help, the version, or why the words are wrong
 //! ```
 //!
@@ -21,9 +21,9 @@ mod help;
 mod job;
 mod notice;
 
-pub use help::TERMINAL_HELP;
+pub use help::{REFRESH_HELP, STAR_HELP, TERMINAL_HELP};
 pub use job::{
-    AuditWords, ExplainWords, ExportWords, FormatWord, HintsWord, Job, JournalWord, QueryWords,
-    RunWords, ServeWords, StandingWord, job_of,
+    AuditWords, ChangesWords, ExplainWords, ExportWords, FormatWord, HintsWord, Job, JournalWord,
+    QueryWords, RunWords, ServeWords, StandingWord, StartWord, job_of,
 };
 pub use notice::Notice;

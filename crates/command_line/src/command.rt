@@ -2,24 +2,18 @@
 
 use crate::attending::{attend_clients, serve_one};
 use crate::commits_screen::serve_shown;
-use crate::job_help::tell_help;
+use crate::histories::{check_trace, export_tables, write_changes};
+use crate::job_help::{tell_help, tell_notes};
 use crate::metrics::{MetricsFile, push_metrics};
 use crate::named_journal::NamedJournal;
+use crate::querying::{AskedWords, answer_query, explain_query, statements_on};
 use crate::streams::{Streams, tell};
 use crate::terminal_view::TerminalView;
-use crate::{named_journal, pipes};
-use arguments::{
-    AuditWords, ExplainWords, ExportWords, FormatWord, HintsWord, Job, JournalWord, QueryWords,
-    RunWords, ServeWords, StandingWord, job_of,
-};
-use audit_command::run_audit;
-use export_command::{ExportFault, ExportPlace, ExportRefusal, run_export};
+use crate::{job_help, named_journal, pipes};
+use arguments::{HintsWord, Job, JournalWord, RunWords, ServeWords, StandingWord, job_of};
 use journal_file::{JournalFile, torn_path};
-use journal_opening::{JournalPath, ReadPath};
-use query_command::{
-    QuestionWords, Settings, run_all, run_board, run_explain, run_explain_over, run_query,
-    run_statement, standard_questions,
-};
+use journal_opening::JournalPath;
+use query_command::standard_questions;
 use run_command::{RunInput, RunSettings, demo, open_trace, run_scripts};
 use serve_command::{
     Attendant, EndPaths, JournalPlace, MOST_CLIENTS, PathClients, ServeFault, ServeRefusal,
@@ -27,13 +21,12 @@ use serve_command::{
 };
 use server_figures::LiveFigures;
 use ssb_files::{
-    Fault, InputSource, PathUse, Screen, TableBytes, UsedPath, check_paths, count_tables,
-    find_tables, open_file, open_files, open_tables, read_standing, watch, watch_scripts,
-    watch_tables,
+    Fault, JobFault, PathUse, Screen, TableBytes, UsedPath, check_paths, count_tables, find_tables,
+    open_file, open_files, open_tables, read_standing, watch_scripts, watch_tables,
 };
-use ssb_formats::Format;
 use ssb_hints::{
-    FailedCalls, FaultLines, Observed, ObservedFiles, STANDARD_INPUT, STANDARD_OUTPUT,
+    FailedCalls, FaultLines, Observed, ObservedFiles, ReportedOutput, Reports, STANDARD_INPUT,
+    STANDARD_OUTPUT,
 };
 use ssb_questions::Question;
 use ssb_text::{TableFiles, Tables};
@@ -48,8 +41,8 @@ use std::thread::Threads;
 use std::time::Clock;
 use terminal::{HelpedOutput, Prompted, TypedRequest};
 
-// The terminal, where there is one and the words let it show the progress of a load, which begins now.
-fn screen_of<'a, C: Clock, P: Print>(
+/// The terminal, where there is one and the words let it show the progress of a load, which begins now.
+pub(crate) fn screen_of<'a, C: Clock, P: Print>(
     clock: &'a C,
     quiet: bool,
     terminal: Option<&'a P>,
@@ -60,78 +53,12 @@ fn screen_of<'a, C: Clock, P: Print>(
     Screen::start(clock, terminal)
 }
 
-// What hashes the keys of orders: at random, so that no client can choose some that collide.
-fn hashing_of<R: RandomSource>(rt: &R) -> Result<RandomState, Fault> {
+/// What hashes the keys of orders: at random, so that no client can choose some that collide.
+pub(crate) fn hashing_of<R: RandomSource>(rt: &R) -> Result<RandomState, Fault> {
     match RandomState::new(rt) {
         Ok(hashing) => Ok(hashing),
         Err(_) => Err(Fault::NoRandomness),
     }
-}
-
-fn format_of(word: FormatWord) -> Format {
-    match word {
-        FormatWord::Report => Format::Report,
-        FormatWord::Csv => Format::Csv,
-        FormatWord::Json => Format::Json,
-        FormatWord::Markdown => Format::Markdown,
-        FormatWord::Table => Format::Table,
-        FormatWord::Bars(width) => Format::Bars {
-            width: width as usize,
-        },
-        FormatWord::Html => Format::Html,
-    }
-}
-
-// Opens the board that the words name, if they name one.
-fn open_board<F: Files + AllocGlobal>(
-    files: &F,
-    words: &QueryWords<'_>,
-) -> Result<Option<F::File>, Fault> {
-    match words.board {
-        Some(path) => Ok(Some(open_file(files, path)?)),
-        None => Ok(None),
-    }
-}
-
-// Answers one question, all, or those of a board, over the files of a folder.
-fn answer_query<R, F: Files + AllocGlobal, P: Print, W: Write, E: Write>(
-    rt: &R,
-    files: &F,
-    words: &QueryWords<'_>,
-    terminal: Option<&P>,
-    out: &mut W,
-    err: &mut E,
-) -> Result<u8, Fault>
-where
-    R: Clock + RandomSource + Threads + Sync + AllocGlobal,
-{
-    let tables = open_tables(files, words.data)?;
-    let board = open_board(files, words)?;
-    let hashing = hashing_of(rt)?;
-    let screen = screen_of(rt, words.quiet, terminal);
-    let tables = TableFiles {
-        tables: watch_tables(screen.as_ref(), tables),
-        layout: words.layout,
-    };
-    let settings = Settings {
-        hashing,
-        times: words.times,
-        format: format_of(words.format),
-    };
-    if let Some(source) = board {
-        return Ok(run_board(rt, settings, source, tables, out, err));
-    }
-    if words.all {
-        return Ok(run_all(rt, settings, tables, out, err));
-    }
-    if let Some(text) = words.sql {
-        return Ok(run_statement(rt, settings, tables, text, out, err));
-    }
-    let asked = QuestionWords {
-        name: words.name,
-        constants: words.constants.as_slice(),
-    };
-    Ok(run_query(rt, settings, tables, asked, out, err))
 }
 
 // Where the questions that are to stand come from.
@@ -179,32 +106,6 @@ fn questions_of<I: Read + Drop>(
         StandingSource::Benchmark => Ok(standard_questions(alloc)?),
         StandingSource::File(file) => read_standing(alloc, file),
     }
-}
-
-// Explains one question; over the files of a folder where the words name one.
-fn explain_query<R, F: Files + AllocGlobal, P: Print, W: Write, E: Write>(
-    rt: &R,
-    files: &F,
-    words: &ExplainWords<'_>,
-    terminal: Option<&P>,
-    out: &mut W,
-    err: &mut E,
-) -> Result<u8, Fault>
-where
-    R: Clock + Threads + Sync + AllocGlobal,
-{
-    let constants = words.constants.as_slice();
-    let Some(data) = words.data else {
-        let alloc = rt.alloc();
-        return Ok(run_explain(alloc, words.name, constants, words.sql, out, err));
-    };
-    let tables = open_tables(files, data)?;
-    let screen = screen_of(rt, words.quiet, terminal);
-    let tables = TableFiles {
-        tables: watch_tables(screen.as_ref(), tables),
-        layout: words.layout,
-    };
-    Ok(run_explain_over(rt, tables, words.name, constants, out, err))
 }
 
 // The files of a run, opened, and how its scripts are served.
@@ -398,7 +299,7 @@ fn serve_typed<R, F, T, I: Read + Drop + Send, W: Write + Drop + Send, E: Print 
     settings: ServeSettings,
     tables: TableFiles<T>,
     place: Option<JournalPlace<'_, JournalPath<'_, F>>>,
-    view: &TerminalView<'_, F>,
+    view: &TerminalView<'_, '_, F>,
     streams: Streams<'_, I, W, E>,
 ) -> u8
 where
@@ -410,17 +311,13 @@ where
 {
     let alloc = rt.alloc();
     let errors = streams.errors;
-    let request = TypedRequest::new(alloc);
+    let is_helped = view.hints.are_told(streams.shows_progress);
+    let request = TypedRequest::new(alloc, is_helped);
     let screen = io::writer(errors);
     let Ok(input) = Prompted::new(alloc, rt, streams.input, screen, view, &request) else {
         return Fault::OutOfMemory.tell(&mut io::writer(errors));
     };
-    let helped = if view.hints.are_told(streams.shows_progress) {
-        Some(&request)
-    } else {
-        None
-    };
-    let output = HelpedOutput::new(alloc, streams.output, io::writer(errors), helped);
+    let output = HelpedOutput::new(alloc, streams.output, io::writer(errors), &request, view);
     let client = StreamClient { input, output };
     serve_one(rt, settings, tables, place, client, errors).status
 }
@@ -476,7 +373,12 @@ where
         return attend_clients(rt, settings, tables, place, clients, errors);
     }
     if streams.is_typed {
-        let Ok(view) = TerminalView::of(files, &settings, words.hints) else {
+        let Ok(view) = TerminalView::of(
+            files,
+            &settings,
+            Some(job_help::tables_of(words)),
+            words.hints,
+        ) else {
             return Fault::OutOfMemory.tell(&mut io::writer(errors));
         };
         return serve_typed(rt, settings, tables, place, &view, streams);
@@ -540,68 +442,6 @@ where
     status
 }
 
-// Checks a trace over the files of a folder.
-fn check_trace<R, F: Files + AllocGlobal, P: Print, W: Write, E: Write>(
-    rt: &R,
-    files: &F,
-    words: &AuditWords<'_>,
-    terminal: Option<&P>,
-    out: &mut W,
-    err: &mut E,
-) -> Result<u8, Fault>
-where
-    R: Clock + RandomSource + Threads + Sync + AllocGlobal,
-{
-    let tables = open_tables(files, words.data)?;
-    let trace = open_file(files, words.trace)?;
-    let hashing = hashing_of(rt)?;
-    let screen = screen_of(rt, words.quiet, terminal);
-    let tables = TableFiles {
-        tables: watch_tables(screen.as_ref(), tables),
-        layout: words.layout,
-    };
-    let trace = watch(screen.as_ref(), InputSource::Trace, trace);
-    Ok(run_audit(rt, hashing, tables, trace, out, err))
-}
-
-// Exports the tables after a journal's commits, over the files of a folder.
-fn export_tables<R, F: Files + AllocGlobal, P: Print, E: Write>(
-    rt: &R,
-    files: &F,
-    words: &ExportWords<'_>,
-    terminal: Option<&P>,
-    err: &mut E,
-) -> Result<u8, Fault>
-where
-    R: Clock + RandomSource + Threads + Sync + AllocGlobal,
-    F::File: JournalFile,
-{
-    let tables = open_tables(files, words.data)?;
-    if let Err(fault) = named_journal::check_is_there(files, words.journal) {
-        return Ok(ExportFault::Found(ExportRefusal::Journal(fault)).tell(err));
-    }
-    let hashing = hashing_of(rt)?;
-    let screen = screen_of(rt, words.quiet, terminal);
-    let tables = watch_tables(screen.as_ref(), tables);
-    let bytes = TableBytes::new();
-    let tables = TableFiles {
-        tables: count_tables(&bytes, tables),
-        layout: words.layout,
-    };
-    let journal = ReadPath {
-        files,
-        path: words.journal,
-    };
-    let place = ExportPlace {
-        journal: &journal,
-        files,
-        folder: words.folder,
-        bytes: &bytes,
-        tells: !words.quiet,
-    };
-    Ok(run_export(rt, hashing, tables, &place, err))
-}
-
 // Serves the person at a terminal over the built-in tables, without a journal.
 fn serve_small<R, F, I: Read + Drop + Send, W: Write + Drop + Send, E: Print + Sync>(
     rt: &R,
@@ -622,7 +462,7 @@ where
         figures: Arc::new(rt.alloc(), LiveFigures::new())?,
         tells_ready: false,
     };
-    let view = TerminalView::of(files, &settings, hints)?;
+    let view = TerminalView::of(files, &settings, None, hints)?;
     let bytes = TableBytes::new();
     let path = named_journal::journal_path(files, None);
     let place = named_journal::journal_place(path.as_ref(), &bytes, false);
@@ -674,7 +514,14 @@ where
     pipes::report_pipes(files, job, err)?;
     match job {
         Job::Script => report_script(rt, input, &mut output, err),
-        Job::Query(words) => answer_query(rt, files, words, terminal, &mut output, err),
+        Job::Query(words) => {
+            let read = match statements_on(rt.alloc(), words, input) {
+                Ok(read) => read,
+                Err(fault) => return Ok(JobFault::Found(fault).tell(err)),
+            };
+            let asked = AskedWords { words, read };
+            answer_query(rt, files, asked, terminal, &mut output, err)
+        }
         Job::Explain(words) => explain_query(rt, files, words, terminal, &mut output, err),
         Job::Run(words) => report_scripts(rt, files, words, terminal, &mut output, err),
         Job::Serve(words) => {
@@ -690,6 +537,7 @@ where
         }
         Job::Audit(words) => check_trace(rt, files, words, terminal, &mut output, err),
         Job::Export(words) => export_tables(rt, files, words, terminal, err),
+        Job::Changes(words) => write_changes(rt, files, words, &mut output, err),
     }
 }
 
@@ -716,10 +564,13 @@ where
     let failed = FailedCalls::new(rt.alloc());
     let files = ObservedFiles::new(files, &failed);
     let faults = FaultLines::new(rt.alloc(), errors);
+    let reports = Reports::new(rt.alloc());
+    let kept = if is_helped { Some(&reports) } else { None };
+    let output = ReportedOutput::new(streams.output, kept);
     let streams = Streams {
         input: Observed::new(STANDARD_INPUT, streams.input, &failed),
         is_typed: streams.is_typed,
-        output: Observed::new(STANDARD_OUTPUT, streams.output, &failed),
+        output: Observed::new(STANDARD_OUTPUT, output, &failed),
         errors: &faults,
         shows_progress: streams.shows_progress,
         columns: streams.columns,
@@ -729,7 +580,11 @@ where
         Err(fault) => fault.tell(&mut io::writer(&faults)),
     };
     if is_helped {
-        tell_help(&files, job, &faults, status, &mut io::writer(errors));
+        let err = &mut io::writer(errors);
+        match status {
+            0 => tell_notes(&files, job, &reports, err),
+            _ => tell_help(&files, job, &faults, err),
+        }
     }
     status
 }

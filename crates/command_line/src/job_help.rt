@@ -1,13 +1,35 @@
 //! Help about what a job names.
 
-use arguments::{Job, StandingWord};
-use ssb_hints::{FaultLines, Named, NamedTables, ObservedFiles, write_help, write_notes};
+use arguments::{Job, QueryWords, ServeWords, StandingWord};
+use ssb_hints::{FaultLines, Named, NamedTables, ObservedFiles, Reports, write_help, write_notes};
 use ssb_text::TableLayout;
 use std::io::{Print, Write};
 use std::rt::Files;
 
 fn tables_named(folder: &str, layout: TableLayout) -> NamedTables<'_> {
     NamedTables { folder, layout }
+}
+
+/// The tables of a live server.
+pub(crate) fn tables_of<'a>(words: &ServeWords<'a>) -> NamedTables<'a> {
+    tables_named(words.data, words.layout)
+}
+
+// The query of a question; none where all are asked, those of a board, or a statement.
+fn query_named<'a>(words: &QueryWords<'a>) -> Option<&'a str> {
+    if words.name.is_empty() {
+        None
+    } else {
+        Some(words.name)
+    }
+}
+
+// The text of the statements that the words have; none where the input has had it.
+fn statements_named<'a>(words: &QueryWords<'a>) -> Option<&'a str> {
+    match words.sql {
+        Some("-") => None,
+        text => text,
+    }
 }
 
 // What the words of a job name, as far as help looks at it again.
@@ -17,8 +39,9 @@ fn named_by<'a>(job: &'a Job<'_>) -> Named<'a> {
         Job::Script => nothing,
         Job::Query(words) => Named {
             data: Some(tables_named(words.data, words.layout)),
-            query: Some(words.name),
+            query: query_named(words),
             constants: words.constants.as_slice(),
+            statement: statements_named(words),
             board: words.board,
             ..nothing
         },
@@ -50,6 +73,12 @@ fn named_by<'a>(job: &'a Job<'_>) -> Named<'a> {
         Job::Export(words) => Named {
             data: Some(tables_named(words.data, words.layout)),
             journal: Some(words.journal),
+            folder: Some(words.folder),
+            ..nothing
+        },
+        Job::Changes(words) => Named {
+            data: Some(tables_named(words.data, words.layout)),
+            journal: Some(words.journal),
             ..nothing
         },
     }
@@ -63,18 +92,22 @@ fn standing_path(word: Option<StandingWord<'_>>) -> Option<&str> {
     }
 }
 
-/// Tells what a person can do about the fault that ended a job, or what the question of a job asks for that no row has.
+/// Tells what a person can do about the fault that ended a job.
 pub(crate) fn tell_help<F: Files, P: Print, E: Write>(
     files: &ObservedFiles<'_, F>,
     job: &Job<'_>,
     faults: &FaultLines<'_, P>,
-    status: u8,
     err: &mut E,
 ) {
-    let named = named_by(job);
-    if status == 0 {
-        write_notes(files, &named, err);
-    } else {
-        write_help(files, &named, faults, err);
-    }
+    write_help(files, &named_by(job), faults, err);
+}
+
+/// Tells what the questions of a job ask for that no row has, and why refreshes of a run were refused.
+pub(crate) fn tell_notes<F: Files, E: Write>(
+    files: &ObservedFiles<'_, F>,
+    job: &Job<'_>,
+    reports: &Reports,
+    err: &mut E,
+) {
+    write_notes(files, &named_by(job), reports, err);
 }

@@ -2,13 +2,13 @@
 //!
 //! ```text
 //! system ── words ─▶ words ── run_command_line ─┬─ query, run or none, ──────▶ query_command, run_command,
-//!                             over arguments    │  audit, serve, export          audit_command, serve_command,
-//!                                               │                                export_command
+//!                             over arguments    │  audit, serve, export,         audit_command, serve_command,
+//!                                               │  changes                       export_command, changes_command
 //!                                               ├─ help, version, wrong words ─▶ a text and a status
 //!                                               └─ a job's fault ── ssb_hints ─▶ help below its line
 //! ```
 //!
-//! It promises no more than safety: what the jobs write is in the contracts of those five libraries, and what is written
+//! It promises no more than safety: what the jobs write is in the contracts of those six libraries, and what is written
 //! for which words is shown by the cases of the program `cases`.
 //!
 //! ```text
@@ -21,12 +21,14 @@ mod attending;
 mod command;
 mod commits_screen;
 mod end_bell;
+mod histories;
 mod job_help;
 mod measured;
 mod memory;
 mod metrics;
 mod named_journal;
 mod pipes;
+mod querying;
 mod streams;
 mod terminal_view;
 

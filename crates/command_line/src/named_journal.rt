@@ -1,5 +1,7 @@
 //! The journal that the words of a command name.
 
+ghost use Rattle.std.specs.Prelude.{◌≡◌, IfOk, is_some};
+
 use arguments::{JournalWord, ServeWords};
 use journal_file::find_journal;
 use journal_opening::{JournalPath, JournalStart, OpeningFault};
@@ -20,7 +22,9 @@ impl NamedJournal {
     pub(crate) fn of<F: AllocGlobal>(
         files: &F,
         words: &ServeWords<'_>,
-    ) -> Result<Option<NamedJournal>, AllocError> {
+    ) -> Result<Option<NamedJournal>, AllocError>
+        ensures { IfOk result (λ named. is_some named ≡ is_some words.now.journal) }
+    {
         let Some(word) = words.journal else {
             return Ok(None);
         };
@@ -51,7 +55,9 @@ pub(crate) fn check_is_there<F: Files + AllocGlobal>(
 pub(crate) fn journal_path<'a, F: Files + AllocGlobal>(
     files: &'a F,
     journal: Option<&'a NamedJournal>,
-) -> Option<JournalPath<'a, F>> {
+) -> Option<JournalPath<'a, F>>
+    ensures { is_some result ≡ is_some journal.entry }
+{
     let journal = journal?;
     Some(JournalPath {
         files,
@@ -66,7 +72,9 @@ pub(crate) fn journal_place<'a, 'f, F: Files + AllocGlobal>(
     file: Option<&'a JournalPath<'f, F>>,
     bytes: &'a TableBytes,
     tells: bool,
-) -> Option<JournalPlace<'a, JournalPath<'f, F>>> {
+) -> Option<JournalPlace<'a, JournalPath<'f, F>>>
+    ensures { is_some result ≡ is_some file.entry }
+{
     Some(JournalPlace {
         file: file?,
         bytes,

@@ -17,6 +17,7 @@ fn loaded_folder<'a>(job: &Job<'a>) -> Option<&'a str> {
         Job::Serve(words) => (words.data, words.quiet),
         Job::Audit(words) => (words.data, words.quiet),
         Job::Export(words) => (words.data, words.quiet),
+        Job::Changes(words) => (words.data, words.quiet),
     };
     if quiet { None } else { Some(folder) }
 }

@@ -1,9 +1,10 @@
 //! What a person at a terminal may see of a server beside the replies.
 
 use crate::memory::resident;
-use arguments::{HintsWord, TERMINAL_HELP};
+use arguments::{HintsWord, REFRESH_HELP, STAR_HELP, TERMINAL_HELP};
 use serve_command::ServeSettings;
 use server_figures::{LiveFigures, ServerStatus};
+use ssb_hints::{NamedTables, write_request_notes};
 use std::alloc::AllocError;
 use std::io::Write;
 use std::rt::Files;
@@ -13,34 +14,52 @@ use terminal::ShowsOnDemand;
 
 /// What a person at a terminal may see of a server: its figures, help, and help below a fault.
 #[derive(Drop)]
-pub(crate) struct TerminalView<'a, F: Files> {
+pub(crate) struct TerminalView<'a, 't, F: Files> {
     files: &'a F,
     figures: Arc<LiveFigures>,
     // How many questions stand.
     standing: u64,
+    // The tables' files; none where they are built in.
+    tables: Option<NamedTables<'t>>,
     /// What the words say of help below a fault.
     pub(crate) hints: HintsWord,
 }
 
-impl<'a, F: Files> TerminalView<'a, F> {
+impl<'a, 't, F: Files> TerminalView<'a, 't, F> {
     /// That of a server which is served so.
     pub(crate) fn of(
         files: &'a F,
         settings: &ServeSettings,
+        tables: Option<NamedTables<'t>>,
         hints: HintsWord,
-    ) -> Result<TerminalView<'a, F>, AllocError> {
+    ) -> Result<TerminalView<'a, 't, F>, AllocError> {
         Ok(TerminalView {
             files,
             figures: Arc::try_clone(&settings.figures)?,
             standing: settings.standing.len() as u64,
+            tables,
             hints,
         })
     }
 }
 
-impl<'a, F: Files + AllocGlobal> ShowsOnDemand for TerminalView<'a, F> {
+impl<'a, 't, F: Files + AllocGlobal> ShowsOnDemand for TerminalView<'a, 't, F> {
     fn help(&self) -> &str {
         TERMINAL_HELP
+    }
+
+    fn help_with_star(&self) -> &str {
+        STAR_HELP
+    }
+
+    fn help_with_refreshes(&self) -> &str {
+        REFRESH_HELP
+    }
+
+    fn note_request<E: Write>(&self, request: &[u8], screen: &mut E) {
+        if let Some(tables) = self.tables {
+            write_request_notes(self.files, tables, request, screen);
+        }
     }
 
     fn show_status<E: Write>(&self, since_reply: Option<Duration>, screen: &mut E) {
