@@ -1,6 +1,0 @@
-use Rattle.std.proofs.Common.{◌≡◌, map, take}
-use Rattle.ssb_formats.specs.StatementText.{cell_text}
-use Rattle.ssb_formats.proofs.statement_text.texts_of.Given as goal
-
-abbrev pub invariant-loop-cell : goal.invariant-loop-cell
-invariant-loop-cell l = l.texts.items ≡ map cell_text (take l.cell-index l.row)

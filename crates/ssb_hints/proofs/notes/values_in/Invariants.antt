@@ -1,5 +1,0 @@
-use Rattle.ssb_text.specs.Records.{IsRecordReader}
-use Rattle.ssb_hints.proofs.notes.values_in.Given as goal
-
-abbrev pub invariant-loop-number : goal.invariant-loop-number
-invariant-loop-number g l = IsRecordReader l.reader
