@@ -3,14 +3,18 @@
 A statement is its parts, so that near misses may lack one; `tokens` has its texts in order, and `written` puts blanks,
 ends of lines and comments between them."""
 import copy
+import fractions
+import math
 import re
 
 from stars import COLUMNS, DIMENSIONS, GREATEST, LINE_COLUMNS, NUMBER_COLUMNS, Stars
 
-AGGREGATES = [["sum", "(", "lo_revenue", ")"], ["sum", "(", "lo_quantity", ")"], ["count", "(", "*", ")"],
-              ["sum", "(", "lo_revenue", "-", "lo_supplycost", ")"],
-              ["sum", "(", "lo_extendedprice", "*", "lo_discount", ")"],
-              ["sum", "(", "lo_discount", "*", "lo_extendedprice", ")"]]
+ADDED = [["lo_revenue"], ["lo_quantity"], ["lo_revenue", "-", "lo_supplycost"], ["lo_extendedprice", "*", "lo_discount"],
+         ["lo_discount", "*", "lo_extendedprice"]]
+COUNT = ["count", "(", "*", ")"]
+AGGREGATES = [[word, "(", *added, ")"] for word in ("sum", "sum", "avg") for added in ADDED]
+AGGREGATES += [COUNT, COUNT, COUNT, ["nullif", "(", *COUNT, ",", "0", ")"]]
+COMPARISONS = ["=", "<>", "!=", "<", "<=", ">", ">="]
 TABLE_NAMES = {"L": ["l", "lo", "Fact"], "C": ["c", "buyer"], "S": ["s", "seller"], "P": ["p", "t_2"], "D": ["d"]}
 NAMES = ["revenue", "profit", "lines", "total", "n", "x1", "_a", "Umsatz", "pieces", "Total_2", "q" * 63]
 LIMITS = ["0", "1", "2", "3", "10", "1000", str(GREATEST)]
@@ -26,7 +30,8 @@ OTHER_COLUMNS = ["c_name", "c_custkey", "s_suppkey", "p_partkey", "d_datekey", "
                  "lineorder.lo_quantity", "customer.d_year", "c.c_city"]
 ODD_VALUES = ["'.'", "'A.'", "'A..Z'", "''", "' '", "'ASIA '", "'asia'", "'it''s'", "'x", f"'{'y' * 65}'", "'1993'",
               "4294967295", "4294967296", "1.5", "-1", "1e3", "0x10", "01993", "NULL", "199301", "0"]
-TOKEN = re.compile(r"""(?P<gap>\s+|--[^\n]*|/\*.*?\*/)|[A-Za-z_]\w*(?:\.\w+)?|\d+|'(?:[^']|'')*'|"C"|[<>]=|.""", re.S)
+TOKEN = re.compile(r"""(?P<gap>\s+|--[^\n]*|/\*.*?\*/)|[A-Za-z_]\w*(?:\.\w+)?|\d+|'(?:[^']|'')*'|"C"|[<>!]=|<>|.""", re.S)
+AVERAGE = "ten_thousandths"     # what peers have in the place of avg: the average rounded to so many, a whole number
 
 
 def quoted(text):
@@ -40,9 +45,9 @@ def is_number(column):
 class Statement:
     """The parts of a statement, each a list of tokens."""
 
-    def __init__(self, items, tables, joins, tests, groups, order, limit):
+    def __init__(self, items, tables, joins, tests, groups, having, order, limit):
         self.items, self.tables, self.joins, self.tests = items, tables, joins, tests
-        self.groups, self.order, self.limit = groups, order, limit
+        self.groups, self.having, self.order, self.limit = groups, having, order, limit
         self.is_ended = False
 
     def tokens(self):
@@ -52,6 +57,8 @@ class Statement:
             parts += ["where", *parted(conditions, "and")]
         if self.groups:
             parts += ["group", "by", *parted(self.groups, ",")]
+        if self.having:
+            parts += ["having", *parted(self.having, "and")]
         if self.order:
             parts += ["order", "by", *parted(self.order, ",")]
         if self.limit is not None:
@@ -87,7 +94,8 @@ class Statements:
         grouped = [[self.column(name)] for name in groups]
         limit = self.random.choice(LIMITS) if self.chance(0.3) else None
         order = self.order(groups, heads, len(items))
-        made = Statement(items, tables, [], conditions, grouped, order, limit)
+        having = [self.group_test() for _ in range(self.random.choice([0, 0, 0, 1, 1, 2]))]
+        made = Statement(items, tables, [], conditions, grouped, having, order, limit)
         made.is_ended = self.chance(0.4)
         return made
 
@@ -122,12 +130,23 @@ class Statements:
         shown = [[self.column(name)] + named(0.2) for name in groups if self.chance(0.85)]
         for _ in range(self.random.choice([0, 1, 1, 1, 2, 2, 3, 5]) or (0 if shown else 1)):
             aggregate = self.random.choice(AGGREGATES)
-            tokens = [self.column(token) if token[:3] == "lo_" else token for token in aggregate]
-            name = named(1 if str(sorted(aggregate)) in taken else 0.6)
-            taken |= set() if name else {str(sorted(aggregate))}
-            shown.append(tokens + name)
+            own = "count" if "count" in aggregate else str(sorted(aggregate))       # its head where it has no name
+            name = named(1 if own in taken else 0.6)
+            taken |= set() if name else {own}
+            shown.append(self.computed(aggregate) + name)
         self.random.shuffle(shown)
         return shown, heads
+
+    def computed(self, aggregate):
+        return [self.column(token) if token[:3] == "lo_" else token for token in aggregate]
+
+    def group_test(self):
+        """An aggregate, compared with a number that some groups have more than."""
+        aggregate = self.random.choice(AGGREGATES)
+        most = 2 if "count" in aggregate else self.random.choice([2, 4, 7, 9, 11])
+        number = self.random.choice([0, 1, self.random.randint(0, 10**most), self.random.randint(0, 10**most)])
+        sign = ["-"] if self.chance(0.1) else []
+        return [*self.computed(aggregate), self.random.choice(COMPARISONS), *sign, str(number)]
 
     def join(self, kind):
         _, key, line_key = DIMENSIONS[kind]
@@ -156,7 +175,9 @@ class Statements:
     def order(self, groups, heads, shown):
         keys = []
         for _ in range(self.random.choice([0, 0, 1, 1, 2, 3])):
-            if self.chance(0.2) or not groups:
+            if self.chance(0.2):
+                key = self.computed(self.random.choice(AGGREGATES))
+            elif self.chance(0.2) or not groups:
                 key = [str(self.random.randint(1, shown))]
             elif heads and self.chance(0.5):
                 key = [self.random.choice(heads)]
@@ -183,14 +204,23 @@ class Statements:
         """One to three conditions of a column, which may leave nothing."""
         if name in LINE_COLUMNS:
             tests = [self.line_values(name)] if self.chance(0.4) else self.ends(name)
+            if self.chance(0.1):
+                return [[*self.tested(name), self.random.choice(["<>", "!="]), self.least(name)]]
         else:
             tests = [self.values(name)] if self.chance(0.6) else self.ends(name)
+            if self.chance(0.15):
+                value = self.literal(name, self.value(name))
+                return [self.values(name), [*self.tested(name), self.random.choice(["<>", "!="]), value]]
         if self.chance(0.25):
             tests += self.ends(name) if self.chance(0.5) or name in LINE_COLUMNS else [self.values(name)]
         return tests
 
     def tested(self, name):
         return [self.column(name), *self.by_bytes(name)]
+
+    def least(self, name):
+        """The least or the greatest number that a line has."""
+        return str(self.random.choice([LINE_COLUMNS[name], 0 if name == "LO_DISCOUNT" else 1]))
 
     def value(self, name):
         if name in LINE_COLUMNS:
@@ -254,7 +284,7 @@ class Statements:
         return self.random.choice([token.upper(), token.lower(), token.title()])
 
     def gap(self, before, after):
-        marks = "(),;=<>"
+        marks = "(),;=<>!"
         if (before[-1] in marks[:4] or after[0] in marks[:4] or (before[-1] in marks) != (after[0] in marks)) \
                 and self.chance(0.5):
             return ""
@@ -288,7 +318,8 @@ class Statements:
 
     def without_part(self, made):
         made = copy.deepcopy(made)
-        parts = [part for part in [made.items, made.tables, made.tests, made.tests, made.groups, made.order] if part]
+        parts = [part for part in [made.items, made.tables, made.tests, made.tests, made.groups, made.having, made.order]
+                 if part]
         part = self.random.choice(parts)
         place = self.random.randrange(len(part))
         chain = part[place]
@@ -355,7 +386,52 @@ def ordered(text):
         return text
     end = next((place for place, word in enumerate(words) if word in ("LIMIT", ";")), len(words))
     is_ordered = "ORDER" in words
-    grouped = words[words.index("GROUP") + 2:words.index("ORDER") if is_ordered else end]
+    stop = next((place for place, word in enumerate(words) if word in ("HAVING", "ORDER")), end)
+    grouped = words[words.index("GROUP") + 2:stop]
     keys = ", ".join(word for word in grouped if word != ",")
     place = tokens[end - 1].end()
     return f"{text[:place]}{',' if is_ordered else ' ORDER BY'} {keys}{text[place:]}"
+
+
+def averaged(text):
+    """The text for peers, with whole numbers in the place of averages; and the columns that are averages."""
+    tokens = tokens_of(text)
+    words = [match[0].upper() for match in tokens]
+    parts, at = [], 0
+    for place, match in enumerate(tokens):
+        if words[place] == "AVG" and words[place + 1:place + 2] == ["("]:
+            parts += [text[at:match.start()], AVERAGE]
+            at = match.end()
+        elif match[0].isdigit() and "HAVING" in words[:place] and is_of_average(words[:place]):
+            parts += [text[at:match.end()], " * 10000"]
+            at = match.end()
+    heads = words[:words.index("FROM")] if "FROM" in words else []
+    depth, columns, column = 0, set(), 0
+    for place, word in enumerate(heads):
+        depth += (word == "(") - (word == ")")
+        column += word == "," and depth == 0
+        columns |= {column} if word == "AVG" else set()
+    return "".join(parts) + text[at:], columns
+
+
+def is_of_average(words):
+    """Whether behind these words the number of a test of an average stands."""
+    while words and words[-1] in COMPARISONS + ["-"]:
+        words = words[:-1]
+    opened = len(words) - 1 - words[::-1].index("(") if words[-1:] == [")"] and "(" in words else 0
+    return words[opened - 1:opened] == ["AVG"]
+
+
+def average_of(total, lines):
+    """The average in ten-thousandths, halves away from 0, by exact fractions; none of no lines."""
+    if not lines:
+        return None
+    share = fractions.Fraction(abs(total), lines) * 10000
+    whole = math.floor(share + fractions.Fraction(1, 2))
+    return -whole if total < 0 else whole
+
+
+def average_text(count):
+    """Ten-thousandths as a report has them."""
+    sign = "-" if count < 0 else ""
+    return f"{sign}{abs(count) // 10000}.{abs(count) % 10000:04}"
