@@ -7,12 +7,13 @@ use crate::tests::trial::TrialDeed;
 use history_core::Response;
 use row_store::{Follower, Receipt, RefreshError};
 use ssb_answers::Answer;
-use ssb_clients::{Client, Server};
+use ssb_clients::{Client, LogReader, Server};
 use ssb_report::{write_answers, write_reply};
 use ssb_schema::Refresh;
 use ssb_text::WriteFault;
 use std::alloc::{AllocError, Global};
 use std::sync::{Arc, Wait};
+use std::test::Fail;
 use test_fixtures::{adding, asking, refresh};
 
 /// The last client, which leaves.
@@ -27,6 +28,13 @@ pub fn next_client<K: Follower + Drop>(
     let _ = server;
     clients.pop()
 }
+
+/// Lets go of a server, of its clients and of who reads its log.
+pub fn let_parts_go<K: Follower + Drop>(
+    _server: Server<K>,
+    _clients: Vec<Client<K>>,
+    _reader: Option<LogReader<K>>,
+) {}
 
 /// These clients, and one more.
 pub fn with_client<K: Follower + Drop>(
@@ -88,6 +96,24 @@ pub fn refreshes_quiet<R: Wait, K: Follower + Drop>(
 {
     let _ = client.number();
     client.refresh(rt, server, refresh)
+}
+
+/// A client that asks nothing adds the order of this key.
+pub fn adds_quiet<R: Wait, K: Follower + Drop>(
+    rt: &R,
+    alloc: Global,
+    server: &Server<K>,
+    client: &mut Client<K>,
+    key: u64,
+) -> Result<(), Fail>
+    requires { IsQuiet server.now client.old }
+    ensures { IsQuiet server.now client.new }
+{
+    let refresh = adding(alloc, key)?;
+    match refreshes_quiet(rt, server, client, refresh) {
+        Ok(_) => Ok(()),
+        Err(error) => Err(error)?,
+    }
 }
 
 // A refresh that withdraws the order of this key.

@@ -2,14 +2,13 @@
 ghost use Rattle.std.specs.Prelude.{◌≡◌, All, IfOk};
 ghost use Rattle.ssb_clients.specs.Tickets.{IsOf, IsQuiet};
 
-use crate::tests::clients::{next_client, refreshes_quiet, with_client};
-use crate::tests::opening::{next_dispatcher, opened, opened_keeping};
+use crate::tests::clients::{adds_quiet, next_client, with_client};
+use crate::tests::opening::{let_go, next_dispatcher, opened, opened_keeping};
 use crate::tests::trial::follows;
 use ssb_server::{Client, Closed, Dispatcher, EndsCopies, Keeps, Opened, Server};
 use std::alloc::{AllocError, Global};
 use std::sync::Wait;
 use std::test::Fail;
-use test_fixtures::adding;
 
 // These dispatchers, and one more.
 fn with_dispatcher<W: EndsCopies + Drop>(
@@ -44,7 +43,10 @@ pub fn closes<W: EndsCopies + Drop>(
     };
     match closing.close() {
         Ok(closed) => Ok(closed),
-        Err(_) => Err("not closed")?,
+        Err(error) => {
+            let_go(error.opened);
+            Err("not closed")?
+        }
     }
 }
 
@@ -133,13 +135,9 @@ fn adds_and_follows<R: Wait, W: Wait + Drop>(
     ensures client { IsQuiet server.now client.new }
     ensures dispatcher { IsOf server.now dispatcher.new }
 {
-    let refresh = adding(alloc, key)?;
-    let committed = refreshes_quiet(rt, server, client, refresh);
+    let added = adds_quiet(rt, alloc, server, client, key);
     follows(rt, server, dispatcher);
-    match committed {
-        Ok(_) => Ok(()),
-        Err(error) => Err(error)?,
-    }
+    added
 }
 
 // A client and a dispatcher of a server, who take two commits one after another: what is left when it is closed.

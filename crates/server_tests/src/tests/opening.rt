@@ -2,6 +2,7 @@
 ghost use Rattle.std.specs.Prelude.{All, IfOk, IfSome};
 ghost use Rattle.ssb_clients.specs.Tickets.{IsOf, IsQuiet};
 
+use crate::tests::clients::let_parts_go;
 use ssb_server::{Dispatcher, EndsCopies, Keeps, Loaded, OpenFault, Opened, Server, open};
 use std::hash::RandomState;
 use std::random::RandomSource;
@@ -48,6 +49,28 @@ pub fn opened_keeping<R: Threads + Sync + Wait + AllocGlobal + RandomSource>(
     }
 }
 
+/// Lets go of a server with all who have a token of it, part by part: the prover takes the whole's type long.
+pub fn let_go<W: EndsCopies + Drop>(made: Opened<W>) {
+    let Opened {
+        server,
+        clients,
+        dispatchers: _dispatchers,
+        reader,
+    } = made;
+    let_parts_go(server, clients, reader);
+}
+
+// Why no server was opened, where none was.
+fn fault_of<W: EndsCopies + Drop>(opened: Result<Opened<W>, OpenFault>) -> Option<OpenFault> {
+    match opened {
+        Ok(made) => {
+            let_go(made);
+            None
+        }
+        Err(fault) => Some(fault),
+    }
+}
+
 /// The last dispatcher, which leaves.
 pub fn next_dispatcher<W: EndsCopies + Drop>(
     server: &Server<W>,
@@ -72,7 +95,7 @@ fn counts_out_of_range_open_nothing(rt: HostRuntime) -> Result<(), Fail> {
     ] {
         let loaded = small_loaded(&rt)?;
         let opened = open(rt.alloc(), &rt, loaded, clients, dispatchers, Keeps::Recent);
-        assert_eq!(rt; opened.err().ok_or("opened")?, fault);
+        assert_eq!(rt; fault_of(opened).ok_or("opened")?, fault);
     }
     Ok(())
 }
