@@ -1,7 +1,6 @@
 -- What an export leaves.
 use Rattle.std.specs.Prelude.{◌≡◌, ◌⊎◌, ℕ, List, length, Option, None}
 use Rattle.export_command.specs.After.{tables_after}
-use Rattle.export_command.specs.Status.{export_status}
 use Rattle.export_command.specs.declared.fault.ExportRefusal.{ExportRefusal}
 use Rattle.export_command.specs.declared.fault.ExportRefusal.TheVariants as refusal
 use Rattle.journal.specs.Groups.{AreTorn}
@@ -165,8 +164,3 @@ pub record Exports (texts : Table → List ℕ) (known : Option (List ℕ)) (cal
   pub legal : IsLegal base commits
   pub filled : HasAll (base_texts (tables_after base commits)) calls
   pub read_back : AreReadBack (base_texts (tables_after base commits)) (tables_after base commits)
-
--- a fault of which the status is 1 tells this
-abbrev pub IsExportRefused : (Table → List ℕ) → Option (List ℕ) → Type 0 → Type 0 → Type 0
-IsExportRefused texts known Taken Missing =
-    (why : JobFault ExportRefusal) × (export_status why ≡ 1) × TellsExportFault texts known Taken Missing why

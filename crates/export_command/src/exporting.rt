@@ -3,7 +3,7 @@
 ghost use Rattle.std.specs.Prelude.{◌≡◌, ◌≢◌, ℕ, [], List, true, IfOk, IfErr, IfSome, IsSome, OnOk};
 ghost use Rattle.journal_opening.specs.Kept.{IsKnown};
 ghost use Rattle.export_command.specs.Exported.{Exports, IsExport, IsFillFault, IsFindFault, IsJournalRefusal};
-ghost use Rattle.export_command.specs.Exported.{IsExportRefused, LeftNoneOrExport, TellsExportFault};
+ghost use Rattle.export_command.specs.Exported.{LeftNoneOrExport, TellsExportFault};
 ghost use Rattle.export_command.specs.Standing.{Follows};
 ghost use Rattle.export_command.specs.Status.{export_status};
 ghost use Rattle.ssb_schema.specs.declared.table.Table.{Table};
@@ -320,9 +320,6 @@ pub fn run_export<
     ensures exported { IfSome result.folder (λ folder. (texts : Table → List ℕ) → AreRows I.remaining tables texts
         → Exports texts (P.holds place.now.journal.now) (calls_on folder)) }
     ensures filled { result.status ≡ 0 → IsSome result.folder }
-    ensures refused { result.status ≡ 1 → (texts : Table → List ℕ) → AreRows I.remaining tables texts
-        → IsExportRefused texts (P.holds place.now.journal.now) (P.is_taken place.now.journal.now)
-        (P.is_missing place.now.journal.now) }
     ensures others { result.status ≢ 0 → result.status ≢ 1 → result.status ≡ 4 }
 {
     match export(rt, hashing, tables, place, err) {

@@ -4,7 +4,3 @@ use Rattle.export_command.proofs.exporting.run_export.Goals as goal
 
 pub returns-in-Err-clause-filled : goal.returns-in-Err-clause-filled
 returns-in-Err-clause-filled g c = λ zero. absurd (export_told c.in-Err.fault (sym c.tell.ensures ∙ zero))
-
-pub returns-in-Err-clause-refused : goal.returns-in-Err-clause-refused
-returns-in-Err-clause-refused g c = λ one texts are.
-    (c.in-Err.fault, sym c.tell.ensures ∙ one, c.in-Err.ensures.fault texts are)
