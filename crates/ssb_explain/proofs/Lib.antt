@@ -1,3 +1,4 @@
 pub mod TextLaws
 pub mod SameLaws
+pub mod WordLaws
 pub mod JoinLaws

@@ -50,7 +50,7 @@ no_fault true (Some n) fault e = absurd cc
 no_fault false place fault e = absurd cc
 
 -- the kinds of the thirteen's constants
-abbrev kinds_of : Query → List ConstantKind
+abbrev pub kinds_of : Query → List ConstantKind
 kinds_of query = unwrap_or (constant_kinds query) []
 
 by_kinds : (kinds : Option (List ConstantKind)) (query : Query) (constants : List Value)
@@ -60,7 +60,7 @@ by_kinds : (kinds : Option (List ConstantKind)) (query : Query) (constants : Lis
 by_kinds None query constants fit place k at = grind arith
 by_kinds (Some kinds) query constants fit place k at = grind (arith, no_fault, nat_eq, nat_tests, fits_each, position_from-zero)
 
-at_place : (query : Query) (constants : List Value) → constants_fault query constants ≡ None
+pub at_place : (query : Query) (constants : List Value) → constants_fault query constants ≡ None
     → (place : ℕ) (k : ConstantKind) → slice_get (kinds_of query) place ≡ Some k
     → (v : Value) × (slice_get constants place ≡ Some v) × (fits k v ≡ true)
 at_place query constants fit = by_kinds (constant_kinds query) query constants fit

@@ -240,8 +240,8 @@ taken : (clauses : List Clause) → AllByRecursion IsWithinBounds clauses → St
 taken clauses all order = grind (arith, none_found, constant_of, length-map, stands)
 
 pub clauses_spelled : ClausesAreSpelled
+unfolding constant_of
 clauses_spelled clauses all order = (
-  map constant_of clauses,
   ap (option_map (λ place. BadConstant (place + 1))) (taken clauses all order),
   ap star_plan (clauses_back clauses all),
 )

@@ -84,9 +84,12 @@ pub record StandInOrder (clauses : List Clause) : Type 0 where
   pub each : (place : ℕ) (clause : Clause) → slice_get clauses place ≡ Some clause
       → may_stand_at place (map subject (take place clauses)) (Some (subject clause)) ≡ true
 
--- some constants spell such clauses: `star` takes them, and their plan is that of the clauses
+-- the constants that spell clauses
+abbrev pub spelling : List Clause → List Value
+spelling clauses = map (λ clause. Text (clause_text clause)) clauses
+
+-- `star` takes the constants that spell such clauses, and their plan is that of the clauses
 abbrev pub ClausesAreSpelled : Type 0
 ClausesAreSpelled =
     (clauses : List Clause) → AllByRecursion IsWithinBounds clauses → StandInOrder clauses
-    → (constants : List Value) × (constants_fault Star constants ≡ None)
-    × (star_plan_over constants ≡ star_plan clauses)
+    → (constants_fault Star (spelling clauses) ≡ None) × (star_plan_over (spelling clauses) ≡ star_plan clauses)
