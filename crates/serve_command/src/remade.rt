@@ -129,7 +129,7 @@ fn remake_next<W: Wait + Drop, R: Wait>(
 
 // Reads the next commits of a journal's file, if there are any, and has them made again. An `Err` hands the file back, as
 // far as it was read.
-fn read_next<'a, W: Wait + Drop, R: Wait, U: UnreadDisk + Drop>(
+fn read_next<'a, W: Wait + Drop, R: Wait + Threads + Sync, U: UnreadDisk + Drop>(
     rt: &R,
     alloc: Global,
     server: &Server<W>,
@@ -151,7 +151,7 @@ fn read_next<'a, W: Wait + Drop, R: Wait, U: UnreadDisk + Drop>(
         journal.entry.start journal.entry.path.now dispatchers (U.holds journal.entry.reader.unread) e.0) }
     ensures known_err { IfErr result (λ e. U.holds e.1 ≡ U.holds journal.entry.reader.unread) }
 {
-    let (journal, found) = match journal.next(alloc) {
+    let (journal, found) = match journal.next(rt, alloc) {
         Ok(next) => next,
         Err((fault, file)) => return Err((ServeRefusal::Journal(fault), file)),
     };
@@ -168,7 +168,7 @@ fn read_next<'a, W: Wait + Drop, R: Wait, U: UnreadDisk + Drop>(
 }
 
 // Reads a journal's file to its end, and has its commits made again. An `Err` hands the file back, as far as it was read.
-fn read_all<'a, W: Wait + Drop, R: Wait, U: UnreadDisk + Drop>(
+fn read_all<'a, W: Wait + Drop, R: Wait + Threads + Sync, U: UnreadDisk + Drop>(
     rt: &R,
     alloc: Global,
     server: &Server<W>,

@@ -114,7 +114,7 @@ module _ (texts : List (Vec ℕ Global)) (i : ℕ) (text : Vec ℕ Global) (insi
     spelled = so_far;
   }
 
-none_left : {A : Type 0} (xs : List A) → length xs ≤ 0 → xs ≡ []
+pub none_left : {A : Type 0} (xs : List A) → length xs ≤ 0 → xs ≡ []
 none_left [] few = refl
 none_left (x ∷ xs) few = absurd (omega arith)
 

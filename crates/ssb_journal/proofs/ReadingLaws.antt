@@ -5,7 +5,7 @@ use Rattle.std.specs.Prelude.{slice_get, Option, None, MatchOption}
 use Rattle.std.specs.List.{flat_map, AllZip}
 use Rattle.std.proofs.lemmas.Bool.{both_ways}
 use Rattle.std.proofs.lemmas.Grind.{flat_map-append}
-use Rattle.std.proofs.lemmas.List.{append-nil, get_or_at, length-map, map-append, map_push, take-append-drop, take_all, take_at}
+use Rattle.std.proofs.lemmas.List.{append-nil, get_or_at, length-map, map-append, take-append-drop, take_all, take_at}
 use Rattle.std.proofs.lemmas.Option.{get_or_from_slice_get, slice_get-get_or, slice_get_read, slice_get_within}
 use Rattle.std.proofs.Math.Seq.{get_or-append-add, take-append-add}
 use Rattle.journal.specs.Disk.{BeginsAsRead}
@@ -104,14 +104,14 @@ fault_told marks groups new more texts kept before count damaged file fault is o
     let sound = groups ++ map sealed texts in
     let number = before + count + 1 in
     let all : number ≡ length sound = omega (arith, many, last.1, length-append groups (map sealed texts), length-map texts sealed) in
-    let whole : recovered file ≡ sound ++ b.0 ∷ more =
-    has ∙ ap (λ (gs : List (List ℕ)). gs ++ more) (next.grown ∙ ap (λ (gs : List (List ℕ)). sound ++ gs) b.1) ∙ append_assoc sound (b.0 ∷ []) more in
+    let whole : recovered file ≡ sound ++ b.0 ∷ (b.1 ++ more) =
+    has ∙ ap (λ (gs : List (List ℕ)). gs ++ more) (next.grown ∙ ap (λ (gs : List (List ℕ)). sound ++ gs) b.2) ∙ append_assoc sound (b.0 ∷ b.1) more in
     inl (inl (subst (IsDamaged (recovered file)) (sym told) (record {
       group = b.0;
-      is = ap (λ (gs : List (List ℕ)). slice_get gs number) whole ∙ at_seam sound b.0 more number all;
-      damaged = b.2;
+      is = ap (λ (gs : List (List ℕ)). slice_get gs number) whole ∙ at_seam sound b.0 (b.1 ++ more) number all;
+      damaged = b.3;
       before = head_text kept.form marks ∷ (k.texts ++ texts);
-      sealed_before = ap (take number) whole ∙ take_at sound (b.0 ∷ more) number (sym all)
+      sealed_before = ap (take number) whole ∙ take_at sound (b.0 ∷ (b.1 ++ more)) number (sym all)
           ∙ sealed_more kept.form marks k.texts texts groups k.sealed;
     })))
 
@@ -283,21 +283,3 @@ few_texts groups new texts before count damaged next many within =
       length-map (lists texts) sealed,
       length-map texts (λ (v : Vec ℕ Global). v.items),
     )
-
--- one text more, and no damaged group
-pub next_one : (old was new : List (List ℕ)) (texts pushed : List (Vec ℕ Global)) (text : Vec ℕ Global) (group : List ℕ)
-    → was ≡ old ++ map sealed (lists texts) → new ≡ was ++ group ∷ [] → group ≡ sealed text.items → pushed ≡ texts ++ text ∷ []
-    → AreNext (lists pushed) false old new
-next_one old was new texts pushed text group was_is new_is sealed_is pushed_is =
-    let all : new ≡ old ++ map sealed (lists pushed) =
-    new_is ∙ ap (λ (g : List ℕ). was ++ g ∷ []) sealed_is ∙ ap (λ (gs : List (List ℕ)). gs ++ sealed text.items ∷ []) was_is
-    ∙ append_assoc old (map sealed (lists texts)) (sealed text.items ∷ [])
-    ∙ ap (λ (gs : List (List ℕ)). old ++ gs) (sym (map_push sealed (lists texts) text.items))
-    ∙ ap (λ (ts : List (List ℕ)). old ++ map sealed ts) (sym (map_push (λ (v : Vec ℕ Global). v.items) texts text))
-    ∙ ap (λ (ps : List (Vec ℕ Global)). old ++ map sealed (lists ps)) (sym pushed_is) in
-    record {
-      rest = [];
-      grown = all ∙ sym (append-nil (old ++ map sealed (lists pushed)));
-      whole = λ _. refl;
-      broken = λ is. absurd (both_ways false refl is);
-    }

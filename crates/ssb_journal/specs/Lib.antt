@@ -8,3 +8,4 @@ pub mod Counts
 pub mod Turns
 pub mod Reading
 pub mod Gathered
+pub mod Single

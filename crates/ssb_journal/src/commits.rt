@@ -1,18 +1,21 @@
 //! Commits as the text of a group, and back.
 ghost use Rattle.std.specs.Prelude.{◌≡◌, ◌≢◌, ◌+◌, ◌<◌, ◌≤◌, ◌++◌, true, length, take, IfOk, MatchOption, OnOk};
-ghost use Rattle.std.specs.List.{AllByRecursion};
+ghost use Rattle.std.specs.List.{AllByRecursion, AllZip};
 ghost use Rattle.journal.specs.Groups.{lists};
 ghost use Rattle.ssb_trace.specs.Allowed.{IsClient};
 ghost use Rattle.ssb_trace.specs.TraceText.{trace_text};
+ghost use Rattle.ssb_journal.specs.Gathered.{IsBatchOf};
 ghost use Rattle.ssb_journal.specs.Kept.{trace_of, SpellsBatch, SpellCommits, SpellsNoBatch, IsFirstNoBatch};
 ghost use Rattle.ssb_journal.specs.declared.fault.JournalFault.TheVariants.{Damaged};
 
+use rayon::prelude::*;
 use row_store::Commit;
 use ssb_audit::Trace;
 use ssb_schema::Items;
 use ssb_script::ScriptError;
 use ssb_trace::{commits_are_allowed, read_directly, read_trace, text_is_read_back, write_trace};
 use std::alloc::{AllocError, Global};
+use std::thread::Threads;
 
 /// The text of commits, as a trace has them. It spells them.
 pub(crate) fn text_of(alloc: Global, commits: Vec<Commit>) -> Result<Vec<u8>, AllocError>
@@ -56,8 +59,9 @@ fn batch_of_records(alloc: Global, text: &[u8]) -> Result<Option<Vec<Commit>>, A
     Ok(Some(trace.commits.into_vec()))
 }
 
-// The same, read directly off the text's bytes where nothing in them is odd.
-fn batch_of(alloc: Global, text: &[u8]) -> Result<Option<Vec<Commit>>, AllocError>
+/// The commits that a text spells; none where it spells no commits. It is read directly off its bytes where nothing in
+/// them is odd.
+pub(crate) fn batch_of(alloc: Global, text: &[u8]) -> Result<Option<Vec<Commit>>, AllocError>
     ensures { IfOk result (λ found. MatchOption found (SpellsNoBatch text.now)
         (λ batch. SpellsBatch text.now batch.items)) }
 {
@@ -76,8 +80,27 @@ fn push_all(commits: &mut Vec<Commit>, batch: Vec<Commit>) -> Result<(), AllocEr
     Ok(())
 }
 
-/// How many bytes of texts are read before their commits are handed on.
-pub(crate) const MOST_TOGETHER: usize = 65_536;
+/// How many bytes of texts are read before their commits are handed on: so many that threads are worth beginning.
+pub(crate) const MOST_TOGETHER: usize = 1_048_576;
+
+// The commits of each text, read by as many threads as there are processors.
+fn batches_of(
+    rt: &(impl Threads + Sync),
+    alloc: Global,
+    texts: &[Vec<u8>],
+) -> Result<Vec<Result<Option<Vec<Commit>>, AllocError>>, AllocError>
+    ensures { IfOk result (λ batches. AllZip (λ text batch. IsBatchOf text.items batch) texts.now batches.items) }
+{
+    texts
+        .par_iter()
+        .with_min_len(1)
+        .map(
+            |text: &Vec<u8>| -> Result<Option<Vec<Commit>>, AllocError>
+                ensures { IsBatchOf text.now.items result }
+            { batch_of(alloc, text) },
+        )
+        .collect(rt, alloc)
+}
 
 /// The commits of the first texts, so many of them.
 #[derive(Drop)]
@@ -86,8 +109,13 @@ pub(crate) struct SpelledTexts {
     pub(crate) commits: Vec<Commit>,
 }
 
-/// The commits that texts spell, up to the first text that spells none. The first text is that of group 1.
-pub(crate) fn commits_of(alloc: Global, texts: &[Vec<u8>]) -> Result<SpelledTexts, AllocError>
+/// The commits that texts spell, up to the first text that spells none. The first text is that of group 1. Threads read
+/// them, and one puts them in order.
+pub(crate) fn commits_of(
+    rt: &(impl Threads + Sync),
+    alloc: Global,
+    texts: &[Vec<u8>],
+) -> Result<SpelledTexts, AllocError>
     ensures within { IfOk result (λ spelled. spelled.count ≤ length texts.now) }
     ensures commits { IfOk result (λ spelled. SpellCommits (take spelled.count (lists texts.now))
         spelled.commits.items) }
@@ -95,20 +123,13 @@ pub(crate) fn commits_of(alloc: Global, texts: &[Vec<u8>]) -> Result<SpelledText
         → IsFirstNoBatch (lists texts.now) (Damaged (spelled.count + 1))) }
 {
     let mut commits = Vec::new(alloc);
-    for place in 0..texts.len() {
-        let batch = match batch_of(alloc, &texts[place])? {
-            Some(batch) => batch,
-            None => {
-                return Ok(SpelledTexts {
-                    count: place,
-                    commits,
-                });
-            },
+    let mut count = 0usize;
+    for batch in batches_of(rt, alloc, texts)? {
+        let Some(batch) = batch? else {
+            return Ok(SpelledTexts { count, commits });
         };
         push_all(&mut commits, batch)?;
+        count += 1;
     }
-    Ok(SpelledTexts {
-        count: texts.len(),
-        commits,
-    })
+    Ok(SpelledTexts { count, commits })
 }

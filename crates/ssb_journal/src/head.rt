@@ -44,8 +44,8 @@ impl HeadForm {
         }
     }
 
-    // The form of a text that begins as a head.
-    fn of(text: &[u8]) -> Option<HeadForm>
+    /// The form of a text that begins as a head.
+    pub(crate) fn of(text: &[u8]) -> Option<HeadForm>
         ensures { MatchOption result ((form : Form) → starts_with nat_eq text.now (title form) ≡ false)
             (λ form. starts_with nat_eq text.now (title form) ≡ true) }
     {
@@ -95,8 +95,8 @@ fn newer_form(text: &[u8]) -> Option<u64>
     }
 }
 
-// Why a text that begins as a head of no form that this program knows is none.
-fn title_fault(text: &[u8]) -> JournalFault
+/// Why a text that begins as a head of no form that this program knows is none.
+pub(crate) fn title_fault(text: &[u8]) -> JournalFault
     requires { (form : Form) → starts_with nat_eq text.now (title form) ≡ false }
     ensures { IsTitleFault text.now result }
 {

@@ -33,7 +33,7 @@
 //!
 //! ```text
 //! let mut reader = open(alloc, &marks, file)?;
-//! .. = reader.next(alloc)?;                                     // until none come; each time
+//! .. = reader.next(rt, alloc)?;                                 // until none come; each time
 //! replay(&mut store, &commits)?;
 //! let OpenedJournal { found, kept, torn } = reader.finish();
 //! let torn = keeper.keep_torn(torn)?;
@@ -57,6 +57,7 @@ mod opening;
 mod reading;
 mod replaying;
 mod shared_journal;
+mod single;
 mod source;
 mod texts;
 
@@ -71,4 +72,5 @@ pub use opening::{JournalOpenFault, OpenedJournal, begin};
 pub use reading::{JournalReader, open};
 pub use replaying::{ReplayFault, replay};
 pub use shared_journal::{JournalFailed, SharedJournal};
+pub use single::{commits_of_group, form_of_head};
 pub use source::LogSource;

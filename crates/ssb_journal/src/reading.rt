@@ -1,10 +1,11 @@
 //! The commits of a journal's file, one after another, as it is read.
+ghost use Rattle.std.specs.List.{AllZip};
 ghost use Rattle.std.specs.Prelude.{◌≡◌, ◌⊎◌, ◌+◌, ◌<◌, ◌≤◌, ◌^◌, ◌++◌, [], List, ℕ, true, false, length, take, IfOk, IfErr, IfSome, IsSome, IsErrOf, MatchOption};
 ghost use Rattle.journal.specs.Disk.{BeginsAsRead};
 ghost use Rattle.journal.specs.Groups.{recovered, behind, lists, AreTorn};
 ghost use Rattle.ssb_journal.specs.Heads.{head_text};
 ghost use Rattle.ssb_journal.specs.Kept.{BeginsWithCommits, IsFirstNoBatch, SpellCommits};
-ghost use Rattle.ssb_journal.specs.Gathered.{AreNext, IsFaultBehind, IsFirstGroupFault, IsOfNext};
+ghost use Rattle.ssb_journal.specs.Gathered.{AreNext, IsFaultBehind, IsFirstGroupFault, IsOfNext, IsTextOf};
 ghost use Rattle.ssb_journal.specs.Opening.{IsKept, TellsOpenFault};
 ghost use Rattle.ssb_journal.specs.Seals.{sealed};
 ghost use Rattle.ssb_journal.specs.Texts.{IsBeginning};
@@ -18,9 +19,11 @@ use crate::opening::{JournalOpenFault, OpenedJournal};
 use crate::texts::is_beginning;
 use ghost_list::GhostList;
 use journal::{DiskError, UnreadDisk, UnreadJournal};
+use rayon::prelude::*;
 use row_store::Commit;
-use std::alloc::Global;
+use std::alloc::{AllocError, Global};
 use std::marker::Model;
+use std::thread::Threads;
 
 /// A journal's file whose commits are read one after another. They are handed on and forgotten: memory holds a part of
 /// the file, and the commits that are read together. To a contract it is the file, the marks of its tables, how many
@@ -56,16 +59,89 @@ impl<'a, U: UnreadDisk> Model for JournalReader<'a, U> {
         (IsToldNext r.marks.now (U.taken r.groups.unread) (U.is_ended r.groups.unread) r.texts) };
 }
 
-// The texts of groups that were read together, and whether another one follows whose bytes are not those that were
-// written.
+// The next groups, so many as are read together; none at the end.
+fn next_groups<U: UnreadDisk>(
+    alloc: Global,
+    groups: &mut UnreadJournal<U>,
+) -> Result<Vec<Vec<u8>>, DiskError>
+    ensures next { IfOk result (λ next. groups.new.groups ≡ groups.old.groups ++ lists next.items) }
+    ensures end { IfOk result (λ next. next.items ≡ [] → groups.new.is_done ≡ true) }
+    ensures known { U.holds groups.new.unread ≡ U.holds groups.old.unread }
+    ensures later { U.faults groups.old.unread ≤ U.faults groups.new.unread }
+    ensures failed { IsErrOf result DiskError.Failed → U.faults groups.old.unread < U.faults groups.new.unread }
+    ensures full { IsErrOf result DiskError.Full → 2 ^ 60 ≤ length (U.taken groups.new.unread) }
+{
+    let mut next = Vec::new(alloc);
+    let mut bytes = 0usize;
+    loop {
+        let Some(group) = groups.next_group(alloc)? else {
+            return Ok(next);
+        };
+        groups.soundness();
+        bytes = bytes.saturating_add(group.len());
+        next.push(group)?;
+        if bytes >= MOST_TOGETHER {
+            return Ok(next);
+        }
+    }
+}
+
+// The texts of groups that were read together, up to the first whose bytes are not those that were written, and whether
+// there is such a one.
 #[derive(Drop)]
 struct NextTexts {
     texts: Vec<Vec<u8>>,
     is_damaged: bool,
 }
 
+// The text of each group, its checksum reckoned by as many threads as there are processors.
+fn texts_found(
+    rt: &(impl Threads + Sync),
+    alloc: Global,
+    groups: &[Vec<u8>],
+) -> Result<Vec<Result<Option<Vec<u8>>, AllocError>>, AllocError>
+    ensures { IfOk result (λ texts. AllZip (λ group text. IsTextOf group.items text) groups.now texts.items) }
+{
+    groups
+        .par_iter()
+        .with_min_len(1)
+        .map(
+            |group: &Vec<u8>| -> Result<Option<Vec<u8>>, AllocError>
+                ensures { IsTextOf group.now.items result }
+            { unseal(alloc, group) },
+        )
+        .collect(rt, alloc)
+}
+
+// The texts of groups.
+fn texts_of(
+    rt: &(impl Threads + Sync),
+    alloc: Global,
+    groups: &[Vec<u8>],
+) -> Result<NextTexts, AllocError>
+    ensures texts { IfOk result (λ next. (before : List (List ℕ))
+        → AreNext (lists next.texts.items) next.is_damaged before (before ++ lists groups.now)) }
+    ensures end { IfOk result (λ next. next.texts.items ≡ [] → next.is_damaged ≡ false → groups.now ≡ []) }
+{
+    let mut texts = Vec::new(alloc);
+    for text in texts_found(rt, alloc, groups)? {
+        let Some(text) = text? else {
+            return Ok(NextTexts {
+                texts,
+                is_damaged: true,
+            });
+        };
+        texts.push(text)?;
+    }
+    Ok(NextTexts {
+        texts,
+        is_damaged: false,
+    })
+}
+
 // The texts of the next groups, so many as are read together; none at the end.
 fn next_texts<U: UnreadDisk>(
+    rt: &(impl Threads + Sync),
     alloc: Global,
     groups: &mut UnreadJournal<U>,
 ) -> Result<NextTexts, DiskError>
@@ -77,33 +153,9 @@ fn next_texts<U: UnreadDisk>(
     ensures failed { IsErrOf result DiskError.Failed → U.faults groups.old.unread < U.faults groups.new.unread }
     ensures full { IsErrOf result DiskError.Full → 2 ^ 60 ≤ length (U.taken groups.new.unread) }
 {
-    let mut texts = Vec::new(alloc);
-    let mut bytes = 0usize;
-    loop {
-        let Some(group) = groups.next_group(alloc)? else {
-            return Ok(NextTexts {
-                texts,
-                is_damaged: false,
-            });
-        };
-        groups.soundness();
-        bytes = bytes.saturating_add(group.len());
-        match unseal(alloc, &group)? {
-            Some(text) => texts.push(text)?,
-            None => {
-                return Ok(NextTexts {
-                    texts,
-                    is_damaged: true,
-                });
-            },
-        }
-        if bytes >= MOST_TOGETHER {
-            return Ok(NextTexts {
-                texts,
-                is_damaged: false,
-            });
-        }
-    }
+    let next = next_groups(alloc, groups)?;
+    let texts = texts_of(rt, alloc, &next)?;
+    Ok(texts)
 }
 
 // The fault of the group behind the first of these texts, so many of them, where it was read. The texts come behind so
@@ -161,6 +213,7 @@ struct MoreCommits {
 
 // The commits of texts that were read together, behind so many others, up to the first fault.
 fn commits_more(
+    rt: &(impl Threads + Sync),
     alloc: Global,
     before: u64,
     next: &NextTexts,
@@ -179,7 +232,7 @@ fn commits_more(
     ensures fault { IfErr result (λ fault. (fault ≡ JournalFault.OutOfMemory)
         ⊎ IsFaultBehind before 0 (lists next.now.texts.items) next.now.is_damaged fault) }
 {
-    let SpelledTexts { count, commits } = commits_of(alloc, &next.texts)?;
+    let SpelledTexts { count, commits } = commits_of(rt, alloc, &next.texts)?;
     let fault = fault_behind(before, count, next);
     if count == 0 {
         if let Some(fault) = fault {
@@ -297,6 +350,7 @@ impl<'a, U: UnreadDisk> JournalReader<'a, U> {
     /// on. An `Err` hands the file back, as far as it was read.
     pub fn next(
         self,
+        rt: &(impl Threads + Sync),
         alloc: Global,
     ) -> Result<(JournalReader<'a, U>, Option<Vec<Commit>>), (JournalOpenFault, U)>
         ensures commits { IfOk result (λ next. MatchOption next.1
@@ -336,12 +390,12 @@ impl<'a, U: UnreadDisk> JournalReader<'a, U> {
             kept,
             fault: _,
         } = self;
-        let next = match next_texts(alloc, &mut groups) {
+        let next = match next_texts(rt, alloc, &mut groups) {
             Ok(next) => next,
             Err(error) => return Err((JournalOpenFault::Disk(error), groups.into_unread())),
         };
         groups.soundness();
-        let more = match commits_more(alloc, texts, &next, kept) {
+        let more = match commits_more(rt, alloc, texts, &next, kept) {
             Ok(more) => more,
             Err(fault) => return Err((JournalOpenFault::Journal(fault), groups.into_unread())),
         };

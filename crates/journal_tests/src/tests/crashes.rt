@@ -9,6 +9,7 @@ use ssb_journal::SharedJournal;
 use std::alloc::Global;
 use std::sync::Wait;
 use std::test::Fail;
+use std::thread::Threads;
 
 const SEEDS: u64 = 2;
 
@@ -17,9 +18,9 @@ const MANY_SEEDS: u64 = 100;
 const LIVES: usize = 60;
 
 // The disk after each commit of the run was told, one after another.
-fn disk_of_run(rt: &impl Wait, alloc: Global) -> Result<TearingDisk, Fail> {
+fn disk_of_run(rt: &(impl Wait + Threads + Sync), alloc: Global) -> Result<TearingDisk, Fail> {
     let refreshes = refreshes(alloc)?;
-    let shared = SharedJournal::new(new_log(alloc, &refreshes, None)?);
+    let shared = SharedJournal::new(new_log(rt, alloc, &refreshes, None)?);
     for number in 1..=COMMITS {
         shared.reach(rt, alloc, number as u64)?;
     }
@@ -38,7 +39,7 @@ fn what_was_told_comes_back(rt: HostRuntime) -> Result<(), Fail> {
         let told = A_LOOK * (calls / A_GROUP);
         let most = A_LOOK * ((calls + 1) / A_GROUP);
         for seed in 0..SEEDS {
-            let kept = kept_in(alloc, &disk.crashed(begun, seed)?)?;
+            let kept = kept_in(&rt, alloc, &disk.crashed(begun, seed)?)?;
             assert!(rt; kept == told || kept == most, "{begun} {seed} {kept}");
         }
     }
@@ -51,7 +52,7 @@ fn a_journal_that_is_being_made_is_opened_and_empty(rt: HostRuntime) -> Result<(
     let disk = disk_of_run(&rt, alloc)?;
     for begun in 0..NEW {
         for seed in 0..MANY_SEEDS {
-            let kept = kept_in(alloc, &disk.crashed(begun, seed)?)?;
+            let kept = kept_in(&rt, alloc, &disk.crashed(begun, seed)?)?;
             assert_eq!(rt; kept, 0, "{begun} {seed}");
         }
     }
@@ -65,10 +66,10 @@ fn a_mend_may_crash_too(rt: HostRuntime) -> Result<(), Fail> {
     // The step is odd, so that each of a group's calls is met.
     for begun in (0..=CALLS).step_by(5) {
         let file = disk.crashed(begun, 0)?;
-        let kept = kept_in(alloc, &file)?;
-        let mended = mended(alloc, &file)?.into_disk();
+        let kept = kept_in(&rt, alloc, &file)?;
+        let mended = mended(&rt, alloc, &file)?.into_disk();
         for again in 0..=mended.calls() {
-            let left = kept_in(alloc, &mended.crashed(again, 1)?)?;
+            let left = kept_in(&rt, alloc, &mended.crashed(again, 1)?)?;
             assert_eq!(rt; left, kept, "{begun} {again}");
         }
     }
@@ -87,10 +88,10 @@ fn a_journal_outlives_crash_after_crash(rt: HostRuntime) -> Result<(), Fail> {
         let Some(more) = refreshes.get(kept..next) else {
             return Err(Fail::from("more than the log has"));
         };
-        let disk = gone_on(alloc, &file, more)?;
+        let disk = gone_on(&rt, alloc, &file, more)?;
         let begun = life % disk.calls().saturating_add(1);
         file = disk.crashed(begun, life as u64)?;
-        let left = kept_in(alloc, &file)?;
+        let left = kept_in(&rt, alloc, &file)?;
         let is_told = begun == disk.calls();
         let is_opened = is_told || begun + 1 == disk.calls();
         assert!(rt;

@@ -9,15 +9,16 @@ use ssb_schema::Refresh;
 use std::alloc::Global;
 use std::sync::{Arc, Wait};
 use std::test::Fail;
+use std::thread::Threads;
 
 // How many commits are told, where each is asked for, whatever came of those before; and the disk that is handed back.
 fn run_refused(
-    rt: &impl Wait,
+    rt: &(impl Wait + Threads + Sync),
     alloc: Global,
     refreshes: &[Arc<Refresh>],
     refused: usize,
 ) -> Result<(usize, TearingDisk), Fail> {
-    let shared = SharedJournal::new(new_log(alloc, refreshes, Some(refused))?);
+    let shared = SharedJournal::new(new_log(rt, alloc, refreshes, Some(refused))?);
     let mut told = 0;
     for number in 1..=COMMITS {
         match shared.reach(rt, alloc, number as u64) {
@@ -55,7 +56,7 @@ fn what_was_told_before_a_refused_call_comes_back(rt: HostRuntime) -> Result<(),
         let told = A_LOOK * (calls / A_GROUP);
         let most = A_LOOK * ((calls + 2) / A_GROUP);
         let (_, disk) = run_refused(&rt, alloc, &refreshes, refused)?;
-        let kept = kept_in(alloc, &disk.crashed(disk.calls(), refused as u64)?)?;
+        let kept = kept_in(&rt, alloc, &disk.crashed(disk.calls(), refused as u64)?)?;
         assert!(rt; kept == told || kept == most, "{refused} {kept}");
     }
     Ok(())

@@ -20,6 +20,7 @@ use std::alloc::{AllocError, Global};
 use std::io;
 use std::sync::{Arc, Wait};
 use std::test::Fail;
+use std::thread::Threads;
 use test_fixtures::adding;
 
 // How many groups a run appends.
@@ -72,6 +73,7 @@ impl KeepsTorn for InMemory {
 
 // A file that was read to its end, as a journal over tables of these marks, and the commits that it keeps.
 fn read_all(
+    rt: &(impl Threads + Sync),
     alloc: Global,
     marks: &[TableMark],
     file: UnreadTearing,
@@ -86,7 +88,7 @@ fn read_all(
     };
     let mut commits = Vec::new(alloc);
     loop {
-        let Ok((next, found)) = reader.next(alloc) else {
+        let Ok((next, found)) = reader.next(rt, alloc) else {
             return Err(Fail::from("not read"));
         };
         reader = next;
@@ -99,13 +101,14 @@ fn read_all(
 
 // A new journal of no commits.
 fn new_journal(
+    rt: &(impl Threads + Sync),
     alloc: Global,
     marks: &[TableMark],
     refused: Option<usize>,
 ) -> Result<Journal<TearingDisk>, Fail>
     ensures { IfOk result (λ journal. KeepsFirst 0 [] (disk_bytes journal)) }
 {
-    let (opened, _) = read_all(alloc, marks, UnreadTearing::new(alloc, b"", refused)?)?;
+    let (opened, _) = read_all(rt, alloc, marks, UnreadTearing::new(alloc, b"", refused)?)?;
     let OpenedJournal { found, kept, torn } = opened;
     if !kept.is_new {
         return Err(Fail::from("not new"));
@@ -119,11 +122,12 @@ fn new_journal(
 
 /// A new journal beside a log. One call of its disk may be refused, the one before which there are so many.
 pub(crate) fn new_log<'a>(
+    rt: &(impl Threads + Sync),
     alloc: Global,
     refreshes: &'a [Arc<Refresh>],
     refused: Option<usize>,
 ) -> Result<JournaledLog<TearingDisk, OwnLog<'a>>, Fail> {
-    let journal = new_journal(alloc, &marks(), refused)?;
+    let journal = new_journal(rt, alloc, &marks(), refused)?;
     Ok(JournaledLog::new(journal, OwnLog::new(refreshes), 0))
 }
 
@@ -140,8 +144,12 @@ fn text_of_first(alloc: Global, commits: usize) -> Result<String, AllocError> {
 }
 
 /// How many commits a file keeps: it is opened again, and they are the first of the log.
-pub(crate) fn kept_in(alloc: Global, bytes: &[u8]) -> Result<usize, Fail> {
-    let (_, commits) = read_all(alloc, &marks(), UnreadTearing::new(alloc, bytes, None)?)?;
+pub(crate) fn kept_in(
+    rt: &(impl Threads + Sync),
+    alloc: Global,
+    bytes: &[u8],
+) -> Result<usize, Fail> {
+    let (_, commits) = read_all(rt, alloc, &marks(), UnreadTearing::new(alloc, bytes, None)?)?;
     let count = commits.len();
     let trace = Trace {
         commits: Items::from_vec(commits),
@@ -156,9 +164,13 @@ pub(crate) fn kept_in(alloc: Global, bytes: &[u8]) -> Result<usize, Fail> {
 }
 
 /// The journal of a file that is opened again.
-pub(crate) fn mended(alloc: Global, bytes: &[u8]) -> Result<Journal<TearingDisk>, Fail> {
+pub(crate) fn mended(
+    rt: &(impl Threads + Sync),
+    alloc: Global,
+    bytes: &[u8],
+) -> Result<Journal<TearingDisk>, Fail> {
     let marks = marks();
-    let (opened, _) = read_all(alloc, &marks, UnreadTearing::new(alloc, bytes, None)?)?;
+    let (opened, _) = read_all(rt, alloc, &marks, UnreadTearing::new(alloc, bytes, None)?)?;
     let OpenedJournal { found, kept, torn } = opened;
     let torn = InMemory.keep_torn(torn)?;
     match begin::<TearingDisk, InMemory>(alloc, &marks, found, kept.is_new, &torn) {
@@ -178,11 +190,12 @@ pub(crate) fn disk_left(
 
 /// The disk of a file that is opened again, to whose commits these are appended.
 pub(crate) fn gone_on(
+    rt: &(impl Threads + Sync),
     alloc: Global,
     bytes: &[u8],
     more: &[Arc<Refresh>],
 ) -> Result<TearingDisk, Fail> {
-    let journal = mended(alloc, bytes)?;
+    let journal = mended(rt, alloc, bytes)?;
     match append_commits(alloc, journal, own_commits(alloc, more)?) {
         Ok(journal) => Ok(journal.into_disk()),
         Err((error, _)) => Err(Fail::from(error)),

@@ -1,4 +1,4 @@
-use Rattle.std.proofs.Common.{◌∙◌, ap, subst, sym}
+use Rattle.std.proofs.Common.{◌∙◌, ap, subst, sym, rules}
 use Rattle.history.specs.Tokens.{new_clients, new_dispatchers}
 use Rattle.serve_command.proofs.BeginningLaws.{run_fault}
 use Rattle.serve_command.proofs.RemadeLaws.{at_same_log, new_at_log, not_opened, tells_nothing}
@@ -11,12 +11,15 @@ returns-in-Err-clause-fault g c =
     c.from.result (run_fault 16 c.args.dispatchers c.in-Err.fault c.from.result c.from.ensures c.in-Err.ensures.fault)
 
 pub read_all-requires : goal.read_all-requires
-read_all-requires g c =
-    let server = c.with_its_reader-server.ensures.server in
-    at_same_log _ _ c.args.journal.reader.commits _ _ _ (sym c.requires.none)
-    (new_at_log _ _ _ _
-    (c.with_its_reader-server.ensures.clients ∙ (c.in-Ok.ensures.clients ∙ ap new_clients (sym server)))
-    (c.with_its_reader-server.ensures.dispatchers ∙ (c.in-Ok.ensures.dispatchers ∙ ap new_dispatchers (sym server))))
+read_all-requires g c lifetimes =
+    let server = c.with_its_reader-server.ensures.server in (
+      search rules,
+      at_same_log _ _ c.args.journal.reader.commits _ _ _ (sym c.requires.none)
+          (new_at_log _ _ _ _
+          (c.with_its_reader-server.ensures.clients ∙ (c.in-Ok.ensures.clients ∙ ap new_clients (sym server)))
+          (c.with_its_reader-server.ensures.dispatchers
+          ∙ (c.in-Ok.ensures.dispatchers ∙ ap new_dispatchers (sym server)))),
+    )
 
 pub returns-in-Err-behind_file-clause-fault : goal.returns-in-Err-behind_file-clause-fault
 returns-in-Err-behind_file-clause-fault g c =

@@ -2,10 +2,10 @@ use Rattle.std.proofs.Common.{◌≡◌, ◌-◌, ◌^◌}
 use Rattle.journal_tests.proofs.tests.runs.read_all.Given as goal
 
 abbrev pub invariant-loop-next : goal.invariant-loop-next
-invariant-loop-next l = record {
+invariant-loop-next g l = record {
   marks : l.reader.marks ≡ l.marks;
   commits : l.commits.items ≡ l.reader.commits;
 }
 
 abbrev pub decreases-loop-next : goal.decreases-loop-next
-decreases-loop-next l = 2 ^ 60 - l.reader.texts
+decreases-loop-next g l = 2 ^ 60 - l.reader.texts
