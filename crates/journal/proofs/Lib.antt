@@ -5,3 +5,5 @@ mod StepLaws
 mod ReadingLaws
 mod PromiseLaws
 pub mod CallLaws
+pub mod GrowingLaws
+mod FollowingLaws

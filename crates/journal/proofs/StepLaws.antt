@@ -23,7 +23,7 @@ length-tail group = omega (arith, length-append (head (length group) ++ group) (
 pub short_told : (group : List ℕ) → length group ≤ 2 ^ 49 → IsTold group
 short_told group short = number-digits 15 (length group) (omega arith)
 
-tail_block : (group : List ℕ) → 49 ∷ tail group ≡ block group ++ 48 ∷ []
+pub tail_block : (group : List ℕ) → 49 ∷ tail group ≡ block group ++ 48 ∷ []
 unfolding block
 tail_block group = append_assoc (49 ∷ head (length group)) group (48 ∷ []) ∙ sym (append_assoc (49 ∷ head (length group)) group (48 ∷ []))
 

@@ -3,3 +3,4 @@ pub mod Disk
 pub mod Groups
 pub mod Reading
 pub mod Promises
+pub mod Growing

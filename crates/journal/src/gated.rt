@@ -4,7 +4,7 @@
 //! write of its own once what is behind it is on the disk.
 ghost use Rattle.std.specs.Prelude.{◌≡◌, ◌⊎◌, ◌+◌, ◌<◌, ◌≤◌, ◌^◌, ◌++◌, [], ◌∷◌, List, ℕ, length, IfOk, OnOk, OnErr, IsErrOf};
 ghost use Rattle.journal.specs.Disk.{Only, LeavesOnly};
-ghost use Rattle.journal.specs.Groups.{recovered, blocks, at_rest, behind_gate, IsSettled, IsBeforeOrAfter, IsMending, IsAppending};
+ghost use Rattle.journal.specs.Groups.{recovered, block, blocks, at_rest, behind_gate, IsSettled, IsBeforeOrAfter, IsMending, IsAppending};
 
 use crate::disk::{cut_through, write_through};
 use crate::groups::{CLOSED, OPEN, push_head};
@@ -31,6 +31,18 @@ pub fn behind_gate(alloc: Global, group: &[u8]) -> Result<Vec<u8>, AllocError>
     push_head(&mut bytes, group.len())?;
     bytes.extend_from_slice(group)?;
     bytes.push(CLOSED)?;
+    Ok(bytes)
+}
+
+/// A group behind an open gate and its head, as a reader finds it.
+#[tactic(auto, unfolding(crate::specs::Groups::block))]
+pub fn open_block(alloc: Global, group: &[u8]) -> Result<Vec<u8>, AllocError>
+    ensures { IfOk result (λ bytes. bytes.items ≡ block group.now) }
+{
+    let mut bytes = Vec::with_capacity(alloc, group.len().saturating_add(18))?;
+    bytes.push(OPEN)?;
+    push_head(&mut bytes, group.len())?;
+    bytes.extend_from_slice(group)?;
     Ok(bytes)
 }
 

@@ -25,6 +25,10 @@
 //! changes the file requires that no crash in the course of it breaks a promise (`specs/Promises`), so at no moment a
 //! crash leaves less than was promised until then, also in a run that is cut off or never ends.
 //!
+//! A file that another process writes is read without a lock ([`GrowingFile`]): a [`Followed`] takes its groups, each
+//! once and in order, and syncs it by a handle of its own before it hands one on (`specs/Growing`). What it finds is
+//! what the file stood for at some moment (`laws::slow_read_is_of_one_moment`).
+//!
 //! ```text
 //! let mut unread = UnreadJournal::new(alloc, file);
 //! while let Some(group) = unread.next_group(alloc)? {..}  // look at each before anything is written
@@ -36,16 +40,21 @@
 #![tactic(auto)]
 
 mod disk;
+mod followed;
 mod gated;
 mod groups;
+mod growing;
 mod journal;
+pub mod laws;
 mod reading;
 mod torn;
 mod unread;
 
 pub use disk::{Disk, DiskError};
-pub use gated::{MAX_GROUP, behind_gate};
+pub use followed::Followed;
+pub use gated::{MAX_GROUP, behind_gate, open_block};
 pub use groups::CLOSED;
+pub use growing::GrowingFile;
 pub use journal::{Found, Journal};
 pub use reading::UnreadJournal;
 pub use torn::KeepsTorn;

@@ -1,3 +1,4 @@
 pub mod FileDisk
 pub mod Missing
 pub mod Parts
+pub mod Watched

@@ -42,7 +42,7 @@ impl From<io::Error> for OpenError {
 
 impl OpenError {
     // Why the file of this path, which is not to be made, was not opened.
-    fn of_path(alloc: Global, path: &str, error: io::Error) -> OpenError
+    pub(crate) fn of_path(alloc: Global, path: &str, error: io::Error) -> OpenError
         ensures { NamesMissing path.now result }
     {
         if error.kind() != ErrorKind::NotFound {

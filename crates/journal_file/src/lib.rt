@@ -13,6 +13,11 @@
 //! After a call that fails, each further one on that file fails; the system may then still show bytes that the disk
 //! lacks, so restart the machine before the file is opened again.
 //!
+//! [`WatchedFile::open`] opens a file that another process may write, without a lock (`journal`'s `GrowingFile`). What a
+//! reader has to hold for true of it: one read goes front to back, and gives the bytes that stand there as it comes to
+//! them; a write of one byte is not torn to it; `sync_data` of its own handle puts on the disk what another process of
+//! the same machine wrote before.
+//!
 //! [`keep_torn`] puts the bytes that a mend will cut off behind those of a file beside the journal, and gives evidence
 //! of it: a [`TornFile`], for a mend takes what is made of one (`journal`'s `KeepsTorn`).
 //!
@@ -30,7 +35,9 @@ mod file_disk;
 mod no_journal;
 mod torn;
 mod transcript;
+mod watched_file;
 
 pub use file_disk::{FileDisk, JournalFile, OpenError, UnreadFile, find_journal, sync_name};
 pub use no_journal::NoJournal;
 pub use torn::{TornFile, keep_torn, torn_path};
+pub use watched_file::{ReadPart, WatchedFile};
