@@ -1,6 +1,7 @@
 //! Which words there are, as clap takes them.
 
 use crate::help::{AUDIT_HELP, CHANGES_HELP, EXPORT_HELP, QUERY_HELP, RUN_HELP, SERVE_HELP};
+use crate::ship::ship_command;
 use clap::builder::ValueParser;
 use clap::{Arg, ArgAction, Command, value_parser};
 use std::alloc::{AllocError, Global};
@@ -42,8 +43,8 @@ fn heads_argument<'a>(alloc: Global) -> Result<Arg<'a>, AllocError> {
     .requires_arg("data")
 }
 
-// A word that is there or is not.
-fn flag<'a>(alloc: Global, name: &'a str, help: &'a str) -> Arg<'a> {
+/// A word that is there or is not.
+pub(crate) fn flag<'a>(alloc: Global, name: &'a str, help: &'a str) -> Arg<'a> {
     Arg::new(alloc, name)
         .long(name)
         .help(help)
@@ -64,23 +65,33 @@ fn quiet_argument<'a>(alloc: Global) -> Arg<'a> {
     )
 }
 
-// A command that also takes what is told of its work: whether nothing is shown while the data is read, and whether
-// help stands below a fault.
-fn with_telling<'a>(alloc: Global, command: Command<'a>) -> Result<Command<'a>, AllocError> {
+/// A command that also takes whether help stands below a fault.
+pub(crate) fn with_hints<'a>(
+    alloc: Global,
+    command: Command<'a>,
+) -> Result<Command<'a>, AllocError> {
     let hints = flag(
         alloc,
         "hints",
         "Says below a fault what to do about it; without it, this is said at a terminal only",
     );
     let no_hints = flag(alloc, "no-hints", "Says nothing below a fault").conflicts_with("hints")?;
-    command
-        .arg(quiet_argument(alloc))?
-        .arg(hints)?
-        .arg(no_hints)
+    command.arg(hints)?.arg(no_hints)
 }
 
-// A word with a path behind it.
-fn path_argument<'a>(alloc: Global, name: &'a str, value_name: &'a str, help: &'a str) -> Arg<'a> {
+// A command that also takes what is told of its work: whether nothing is shown while the data is read, and whether
+// help stands below a fault.
+fn with_telling<'a>(alloc: Global, command: Command<'a>) -> Result<Command<'a>, AllocError> {
+    with_hints(alloc, command.arg(quiet_argument(alloc))?)
+}
+
+/// A word with a path behind it.
+pub(crate) fn path_argument<'a>(
+    alloc: Global,
+    name: &'a str,
+    value_name: &'a str,
+    help: &'a str,
+) -> Arg<'a> {
     Arg::new(alloc, name)
         .long(name)
         .value_name(value_name)
@@ -470,5 +481,6 @@ pub fn command<'a>(alloc: Global, explains: bool) -> Result<Command<'a>, AllocEr
         .subcommand(serve_command(alloc)?)?
         .subcommand(audit_command(alloc)?)?
         .subcommand(export_command(alloc)?)?
-        .subcommand(changes_command(alloc)?)
+        .subcommand(changes_command(alloc)?)?
+        .subcommand(ship_command(alloc)?)
 }

@@ -2,6 +2,7 @@
 
 use crate::grammar::{command, width_of};
 use crate::notice::Notice;
+use crate::ship::{ShipWords, ship_words};
 use clap::ArgMatches;
 use clap::error::ErrorKind;
 use ssb_explain::{ReadLines, SqlTarget, System};
@@ -30,6 +31,8 @@ pub enum Job<'a> {
     Export(ExportWords<'a>),
     /// What a journal's commits changed.
     Changes(ChangesWords<'a>),
+    /// A journal's groups, as they come.
+    Ship(ShipWords<'a>),
 }
 
 /// How answers are written.
@@ -211,12 +214,13 @@ impl<'a> Job<'a> {
             Job::Audit(words) => words.hints,
             Job::Export(words) => words.hints,
             Job::Changes(words) => words.hints,
+            Job::Ship(words) => words.hints,
         }
     }
 }
 
-// The word of this argument, or an empty one.
-fn word_of<'a>(matches: &ArgMatches<'a>, id: &str) -> &'a str {
+/// The word of this argument, or an empty one.
+pub(crate) fn word_of<'a>(matches: &ArgMatches<'a>, id: &str) -> &'a str {
     matches.get_str(id).unwrap_or("")
 }
 
@@ -229,8 +233,8 @@ fn words_of<'a>(
     matches.get_strs(id).unwrap_or(&[]).to_vec(alloc)
 }
 
-// What the words say of help below a fault.
-fn hints_of(matches: &ArgMatches<'_>) -> HintsWord {
+/// What the words say of help below a fault.
+pub(crate) fn hints_of(matches: &ArgMatches<'_>) -> HintsWord {
     if matches.get_flag("hints") {
         HintsWord::Asked
     } else if matches.get_flag("no-hints") {
@@ -463,6 +467,7 @@ pub fn job_of<'a>(
         Some(("audit", words)) => Job::Audit(audit_words(alloc, words)?),
         Some(("export", words)) => Job::Export(export_words(alloc, words)?),
         Some(("changes", words)) => Job::Changes(changes_words(alloc, words)?),
+        Some(("ship", words)) => Job::Ship(ship_words(words)),
         Some((_, words)) => query_job(alloc, words, columns)?,
         None => Job::Script,
     })

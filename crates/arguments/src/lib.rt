@@ -1,7 +1,7 @@
 //! The words of the program's command line, and what they ask for.
 //!
 //! ```text
-//! words ── job_of ─┬─ Job: query, run, serve, audit, export, changes, each with its words; or none: a script
+//! words ── job_of ─┬─ Job: query, run, serve, audit, export, changes, ship, each with its words; or none: a script
 //!                  └─ Notice: help, the version, or why the words are wrong
 //! ```
 //!
@@ -20,6 +20,7 @@ mod grammar;
 mod help;
 mod job;
 mod notice;
+mod ship;
 
 pub use help::{REFRESH_HELP, STAR_HELP, TERMINAL_HELP};
 pub use job::{
@@ -27,3 +28,4 @@ pub use job::{
     QueryWords, RunWords, ServeWords, StandingWord, StartWord, job_of,
 };
 pub use notice::Notice;
+pub use ship::ShipWords;

@@ -104,7 +104,7 @@ pub fn changes<
         marks: &marks,
         file,
     };
-    match write_history(alloc, hashing, source, place.start, out) {
+    match write_history(rt, alloc, hashing, source, place.start, out) {
         Ok(read) => {
             hand_on(out)?;
             tell_read(err, &read, place.tells);

@@ -3,18 +3,9 @@
 ghost use Rattle.std.specs.Prelude.{◌≡◌};
 ghost use Rattle.changes_command.specs.Status.{refusal_status};
 
-use journal_opening::OpeningFault;
+use journal_opening::{NoSuchCommit, OpeningFault};
 use ssb_files::{Finding, JobFault};
 use std::fmt;
-use thiserror::Error;
-
-/// A journal has fewer commits. Its text is its number, its name and its value.
-#[derive(Clone, Copy, Debug, PartialEq, Eq, Error)]
-#[error("69 NoSuchCommit {number}")]
-pub struct NoSuchCommit {
-    /// So many come before those that are asked for.
-    pub number: u64,
-}
 
 /// Why changes were not written.
 #[derive(Debug, Drop)]

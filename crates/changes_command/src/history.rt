@@ -11,11 +11,11 @@ ghost use Rattle.changes_command.specs.Signed.{asked_of, changes_behind, changes
 ghost use Rattle.changes_command.specs.Written.{IsCommitsFault, IsFileRefusal, IsTooFar, IsWritten, Reaches};
 
 use crate::fault::ChangesRefusal::Journal;
-use crate::fault::{ChangesFault, ChangesRefusal, NoSuchCommit};
+use crate::fault::{ChangesFault, ChangesRefusal};
 use crate::signed::{ChangesStart, Sign};
 use crate::writing::{write_commit, write_lines};
 use journal::{Disk, Found as FoundFile, UnreadDisk};
-use journal_opening::OpeningFault;
+use journal_opening::{NoSuchCommit, OpeningFault};
 use row_store::{Commit, RowStore};
 use ssb_base::Base;
 use ssb_files::Fault;
@@ -27,6 +27,7 @@ use std::alloc::Global;
 use std::hash::RandomState;
 use std::io::Write;
 use std::sync::Arc;
+use std::thread::Threads;
 
 /// Loaded tables, and a journal's file over them, of which nothing was read.
 #[derive(Drop)]
@@ -118,6 +119,7 @@ fn write_commits<W: Write>(
 
 // The same of all commits of a journal's file, as that is read; they are forgotten.
 fn write_all<'a, U: UnreadDisk + Drop, W: Write>(
+    rt: &(impl Threads + Sync),
     alloc: Global,
     out: &mut W,
     start: ChangesStart,
@@ -136,7 +138,7 @@ fn write_all<'a, U: UnreadDisk + Drop, W: Write>(
 {
     let mut journal = journal;
     loop {
-        let (next, found) = match journal.next(alloc) {
+        let (next, found) = match journal.next(rt, alloc) {
             Ok(next) => next,
             Err((fault, _)) => return Err(Found(Journal(OpeningFault::Kept(fault)))),
         };
@@ -167,6 +169,7 @@ fn check_reaches(start: ChangesStart, commits: u64) -> Result<(), ChangesFault>
 /// piece of a line is one `write`, so a caller buffers. The commits are made again over the tables, and forgotten: they
 /// take no memory. Of two faults the first in the file is told; what commits before it change was written.
 pub fn write_history<'a, U: UnreadDisk + Drop, W: Write>(
+    rt: &(impl Threads + Sync),
     alloc: Global,
     hashing: RandomState,
     source: ChangesSource<'a, U>,
@@ -187,7 +190,7 @@ pub fn write_history<'a, U: UnreadDisk + Drop, W: Write>(
     };
     write_loaded(out, start, base.lines())?;
     let mut store = RowStore::new(alloc, base, hashing)?;
-    let journal = write_all(alloc, out, start, &mut store, journal)?;
+    let journal = write_all(rt, alloc, out, start, &mut store, journal)?;
     store.soundness();
     let OpenedJournal { found, kept, torn } = journal.finish();
     check_reaches(start, kept.count)?;

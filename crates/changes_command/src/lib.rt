@@ -34,7 +34,7 @@ mod signed;
 mod writing;
 
 pub use changing::{ChangesPlace, changes, run_changes};
-pub use fault::{ChangesFault, ChangesRefusal, NoSuchCommit};
+pub use fault::{ChangesFault, ChangesRefusal};
 pub use history::{ChangesSource, ReadHistory, write_history};
 pub use laws::signs_add_up;
 pub use signed::{ChangesStart, Sign};

@@ -7,6 +7,7 @@ use crate::job_help::{tell_help, tell_notes};
 use crate::metrics::{MetricsFile, push_metrics};
 use crate::named_journal::NamedJournal;
 use crate::querying::{AskedWords, answer_query, explain_query, statements_on};
+use crate::shipping::ship_journal;
 use crate::streams::{Streams, tell};
 use crate::terminal_view::TerminalView;
 use crate::{job_help, named_journal, pipes};
@@ -538,6 +539,7 @@ where
         Job::Audit(words) => check_trace(rt, files, words, terminal, &mut output, err),
         Job::Export(words) => export_tables(rt, files, words, terminal, err),
         Job::Changes(words) => write_changes(rt, files, words, &mut output, err),
+        Job::Ship(words) => Ok(ship_journal(rt, files, words, &mut output, err)),
     }
 }
 

@@ -81,6 +81,10 @@ fn named_by<'a>(job: &'a Job<'_>) -> Named<'a> {
             journal: Some(words.journal),
             ..nothing
         },
+        Job::Ship(words) => Named {
+            journal: Some(words.journal),
+            ..nothing
+        },
     }
 }
 

@@ -3,12 +3,13 @@
 //! ```text
 //! system ── words ─▶ words ── run_command_line ─┬─ query, run or none, ──────▶ query_command, run_command,
 //!                             over arguments    │  audit, serve, export,         audit_command, serve_command,
-//!                                               │  changes                       export_command, changes_command
+//!                                               │  changes, ship                 export_command, changes_command,
+//!                                               │                                ship_command
 //!                                               ├─ help, version, wrong words ─▶ a text and a status
 //!                                               └─ a job's fault ── ssb_hints ─▶ help below its line
 //! ```
 //!
-//! It promises no more than safety: what the jobs write is in the contracts of those six libraries, and what is written
+//! It promises no more than safety: what the jobs write is in the contracts of those seven libraries, and what is written
 //! for which words is shown by the cases of the program `cases`.
 //!
 //! ```text
@@ -29,6 +30,7 @@ mod metrics;
 mod named_journal;
 mod pipes;
 mod querying;
+mod shipping;
 mod streams;
 mod terminal_view;
 

@@ -10,7 +10,7 @@ use std::rt::Files;
 // The folder whose tables a job loads, unless it shows nothing meanwhile.
 fn loaded_folder<'a>(job: &Job<'a>) -> Option<&'a str> {
     let (folder, quiet) = match job {
-        Job::Script => return None,
+        Job::Script | Job::Ship(_) => return None,
         Job::Query(words) => (words.data, words.quiet),
         Job::Explain(words) => (words.data?, words.quiet),
         Job::Run(words) => (words.data, words.quiet),

@@ -7,4 +7,3 @@ pub mod FollowLaws
 pub mod NextLaws
 pub mod StepLaws
 pub mod ExportLaws
-pub mod StatusLaws

@@ -1,6 +1,6 @@
 //! `export`: the tables after a journal's commits, into a folder.
 
-ghost use Rattle.std.specs.Prelude.{◌≡◌, ◌≢◌, ℕ, [], List, true, IfOk, IfErr, IfSome, IsSome, OnOk};
+ghost use Rattle.std.specs.Prelude.{◌≡◌, ◌≢◌, ℕ, [], List, true, IfOk, IfErr, MatchResult, OnOk};
 ghost use Rattle.journal_opening.specs.Kept.{IsKnown};
 ghost use Rattle.export_command.specs.Exported.{Exports, IsExport, IsFillFault, IsFindFault, IsJournalRefusal};
 ghost use Rattle.export_command.specs.Exported.{LeftNoneOrExport, TellsExportFault};
@@ -82,6 +82,7 @@ impl<'a, D: Disk> Model for JournalTables<'a, D> {
 
 // Makes the commits of a journal's file again, as that is read, and forgets them but for the orders that stand.
 fn replay_all<'a, U: UnreadDisk + Drop>(
+    rt: &(impl Threads + Sync),
     alloc: Global,
     store: &mut RowStore,
     orders: &mut StandingOrders,
@@ -98,7 +99,7 @@ fn replay_all<'a, U: UnreadDisk + Drop>(
 {
     let mut journal = journal;
     loop {
-        let (next, found) = match journal.next(alloc) {
+        let (next, found) = match journal.next(rt, alloc) {
             Ok(next) => next,
             Err((fault, _)) => return Err(Found(Journal(OpeningFault::Kept(fault)))),
         };
@@ -119,6 +120,7 @@ fn replay_all<'a, U: UnreadDisk + Drop>(
 /// The tables after the commits of a journal's file, which are applied as that is read. Of two faults the first in the
 /// file is told. Nothing is written.
 pub fn read_journal<'a, U: UnreadDisk + Drop>(
+    rt: &(impl Threads + Sync),
     alloc: Global,
     hashing: RandomState,
     source: ExportSource<'a, U>,
@@ -138,7 +140,7 @@ pub fn read_journal<'a, U: UnreadDisk + Drop>(
     let shared = Arc::try_clone(&base)?;
     let mut store = RowStore::new(alloc, shared, hashing)?;
     let mut orders = StandingOrders::new(alloc, hashing);
-    let journal = match replay_all(alloc, &mut store, &mut orders, journal) {
+    let journal = match replay_all(rt, alloc, &mut store, &mut orders, journal) {
         Ok(journal) => journal,
         Err(fault) => return Err(fault),
     };
@@ -280,7 +282,7 @@ pub fn export<
         marks: &marks,
         file,
     };
-    let read = match read_journal(alloc, hashing, source) {
+    let read = match read_journal(rt, alloc, hashing, source) {
         Ok(read) => read,
         Err(fault) => return Err(fault),
     };
@@ -290,13 +292,13 @@ pub fn export<
     }
 }
 
-/// How an export ended.
+/// How an export ended, and the exit status that says so.
 #[derive(Drop)]
 pub struct ExportEnd<'a, F: Files> {
-    /// The exit status.
+    /// 0 where the folder has all tables, and else the fault's.
     pub status: u8,
-    /// The folder, where it has all tables.
-    pub folder: Option<FilesFolder<'a, F>>,
+    /// The folder, where it has all tables; else why not.
+    pub ended: Result<FilesFolder<'a, F>, ExportFault>,
 }
 
 /// Exports the tables, as `export` does, and tells a fault on a line of `err`.
@@ -317,19 +319,19 @@ pub fn run_export<
     place: &ExportPlace<'a, F, P>,
     err: &mut E,
 ) -> ExportEnd<'a, F>
-    ensures exported { IfSome result.folder (λ folder. (texts : Table → List ℕ) → AreRows I.remaining tables texts
+    ensures exported { IfOk result.ended (λ folder. (texts : Table → List ℕ) → AreRows I.remaining tables texts
         → Exports texts (P.holds place.now.journal.now) (calls_on folder)) }
-    ensures filled { result.status ≡ 0 → IsSome result.folder }
+    ensures fault { IfErr result.ended (λ fault. (texts : Table → List ℕ) → AreRows I.remaining tables texts
+        → TellsExportFault texts (P.holds place.now.journal.now) (P.is_taken place.now.journal.now)
+        (P.is_missing place.now.journal.now) fault) }
+    ensures status { MatchResult result.ended (λ folder. result.status ≡ 0)
+        (λ fault. result.status ≡ export_status fault) }
     ensures others { result.status ≢ 0 → result.status ≢ 1 → result.status ≡ 4 }
 {
-    match export(rt, hashing, tables, place, err) {
-        Ok(folder) => ExportEnd {
-            status: 0,
-            folder: Some(folder),
-        },
-        Err(fault) => ExportEnd {
-            status: fault.tell(err),
-            folder: None,
-        },
-    }
+    let ended = export(rt, hashing, tables, place, err);
+    let status = match &ended {
+        Ok(_) => 0,
+        Err(fault) => fault.tell(err),
+    };
+    ExportEnd { status, ended }
 }

@@ -20,7 +20,7 @@
 //! folder that it hands back has the texts of the tables after the commits of the file, which spell these tables.
 //!
 //! ```text
-//! let read = read_journal(alloc, hashing, ExportSource { base, marks: &marks, file })?;
+//! let read = read_journal(rt, alloc, hashing, ExportSource { base, marks: &marks, file })?;
 //! export_into(alloc, read, &mut folder, &mut err, true)?;      // ssb_live: journal: 1204 commits
 //! ```
 #![tactic(auto)]

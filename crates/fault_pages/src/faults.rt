@@ -1,9 +1,9 @@
 //! Every fault that has a number, with the values that the page's words in capitals stand for.
 
 use crate::help::push_help;
-use changes_command::NoSuchCommit;
 use export_command::NotEmpty;
 use journal_file::{NoJournal, OpenError};
+use journal_opening::NoSuchCommit;
 use query_command::{BoardLineFault, NoReports};
 use row_store::Cause;
 use server_figures::NotMetrics;

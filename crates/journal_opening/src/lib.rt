@@ -17,7 +17,7 @@
 //! ```text
 //! let marks = table_marks(&base, layout, &bytes, &checksums);
 //! let mut started = StartedJournal::open(alloc, &marks, place.start(), place.path(), file)?;
-//! loop { match started.next(alloc) { .. } }              // until there are no more commits
+//! loop { match started.next(rt, alloc) { .. } }              // until there are no more commits
 //! let OpenedJournal { found, kept, torn } = started.finish();
 //! ```
 #![tactic(auto)]
@@ -25,6 +25,7 @@
 mod fault;
 mod form;
 mod marks;
+mod no_such_commit;
 mod opened;
 mod opens;
 mod start;
@@ -32,6 +33,7 @@ mod start;
 pub use fault::OpeningFault;
 pub use form::tell_form;
 pub use marks::table_marks;
+pub use no_such_commit::NoSuchCommit;
 pub use opened::StartedJournal;
 pub use opens::{JournalPath, OpensJournal, ReadPath};
 pub use start::JournalStart;

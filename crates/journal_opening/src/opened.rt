@@ -15,6 +15,7 @@ use journal::UnreadDisk;
 use row_store::Commit;
 use ssb_journal::{JournalFault, JournalOpenFault, JournalReader, OpenedJournal, TableMark, open};
 use std::alloc::Global;
+use std::thread::Threads;
 
 // A journal is to begin, and cannot with the file of this path.
 fn has_bytes(alloc: Global, path: &str) -> OpeningFault
@@ -99,6 +100,7 @@ impl<'a, U: UnreadDisk> StartedJournal<'a, U> {
     /// the file is told, and an `Err` hands the file back, as far as it was read.
     pub fn next(
         self,
+        rt: &(impl Threads + Sync),
         alloc: Global,
     ) -> Result<(StartedJournal<'a, U>, Option<Vec<Commit>>), (OpeningFault, U)>
         ensures commits { IfOk result (λ next. MatchOption next.1
@@ -125,7 +127,7 @@ impl<'a, U: UnreadDisk> StartedJournal<'a, U> {
             start,
             path,
         } = self;
-        let (reader, found) = match reader.next(alloc) {
+        let (reader, found) = match reader.next(rt, alloc) {
             Ok(next) => next,
             Err((fault, file)) => return Err((start_fault(alloc, start, path, fault), file)),
         };

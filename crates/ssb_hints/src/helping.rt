@@ -34,7 +34,7 @@ fn path_of<'a>(named: &Named<'a>, subject: &str) -> Option<&'a str> {
         "board" => named.board,
         "standing" => named.standing,
         "trace" => named.trace,
-        "journal" | "changes" => named.journal,
+        "journal" | "changes" | "ship" => named.journal,
         _ => script_of(named, subject.strip_prefix("script ")?),
     }
 }
@@ -60,7 +60,7 @@ fn help_with_numbered<F: Files, E: Write>(
         "board" => help_with_board(files, path, words, err),
         "standing" => help_with_standing(files, path, words, err),
         "trace" => help_with_trace(files, path, words, err),
-        "journal" | "changes" => help_with_journal(files, path, words, err),
+        "journal" | "changes" | "ship" => help_with_journal(files, path, words, err),
         _ => help_with_script_file(files, path, words, err),
     }
 }

@@ -7,9 +7,10 @@
 //! live server each, and `ssb_live audit --data DIR TRACE` checks the trace that such a run left. `ssb_live serve
 //! --data DIR` serves clients as their requests come, over standard input and output or named pipes. `ssb_live export
 //! --data DIR --journal FILE --to FOLDER` writes the tables as they are after a journal's commits, and `ssb_live changes
-//! --data DIR --journal FILE` what each of them changed. The work is done by the libraries `run_command`,
-//! `query_command`, `audit_command`, `serve_command`, `export_command` and `changes_command`, whose contracts name the
-//! bytes that they write; the library `command_line` finds what the words ask, and this file ends with a status.
+//! --data DIR --journal FILE` what each of them changed. `ssb_live ship --journal FILE` writes the journal's groups as
+//! they come. The work is done by the libraries `run_command`, `query_command`, `audit_command`, `serve_command`,
+//! `export_command`, `changes_command` and `ship_command`, whose contracts name the bytes that they write; the library
+//! `command_line` finds what the words ask, and this file ends with a status.
 #![tactic(auto)]
 
 use command_line::{Streams, columns, run_command_line, words};

@@ -30,7 +30,7 @@ returns-in_err-store-clause-fault g c =
     common.OutOfMemory refl)
 
 pub replay_all-requires-clause-orders : goal.replay_all-requires-clause-orders
-replay_all-requires-clause-orders g c =
+replay_all-requires-clause-orders g c lifetimes within =
     subst (λ (store : Warehouse). Follows store.base store.log c.new-orders.result) (sym c.in_ok-store.ensures)
     (c.new-orders.ensures c.in_ok-shared.shared.value)
 

@@ -1,0 +1,4 @@
+pub mod Stream
+pub mod Taken
+pub mod Shipped
+pub mod Status
