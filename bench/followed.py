@@ -2,13 +2,14 @@
 and journals that are not whole."""
 import hashlib
 import itertools
+import os
 import shlex
 import shutil
 import subprocess
 import sys
 import time
 
-from common import HERE, journal_words, make_tables
+from common import HERE, LIVE, journal_words, make_tables
 from full import limit_files
 from journals import HEAD_BYTES, JournalReader, groups_of
 from judge import Disagreement
@@ -22,7 +23,7 @@ COMMITS = 6             # of the first server that `forks` begins with
 TORN = b" 000000000009000\n" + 2000 * b"x"     # a beginning of a group
 FIRST_KEY = 10**13      # of the orders that are added there
 OWN_KEY = 2 * 10**13    # .. of those that only a second has
-CASES = []              # of `forks`, in their order
+CASES, SHIPPED = [], [] # of `forks`, in their order; those with `ship`
 SYNC_FAILS = """
 import errno, os, sys
 sys.dont_write_bytecode = True
@@ -42,10 +43,11 @@ def mark_of(records):
 
 
 class Machine:
-    """A server with a journal, in a folder of its own. `marks` are those of its journal's commits as they were read."""
+    """A server with a journal, in a folder of its own. `marks` are those of its journal's commits as they were read.
+    The link reads what `ship` writes of the journal, if it ships."""
 
-    def __init__(self, data, folder, copied=None):
-        self.data, self.folder, self.journal = data, folder, folder / "journal"
+    def __init__(self, data, folder, copied=None, ships=False):
+        self.data, self.folder, self.journal, self.ships = data, folder, folder / "journal", ships
         folder.mkdir()
         if copied:
             subprocess.run(["cp", copied, self.journal], check=True)
@@ -68,7 +70,8 @@ class Machine:
             self.server = None
 
     def as_first(self):
-        return ["--journal", self.journal]
+        command = shlex.join(map(str, (LIVE, "ship", "--journal", self.journal)))
+        return ["--from", command] if self.ships else ["--journal", self.journal]
 
     def as_second(self, compares):
         return ["--to", *self.ends[0], *(["--second", self.journal] if compares else [])]
@@ -123,6 +126,22 @@ def case(method):
     """A method of Forks that tries one case, and gives what the link says of it."""
     CASES.append(method)
     return method
+
+
+def shipped(method):
+    """The same, of a link that reads what `ship` writes."""
+    SHIPPED.append(method)
+    return method
+
+
+class Shipping:
+    """A first machine as the link sees it over a shell's command."""
+
+    def __init__(self, command):
+        self.command = command
+
+    def as_first(self):
+        return ["--from", self.command]
 
 
 class Forks:
@@ -355,6 +374,84 @@ class Forks:
         return self.expect(self.machine(), self.begun(0), 1, "there is no ", 0)
 
 
+    # what `ship` writes
+
+    def shipping(self, *words, behind=""):
+        """What `ship` writes of the first's journal, with these words, and through this pipe of a shell."""
+        command = shlex.join(map(str, (LIVE, "ship", "--journal", self.first.journal)))
+        return Shipping(" ".join((command, *words)) + behind)
+
+    @shipped
+    def a_new_second_over_ship(self):
+        return self.expect(self.shipping(), self.begun(0), 0, "6 commits, as many as the journal", 6)
+
+    @shipped
+    def a_second_with_3_of_6_commits_over_ship(self):
+        return self.expect(self.shipping("--once"), self.begun(3), 0, "6 commits, as many as the journal", 6)
+
+    @shipped
+    def a_second_with_a_commit_of_its_own_over_ship(self):
+        return self.expect(self.shipping(), self.begun(1, 1), 1, "Forked 2: ", 2)
+
+    @shipped
+    def a_second_with_a_commit_more_over_ship(self):
+        return self.expect(self.shipping(), self.begun(6, 1), 1, "Forked 7: ", 7)
+
+    @shipped
+    def ship_behind_what_the_second_has(self):
+        return self.expect(self.shipping("--after", "$AFTER"), self.begun(3), 0, "6 commits, as many as", 6,
+                           "--uncompared", compares=False)
+
+    @shipped
+    def the_same_where_that_is_to_be_compared(self):
+        return self.expect(self.shipping("--after", "3"), self.begun(3), 1, "which are not compared: --uncompared", 3)
+
+    @shipped
+    def ship_behind_more_than_the_second_has(self):
+        return self.expect(self.shipping("--after", "5"), self.begun(3), 1, "has 3 commits, and", 3, "--uncompared",
+                           compares=False)
+
+    @shipped
+    def what_ship_writes_is_cut(self):
+        second = self.begun(3)
+        Link(self.shipping("--once", behind=" | head -c -9"), second).expect(3, "ended after 5 commits: ")
+        second.read()
+        if second.marks != self.first.marks[:5]:
+            raise Disagreement("the second has other commits than the groups that came whole")
+        return "ended after 5 commits: "
+
+    @shipped
+    def the_same_with_once_by_a_command_that_fails(self):
+        shipping = self.shipping("--once", behind=" | head -c -9; exit 4")
+        Link(shipping, self.begun(3), "--once").expect(3, "ended after 5 commits: ")
+        return "ended after 5 commits: "
+
+    @shipped
+    def what_ship_writes_is_changed(self):
+        return self.expect(self.shipping(behind=" | sed -u s/5-LOW/5-LOX/"), self.begun(0), 1, "is damaged: group 1", 0)
+
+    @shipped
+    def ship_of_something_that_is_no_journal(self):
+        other = Shipping(shlex.join(map(str, (LIVE, "ship", "--journal", self.data / "customer.tbl"))))
+        return self.expect(other, self.begun(0), 1, "ended after 0 commits: ", 0)
+
+    @shipped
+    def a_link_that_confirms(self):
+        second = self.begun(3)
+        pipe = second.folder / "confirmed"
+        os.mkfifo(pipe)
+        by = os.open(pipe, os.O_RDONLY | os.O_NONBLOCK)
+        try:
+            text = self.expect(self.shipping(), second, 0, "6 commits, as many", 6, "--confirm", pipe)
+            lines = os.read(by, 1 << 16).decode().splitlines()
+        finally:
+            os.close(by)
+        numbers = [int(line.split()[1]) for line in lines]
+        if numbers[:1] != [3] or numbers[-1] != 6 or numbers != sorted(numbers):
+            raise Disagreement(f"the link confirms {lines}")
+        return text
+
+
 def last_group(content):
     """Where the gate of the last group stands."""
     start = place = 0
@@ -367,7 +464,7 @@ def forks(words, folder):
     trial = Forks(words, folder)
     print("| the second, or the journal | what the link says |\n|---|---|")
     try:
-        for tried in CASES:
+        for tried in SHIPPED if words.ship else CASES:
             print(f"| {tried.__name__.replace('_', ' ')} | `{tried(trial).strip()}` |", flush=True)
             trial.rest()
     finally:

@@ -31,9 +31,9 @@ def paced(seconds):
 class Ours:
     title = "ssb_live, `follow link`"
 
-    def __init__(self, data, folder):
+    def __init__(self, data, folder, ships=False):
         self.tables, self.folder = Tables(data), folder
-        self.first, self.second = Machine(data, folder / "first"), Machine(data, folder / "second")
+        self.first, self.second = Machine(data, folder / "first", ships=ships), Machine(data, folder / "second")
         self.told = folder / "told"
         os.mkfifo(self.told)
         self.times = []         # when the second told of each commit
@@ -150,7 +150,7 @@ def lag(words, folder):
         if kind is Standby and LOADED[Postgres.name].missing():
             say("missing: PostgreSQL (apt-get install postgresql-15); the link alone is measured")
             continue
-        server = kind(data, folder)
+        server = Ours(data, folder, words.ship) if kind is Ours else kind(data, folder)
         server.start()
         try:
             times = sorted(server.one_by_one(words.seconds))

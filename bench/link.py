@@ -1,37 +1,44 @@
 #!/usr/bin/env python3
 """follow link --journal FILE --to IN OUT [--second FILE] [WORD..]
 follow link --journal FILE --over COMMAND [--second-over COMMAND] [WORD..]
+ssh first ssb_live ship --journal FILE | follow link - --to IN OUT [--second FILE] [WORD..]
 
 The link to a second server: reads the journal of a running `ssb_live serve --journal FILE` as it grows, and sends each
 commit as a refresh to client 1 of a second, ordinary server over the same tables, which has a journal of its own. It
-runs on the machine that FILE is on, as a user who may read FILE. It is one file, over the standard library of Python
-3.8 or later: `link.py WORD..` is the same command.
+runs on the machine that FILE is on, as a user who may read FILE; or anywhere behind `ssb_live ship`, which runs there.
+It is one file, over the standard library of Python 3.8 or later: `link.py WORD..` is the same command.
 
   --journal FILE         the first server's journal; where it is not there yet, the link waits for it
+  -                      else standard input has what `ship` writes of it, or
+  --from COMMAND         a shell's command writes that to its output; it has how many commits the second has in $AFTER,
+                         for `ship --after $AFTER` with --uncompared
   --to IN OUT            the pipes of the second's client 1, where they are on this machine
   --over COMMAND         else a shell's command, from whose input IN is written, and whose output is read from OUT
   --second FILE          the second's journal, or
   --second-over COMMAND  a shell's command that writes it to its output: the commits that both have are compared
   --uncompared           goes on behind the commits that the second has, though nothing shows which these are
+  --confirm BY           writes to the pipe BY how many commits the second has, as `committed N`, or
+  --confirm-over COMMAND a shell's command that takes these lines from its input
   --once                 sends what the journal has, and ends
   --ahead N              at most so many refreshes are under way (by default 1000)
   --every MS             between two looks at the journal (by default 2)
   --told FILE            adds each `committed N` of the second to FILE
   --quiet                tells only why it ends
 
-A group is taken where its gate is open, it is whole and its checksum is right; then FILE is synced, and then its
-commits are sent. So the second never has a commit that FILE can lose. Each receipt has to have the commit's number. All
-commits are client 1's on the second: who made one is in FILE alone.
+A group is taken where its gate is open, it is whole and its checksum is right; then FILE is synced, by the link or by
+`ship`, and then its commits are sent. So the second never has a commit that FILE can lose. Each receipt has to have the
+commit's number. All commits are client 1's on the second: who made one is in FILE alone.
 
 At its start it asks the second how many commits it has, and compares them with the first of FILE, action by action;
 nothing is sent where one differs (`Forked N`, N the first that does). Then it goes on behind them. Where all is quiet,
-the second has to say every five seconds that it has no other commits.
+the second has to say every five seconds that it has no other commits, and `ship` each second that it is there. What was
+compared, and each receipt that was right, is confirmed, the last one again each second.
 
   status 0   a signal (INT, TERM) ended it; with --once: the second has all that FILE has
          1   a person has to look: Forked N, Refused N, other tables, a damaged journal, a disk that fails
          2   wrong words
-         3   the link is cut, no reply came for a minute, or the second's journal cannot be written: start it again,
-             and it goes on
+         3   the link is cut, no reply came for a minute, nothing of `ship` for half a minute, or the second's journal
+             cannot be written: start it again, and it goes on
 """
 import argparse
 import collections
@@ -52,12 +59,15 @@ import time
 GROUP = re.compile(rb"1 (\d{15})\n")        # the open gate and the head of a group
 GROUP_BYTES, CHECKSUM_BYTES = 18, 33
 TABLES = re.compile(rb"ssb_live journal ([12])\n")
+MARK = re.compile(rb"after\|(\d+)\n")         # of `ship --after`: so many commits were left out
 COMMIT, END = re.compile(rb"commit\|\d+\n"), re.compile(rb"^end\n", re.M)
 PART = 1 << 20              # bytes of a journal that are read at once, where no group is longer
 MOST_READ = 1 << 16         # bytes that are read from OUT at once
 SILENCE = 1                 # seconds without a commit, after which the journal is looked at a tenth as often
 BEAT = 5                    # seconds of silence after which the second is asked
 PATIENCE = 60               # seconds without a reply, after which the link counts as cut
+STILL = 30                  # seconds without a byte of `ship`, after which it counts as cut
+AGAIN = 1                   # seconds after which the last confirmation is written again
 TICK = 0.01                 # seconds between two looks for what is not there yet
 
 
@@ -83,11 +93,14 @@ def forked(number, why):
 
 class Journal:
     """A journal that is read group by group, in a file that may grow meanwhile. `head` is the text of its first group,
-    once it is there; `is_at_end` tells whether the last look found no group more."""
+    once it is there; `is_at_end` tells whether the last look found no group more. A group without commits is a sign of
+    life, as `ship` writes them, and nothing else."""
+    has_ended = False           # nothing can come any more
+    passed = 0                  # commits that come before the first group of commits
 
     def __init__(self, path):
         self.path, self.file, self.end, self.want = path, None, 0, PART
-        self.head, self.groups, self.is_at_end = None, 0, False
+        self.head, self.groups, self.is_at_end, self.is_idle = None, 0, False, False
 
     def is_there(self):
         if self.file is None:
@@ -110,7 +123,10 @@ class Journal:
             after = place + GROUP_BYTES + int(found[1]) if found else place
             if not place < after <= len(content):
                 break
-            texts.append(self.open_group(content[place + GROUP_BYTES:after]))
+            text = self.open_group(content[place + GROUP_BYTES:after])
+            self.is_idle = not text
+            if text:
+                texts.append(text)
             place = after
         self.want = max(PART, after - place)
         self.end += place
@@ -137,6 +153,10 @@ class Journal:
             for text in texts:
                 yield from commits_of(text)
 
+    def has_failed(self):
+        """Whether it has ended before its end."""
+        return False
+
     def sync(self):
         os.fdatasync(self.file)
 
@@ -151,6 +171,65 @@ class Journal:
             raise Stop(f"{self.path} is not the file that it was")
         if mine.st_size < self.end:
             raise Stop(f"{self.path} is shorter than it was")
+
+
+class Shipped(Journal):
+    """What `ship` writes of a journal, to standard input or as a command's output: the groups that count, which are on
+    its disk, as they come, and a sign of life where there are none."""
+
+    def __init__(self, command):
+        super().__init__(f"what `{command}` writes" if command else "standard input")
+        self.command, self.after, self.is_begun = command, 0, False
+        self.left, self.start, self.heard = bytearray(), 0, time.monotonic()
+
+    def is_there(self):
+        if self.file is None:
+            source = sys.stdin
+            if self.command:
+                self.process = subprocess.Popen(self.command, shell=True, stdin=subprocess.DEVNULL,
+                                                stdout=subprocess.PIPE, env={**os.environ, "AFTER": str(self.after)})
+                source = self.process.stdout
+            self.file = source.fileno()
+            os.set_blocking(self.file, False)
+        return True
+
+    def look(self):
+        del self.left[:self.end - self.start]
+        self.start = self.end
+        while len(self.left) < self.want and not self.has_ended:
+            try:
+                part = os.read(self.file, MOST_READ)
+            except BlockingIOError:
+                break
+            self.left += part
+            self.has_ended, self.heard = not part, time.monotonic()
+        return bytes(self.left)
+
+    def read(self):
+        """The same; at its end is what has ended, or was idle behind the last group. A mark is told, and left out."""
+        texts = super().read()
+        mark = MARK.fullmatch(texts[0]) if texts and not self.is_begun else None
+        if mark:
+            self.passed = int(mark[1])
+            del texts[0]
+        self.is_begun = self.is_begun or bool(texts or mark)
+        self.is_at_end = not texts and (self.has_ended or self.is_idle)
+        return texts
+
+    def has_failed(self):
+        return self.has_ended and self.command is not None and self.process.wait() != 0
+
+    def ended(self, count):
+        """What its end means. `ship` has status 1 where its journal is damaged, or is none: that does not pass."""
+        text = f"ended after {count} commits: {self.path}"
+        return Stop(text) if self.command and self.process.wait() in (1, 2) else Cut(text)
+
+    def sync(self):
+        pass
+
+    def check(self):
+        if time.monotonic() > self.heard + STILL:
+            raise Cut(f"nothing has come for {STILL} s: {self.path}")
 
 
 class JournalOver(Journal):
@@ -274,13 +353,57 @@ class Over(Session):
         self.begin()
 
 
+# ---- what is confirmed ----
+
+class Confirming:
+    """The pipe BY, or a command's input: the last line is written again each second, so that a server that begins to
+    read later has it too. The greatest line counts, so one that finds no reader, or no room, is left out."""
+
+    def __init__(self, path, command):
+        self.path, self.command, self.file = path, command, None
+        self.told, self.when = None, 0
+
+    def open(self):
+        if self.command:
+            self.process = subprocess.Popen(self.command, shell=True, stdin=subprocess.PIPE, bufsize=0)
+            self.file = self.process.stdin.fileno()
+            os.set_blocking(self.file, False)
+            return
+        try:
+            self.file = os.open(self.path, os.O_WRONLY | os.O_NONBLOCK | os.O_APPEND)
+        except OSError as fault:
+            if fault.errno != errno.ENXIO:
+                raise
+
+    def tell(self, count, now):
+        if count == self.told and now < self.when + AGAIN:
+            return
+        self.told, self.when = count, now
+        if self.file is None:
+            self.open()
+        if self.file is None:
+            return
+        try:
+            os.write(self.file, b"committed %d\n" % count)
+        except BlockingIOError:
+            pass
+        except BrokenPipeError:
+            if self.command:
+                raise Cut(f"`{self.command}` has ended") from None
+            os.close(self.file)
+            self.file = None
+
+
 # ---- the link ----
 
 class Link:
     """`count` is how many commits the second has told of. Behind them `under_way` were sent, and `ready` are to be."""
 
     def __init__(self, words):
-        self.words, self.journal = words, Journal(words.journal)
+        self.words, self.journal = words, Journal(words.journal) if words.journal else Shipped(words.command)
+        self.confirming = None
+        if words.confirm or words.confirm_over:
+            self.confirming = Confirming(words.confirm, words.confirm_over)
         self.other = None
         if words.second or words.second_over:
             self.other = Journal(words.second) if words.second else JournalOver(words.second_over)
@@ -296,17 +419,20 @@ class Link:
 
     def run(self):
         self.connect()
+        self.journal.after = self.count
         self.wait_for_journal()
         self.pass_over()
         self.tell(f"{self.count} commits, then as they come")
         while not (self.words.once and self.is_even()):
             self.turn()
+        if self.journal.has_failed():
+            raise self.journal.ended(self.count)
         if not self.journal.head:
-            raise Stop(f"{self.words.journal} has no group of a journal")
+            raise Stop(f"{self.journal.path} has no group of a journal")
         self.tell(f"{self.count} commits, as many as the journal")
 
     def is_even(self):
-        return not (self.take() or self.ready or self.under_way or self.beat)
+        return not (self.take() or self.ready or self.under_way or self.beat) and self.journal.is_at_end
 
     # the start
 
@@ -361,8 +487,14 @@ class Link:
         number = 0
         while number < self.count:
             texts = self.journal.read()
+            self.check_mark()
+            number = max(number, self.journal.passed)
             if self.journal.is_at_end:
-                raise forked(number + 1, f"the second has {self.count} commits, and {self.words.journal} {number}")
+                if self.journal.has_ended:
+                    raise self.journal.ended(number)
+                raise forked(number + 1, f"the second has {self.count} commits, and {self.journal.path} {number}")
+            if not texts:
+                self.session.turn(TICK)
             self.compare_tables()
             for actions in itertools.chain.from_iterable(map(commits_of, texts)):
                 if number < self.count:
@@ -371,6 +503,14 @@ class Link:
                 else:
                     self.put(actions)
         self.compare_tables()
+
+    def check_mark(self):
+        """Commits that `ship` left out are there on the second, and compared with nothing."""
+        passed = self.journal.passed
+        if passed > self.count:
+            raise Stop(f"the second has {self.count} commits, and {self.journal.path} those behind {passed}")
+        if passed and not self.words.uncompared:
+            raise Stop(f"{self.journal.path} has no commits to {passed}, which are not compared: --uncompared")
 
     def compare(self, number, mine, theirs):
         """A commit with the next one of the second's journal, where that is shown."""
@@ -404,10 +544,14 @@ class Link:
     def turn(self):
         has_grown = len(self.ready) < self.words.ahead and self.take()
         now = time.monotonic()
+        if self.journal.has_ended and self.is_even():
+            raise self.journal.ended(self.count)
         self.send(now)
         pause = self.words.every / 1000 * (10 if now > self.grown + SILENCE and not self.under_way else 1)
         for line in self.session.turn(0 if has_grown else pause):
             self.hear(line)
+        if self.confirming:
+            self.confirming.tell(self.count, time.monotonic())
         if (self.under_way or self.beat) and time.monotonic() > self.heard + PATIENCE:
             raise Cut(f"the second has not replied in {PATIENCE} s, after {self.count} commits")
 
@@ -418,6 +562,7 @@ class Link:
     def take(self):
         """Takes the commits that are new in the journal; whether there were some."""
         texts = self.journal.read()
+        self.check_mark()
         self.compare_tables()
         for text in texts:
             for actions in commits_of(text):
@@ -466,12 +611,16 @@ class Link:
 
 def read_words(words):
     parser = argparse.ArgumentParser(usage=__doc__, add_help=False)
+    parser.add_argument("input", nargs="?", choices=["-"])
     parser.add_argument("--journal")
+    parser.add_argument("--from", dest="command")
     parser.add_argument("--to", nargs=2)
     parser.add_argument("--over")
     parser.add_argument("--second")
     parser.add_argument("--second-over")
     parser.add_argument("--uncompared", action="store_true")
+    parser.add_argument("--confirm")
+    parser.add_argument("--confirm-over")
     parser.add_argument("--once", action="store_true")
     parser.add_argument("--ahead", type=int, default=1000)
     parser.add_argument("--every", type=float, default=2)
@@ -486,8 +635,12 @@ def main(given):
     if words.help:
         print(__doc__)
         return 0
-    shown = [bool(words.second), bool(words.second_over), words.uncompared]
-    if not words.journal or bool(words.to) == bool(words.over) or sum(shown) > 1 or words.ahead < 1 or words.every <= 0:
+    # Of each of these one at the most; what nothing shows is not confirmed.
+    alone = [[words.second, words.second_over, words.uncompared], [words.confirm, words.confirm_over],
+             [words.confirm or words.confirm_over, words.uncompared], [words.to, words.over],
+             [words.journal, words.command, words.input]]
+    are_alone = all(sum(map(bool, group)) < 2 for group in alone) and all(map(any, alone[3:]))
+    if not are_alone or words.ahead < 1 or words.every <= 0:
         print(__doc__, file=sys.stderr)
         return 2
     signal.signal(signal.SIGTERM, signal.default_int_handler)
