@@ -17,6 +17,9 @@ No call waits longer than the connection's `timeout`. What goes wrong is an exce
       InterfaceError          the client is used in a wrong way: no pipe, a pair in use, a connection that is closed
       DatabaseError
         ProgrammingError      a question or a refresh that cannot be sent as it is
+          Misfit              .. as a value does not fit its place:
+            WrongType         it has another type; this is a TypeError too
+            WrongValue        there is none such; this is a ValueError too
           Fault               .. or that the server found a fault in: nothing was done
         IntegrityError
           Refused             a refresh that was refused: nothing was changed
@@ -33,6 +36,7 @@ import contextlib
 import errno
 import fcntl
 import functools
+import itertools
 import math
 import operator
 import os
@@ -54,20 +58,33 @@ READ_ONLY = b"fault: 68 ReadOnly\n"
 ASKED = 64                  # requests of the greeting of a server that takes no refreshes
 GREETING = 8192             # bytes that the replies to a greeting have at most
 MOST_TOLD = 30              # values of a column that a warning tells
+MOST_DIGITS, MOST_TEXT = 20, 64         # of a number; bytes of a text
+MOST_SHOWN, FEW = 100, 3    # letters of a value, and names, in an error
+MOST_TOGETHER = 16          # questions
 
 LINEORDER = ("LO_ORDERKEY", "LO_LINENUMBER", "LO_CUSTKEY", "LO_PARTKEY", "LO_SUPPKEY", "LO_ORDERDATE",
              "LO_ORDERPRIORITY", "LO_SHIPPRIORITY", "LO_QUANTITY", "LO_EXTENDEDPRICE", "LO_ORDTOTALPRICE",
              "LO_DISCOUNT", "LO_REVENUE", "LO_SUPPLYCOST", "LO_TAX", "LO_COMMITDATE", "LO_SHIPMODE")
 TEXTS = {"LO_ORDERPRIORITY", "LO_SHIPMODE"}
+TEXT_OR_NUMBER = "LO_SHIPPRIORITY"      # a text, which is 0 in the benchmark
 MEASURES = ("LO_REVENUE", "LO_REVENUE-LO_SUPPLYCOST", "LO_EXTENDEDPRICE*LO_DISCOUNT", "LO_QUANTITY", "COUNT")
-NUMBERS = {"D_YEAR", "D_YEARMONTHNUM", "D_WEEKNUMINYEAR", *MEASURES}
-KEYS = {42: "LO_CUSTKEY", 43: "LO_SUPPKEY", 44: "LO_PARTKEY", 45: "LO_ORDERDATE"}
-# The columns that the constants of the thirteen are values of; no column where a constant is the end of a range.
-TESTED = {
-    "Q1.1": ("D_YEAR",), "Q1.2": ("D_YEARMONTHNUM",), "Q1.3": ("D_WEEKNUMINYEAR", "D_YEAR"),
-    "Q2.1": ("P_CATEGORY", "S_REGION"), "Q2.2": (None, None, "S_REGION"), "Q2.3": ("P_BRAND1", "S_REGION"),
-    "Q3.1": ("C_REGION", "S_REGION"), "Q3.2": ("C_NATION", "S_NATION"),
-    "Q3.3": ("C_CITY", "C_CITY", "S_CITY", "S_CITY"), "Q3.4": ("C_CITY", "C_CITY", "S_CITY", "S_CITY", "D_YEARMONTH"),
+NUMBERS = {"D_YEAR", "D_YEARMONTHNUM", "D_WEEKNUMINYEAR", "LO_DISCOUNT", *MEASURES}
+GROUPS = ("C_CITY", "C_NATION", "C_REGION", "S_CITY", "S_NATION", "S_REGION", "P_MFGR", "P_CATEGORY", "P_BRAND1",
+          "D_YEAR", "D_YEARMONTHNUM", "D_YEARMONTH", "D_WEEKNUMINYEAR")
+TESTS = ("LO_QUANTITY", "LO_DISCOUNT")      # columns of tests that are no groups
+# The columns that causes of refusals are about, and the causes 3 and 4 of a fault 73.
+KEYS = {42: "LO_CUSTKEY", 43: "LO_SUPPKEY", 44: "LO_PARTKEY", 45: "LO_ORDERDATE",
+        **dict.fromkeys((41, 47, 48), "LO_ORDERKEY")}
+OF_ORDERS = {"3": "LO_ORDERKEY", "4": "LO_LINENUMBER"}
+# The constants of the thirteen: the column that each is a value of, or an end of a range of.
+LINE_RANGES = ("LO_DISCOUNT from", "LO_DISCOUNT to", "LO_QUANTITY from", "LO_QUANTITY to")
+CITIES, YEARS = ("C_CITY", "C_CITY", "S_CITY", "S_CITY"), ("D_YEAR from", "D_YEAR to")
+CONSTANTS = {
+    "Q1.1": ("D_YEAR", *LINE_RANGES), "Q1.2": ("D_YEARMONTHNUM", *LINE_RANGES),
+    "Q1.3": ("D_WEEKNUMINYEAR", "D_YEAR", *LINE_RANGES), "Q2.1": ("P_CATEGORY", "S_REGION"),
+    "Q2.2": ("P_BRAND1 from", "P_BRAND1 to", "S_REGION"), "Q2.3": ("P_BRAND1", "S_REGION"),
+    "Q3.1": ("C_REGION", "S_REGION", *YEARS), "Q3.2": ("C_NATION", "S_NATION", *YEARS),
+    "Q3.3": (*CITIES, *YEARS), "Q3.4": (*CITIES, "D_YEARMONTH"),
     "Q4.1": ("C_REGION", "S_REGION", "P_MFGR", "P_MFGR"),
     "Q4.2": ("C_REGION", "S_REGION", "P_MFGR", "P_MFGR", "D_YEAR", "D_YEAR"),
     "Q4.3": ("C_REGION", "S_NATION", "D_YEAR", "D_YEAR", "P_CATEGORY")}
@@ -90,12 +107,32 @@ class InterfaceError(Error):
     """The client is used in a wrong way."""
 
 
+class NoPandas(InterfaceError, ImportError):
+    """pandas is not installed."""
+
+
 class DatabaseError(Error):
     """What comes of the server, or of what it is sent."""
 
 
 class ProgrammingError(DatabaseError):
     """A question or a refresh that cannot be sent as it is."""
+
+
+class Misfit(ProgrammingError):
+    """A value does not fit its place: it is `value`, as it was given, and `column` where its place has one."""
+
+    def __init__(self, told, column=None, value=None):
+        super().__init__(told)
+        self.column, self.value = column, value
+
+
+class WrongType(Misfit, TypeError):
+    """A value has another type than its place takes."""
+
+
+class WrongValue(Misfit, ValueError):
+    """A value has the right type, and its place cannot have it; or values are missing, or too many."""
 
 
 class IntegrityError(DatabaseError):
@@ -122,22 +159,27 @@ class Fault(ProgrammingError):
 
     def look_at(self, records):
         """Takes from the records of the request what the fault is told of."""
-        found = re.match(r"7\d \w+ (\d+)(?: 1[01] \w+ (\w+))?", self.text)
-        if found and 0 < int(found[1]) <= len(records):
-            self.record = records[int(found[1]) - 1]
-            if found[2] in LINEORDER:
-                self.column, self.value = found[2], self.record.split("|")[1 + LINEORDER.index(found[2])]
+        found = re.match(r"7\d \w+ (\d+)(?: (\d+) \w+(?: (\w+))?)?", self.text)
+        if not found or not 0 < int(found[1]) <= len(records):
+            return
+        place, cause, told = int(found[1]) - 1, found[2], found[3]
+        self.record = records[place]
+        if told in LINEORDER:
+            self.column, self.value = told, value_in(self.record, told)
+        elif cause in OF_ORDERS:
+            self.column = OF_ORDERS[cause]
+            self.value = told or " and ".join(values_below(records, place, self.column))
 
 
 class Refused(IntegrityError):
     """The refresh was refused after `at` commits, for its action `action` (from 1), and changed nothing. The cause has
-    a `number` and a `text`, as `47 Absent 77`. Where a line names no row of a dimension, `column` is the column of the
-    dimension's key, and `values` has the keys that the order's lines have there."""
+    a `number` and a `text`, as `47 Absent 77`. If it is about a key, this is of `column`, and one of `values`."""
 
     def __init__(self, at, action, text):
         super().__init__(f"action {action}: {text}")
         self.at, self.action, self.text, self.number = at, action, text, int(text.split(" ", 1)[0])
-        self.column, self.values = KEYS.get(self.number), []
+        self.column = KEYS.get(self.number)
+        self.values = text.split(" ")[2:] if self.column else []
 
     def __str__(self):
         told = f"action {self.action}: {self.text}"
@@ -146,9 +188,18 @@ class Refused(IntegrityError):
     def look_at(self, records):
         """Takes from the records of the request what the refusal is told of."""
         begun = [place for place, record in enumerate(records) if not record.startswith("line|")][1:]
-        if self.column and self.action < len(begun):
-            lines = records[begun[self.action - 1] + 1:begun[self.action]]
-            self.values = sorted({line.split("|")[1 + LINEORDER.index(self.column)] for line in lines})
+        if self.column and not self.values and self.action < len(begun):
+            self.values = values_below(records, begun[self.action - 1], self.column)
+
+
+def value_in(line, column):
+    return line.split("|")[1 + LINEORDER.index(column)]
+
+
+def values_below(records, place, column):
+    """The values that the lines of the order that begins at this place have in a column, each once."""
+    lines = itertools.takewhile(lambda record: record.startswith("line|"), records[place + 1:])
+    return sorted({value_in(line, column) for line in lines})
 
 
 class UnknownValue(UserWarning):
@@ -188,8 +239,11 @@ class Answer(collections.abc.Sequence):
         return self.rows[place]
 
     def to_pandas(self):
-        """The rows as a DataFrame of pandas, which has to be installed."""
-        import pandas
+        """The rows as a DataFrame of pandas; NoPandas where that is not installed."""
+        try:
+            import pandas
+        except ModuleNotFoundError as fault:
+            raise NoPandas(f"to_pandas needs pandas: {fault}; `rows` has the rows without it") from None
         return pandas.DataFrame(self.rows, columns=list(self.columns))
 
     def is_empty(self):
@@ -212,7 +266,7 @@ def tests_of(name, constants):
     """The columns and the values that a question looks for; of a range of star its ends, as they are sent."""
     if name == "star":
         return [tuple(it.split("=", 1)) for it in constants[1:] if "=" in it and not it.startswith(("LO_", "ORDER="))]
-    return [(column, value) for column, value in zip(TESTED.get(name, ()), constants) if column]
+    return [(column, value) for column, value in zip(CONSTANTS.get(name, ()), constants) if column in GROUPS]
 
 
 def holds(value, values, column):
@@ -225,48 +279,110 @@ def holds(value, values, column):
     return any(first <= it <= last for it in values)
 
 
-def field_of(value):
-    """A value as a field of a record: a text, or a whole number."""
-    text = value if isinstance(value, str) else str(number_of(value))
-    if re.search(r"[|\r\n]", text) or text.endswith(" "):
-        raise ProgrammingError(f"{text!r} has a bar, an end of a line, or a space at its end")
+# ---- values as fields of a record ----
+
+def shown(value):
+    """A value as errors tell it."""
+    text = repr(value)
+    return text if len(text) <= MOST_SHOWN else f"{text[:MOST_SHOWN]}.."
+
+
+def text_of(value, column, place):
+    """A text as a field. Errors name it by its place."""
+    if not isinstance(value, str):
+        raise WrongType(f"{place} is {shown(value)}; a text is wanted", column, value)
+    if re.search(r"[|\r\n]", value) or value.endswith(" "):
+        wanted = "a text without a bar, an end of a line, or a space at its end"
+        raise WrongValue(f"{place} is {shown(value)}; {wanted} is wanted", column, value)
+    size = len(value.encode(errors="surrogatepass"))
+    if size > MOST_TEXT:
+        raise WrongValue(f"{place} has {size:,} bytes; at most {MOST_TEXT} are wanted", column, value)
+    return value
+
+
+def number_of(value, column, place, bits):
+    """A whole number of so many bits as a field: one of Python's or of another library's type, or its digits."""
+    text = value
+    if not isinstance(value, str):
+        try:
+            text = str(operator.index(None if isinstance(value, bool) else value))
+        except TypeError:
+            raise WrongType(f"{place} is {shown(value)}; a whole number is wanted", column, value) from None
+    if not (text.isascii() and text.isdigit() and len(text) <= MOST_DIGITS and int(text) < 1 << bits):
+        raise WrongValue(f"{place} is {shown(value)}; a whole number from 0 to 2^{bits} - 1 is wanted", column, value)
     return text
 
 
-def number_of(value):
-    """A whole number, of Python's or of another library's type, or as its digits."""
-    if isinstance(value, str) and value.isascii() and value.isdigit():
-        return value
-    if isinstance(value, (str, bool)) or not hasattr(value, "__index__"):
-        raise ProgrammingError(f"{value!r} is no whole number")
-    return operator.index(value)
-
-
-def column_of(column, value):
+def line_field(column, value):
     """A value as a field of this column of LINEORDER."""
-    try:
-        if column not in TEXTS:
-            return field_of(number_of(value))
-        if not isinstance(value, str):
-            raise ProgrammingError(f"{value!r} is no text")
-        return field_of(value)
-    except ProgrammingError as fault:
-        raise ProgrammingError(f"{column}: {fault}") from None
+    if column in TEXTS or column == TEXT_OR_NUMBER and isinstance(value, str):
+        return text_of(value, column, column)
+    return number_of(value, column, column, 64)
+
+
+def constant_field(name, number, constant, value):
+    """A value as a constant of a question, which has this name and this number among them."""
+    column, place = constant.split()[0], f"{name}: constant {number}, {constant},"
+    return number_of(value, column, place, 32) if column in NUMBERS else text_of(value, column, place)
+
+
+def wanted_of_star(number, constant):
+    """What is wanted in the place of a constant of star that is none; None where it may be one."""
+    column, is_test, _ = constant.partition("=")
+    if number == 1:
+        return None if constant in MEASURES else f"a measure is wanted: {', '.join(MEASURES)}"
+    if column in GROUPS or is_test and column in TESTS or constant == "ORDER=SUM":
+        return None
+    return ("COLUMN, COLUMN=VALUE, COLUMN=FROM..TO or ORDER=SUM is wanted; a column is "
+            f"{', '.join(GROUPS)}, and of a test also {' or '.join(TESTS)}")
+
+
+def star_field(number, constant):
+    """A constant of star as a field: of a test the value, or both ends, are as its column takes them."""
+    if not isinstance(constant, str):
+        raise WrongType(f"star: constant {number} is {shown(constant)}; a text is wanted", None, constant)
+    wanted = wanted_of_star(number, constant)
+    if wanted:
+        raise WrongValue(f"star: constant {number} is {shown(constant)}; {wanted}", None, constant)
+    column, is_test, value = constant.partition("=")
+    for end in value.split("..", 1) if is_test and column != "ORDER" else ():
+        constant_field("star", number, column, end)
+    return constant
+
+
+def star_fields(constants):
+    """The constants of star as fields: group columns stand before tests, and ORDER=SUM stands last."""
+    fields = tuple(star_field(*it) for it in enumerate(constants or [""], 1))
+    kinds = [3 if it == "ORDER=SUM" else 2 if "=" in it else 1 for it in fields]
+    for number, (before, kind, it) in enumerate(zip(kinds[1:], kinds[2:], fields[2:]), 3):
+        if kind < before or before == 3:
+            wanted = "group columns before tests, and ORDER=SUM last, are wanted"
+            raise WrongValue(f"star: constant {number} is {shown(it)}; {wanted}", None, it)
+    return fields
 
 
 def question_of(question):
     """The name and the constants of a question, which is a name, or a name with constants."""
-    name, *constants = (question,) if isinstance(question, str) else question
-    constants = tuple(map(field_of, constants))
-    if constants and not constants[-1] and (name == "star" or len(constants) == 1):
-        raise ProgrammingError(f"an empty constant of {name} cannot be sent")
-    return field_of(name), constants
+    try:
+        name, *constants = (question,) if isinstance(question, str) else question
+    except (TypeError, ValueError):
+        raise WrongType(f"a question is {shown(question)}; a name, or a name with constants, is wanted") from None
+    if name == "star":
+        return name, star_fields(constants)
+    if not isinstance(name, str):
+        raise WrongType(f"the name of a question is {shown(name)}; a text is wanted", None, name)
+    if name not in CONSTANTS:
+        raise WrongValue(f"the name of a question is {shown(name)}; Q1.1 to Q4.3 or star is wanted", None, name)
+    named = CONSTANTS[name]
+    if constants and len(constants) != len(named):
+        raise WrongValue(f"{name} has {len(constants)} of its constants; none, or all {len(named)}, are wanted: "
+                         f"{', '.join(named)}")
+    return name, tuple(constant_field(name, *it) for it in zip(range(1, len(named) + 1), named, constants))
 
 
 def record_of(question):
     """The record that asks a question."""
-    name, constants = question
-    return "|".join(("query", name, *constants))
+    return "|".join(("query", question[0], *question[1]))
 
 
 def value_of(column, field):
@@ -278,7 +394,7 @@ def value_of(column, field):
 # ---- replies as they come ----
 
 class Replies:
-    """The bytes of so many replies as they come. A head with `rows R` has R lines behind it; another reply is a line."""
+    """The bytes of so many replies as they come: each is a line, and behind a head with `rows R` stand R lines more."""
 
     def __init__(self, count, is_block):
         self.text, self.place, self.is_block = bytearray(), 0, is_block
@@ -316,6 +432,21 @@ class Replies:
 
 # ---- a refresh ----
 
+def columns_that_fit(line):
+    """The columns of LINEORDER, where those are the names of this line's values."""
+    differences = [("lacks", set(LINEORDER) - set(line)), ("has", set(line) - set(LINEORDER))]
+    told = [f"{verb} {some_of(names)}" for verb, names in differences if names]
+    if told:
+        raise WrongValue(f"a line {' and '.join(told)}; the columns of LINEORDER are wanted", None, line)
+    return LINEORDER
+
+
+def some_of(names):
+    """The first few of these names, and how many more there are."""
+    first, more = sorted(map(str, names))[:FEW], len(names) - FEW
+    return ", ".join([*first, f"{more} more"] if more > 0 else first)
+
+
 class Refresh:
     """Changes of whole orders, which are sent at the end of a `with` block: all are done, or none. Where the block is
     left by an exception, or after `abort`, nothing is sent."""
@@ -333,7 +464,7 @@ class Refresh:
 
     def withdraw(self, key):
         """Removes all lines of the order with this key."""
-        self.records.append(f"withdraw|{column_of('LO_ORDERKEY', key)}")
+        self.records.append(f"withdraw|{line_field('LO_ORDERKEY', key)}")
 
     def abort(self):
         """Drops the refresh."""
@@ -345,14 +476,13 @@ class Refresh:
     @staticmethod
     def _line(line):
         if isinstance(line, collections.abc.Mapping):
-            if set(line) != set(LINEORDER):
-                odd = ", ".join(sorted(map(str, set(line) ^ set(LINEORDER))))
-                raise ProgrammingError(f"a line has the columns of LINEORDER, each once: {odd}")
-            line = [line[column] for column in LINEORDER]
-        line = tuple(line)
-        if len(line) != len(LINEORDER):
-            raise ProgrammingError(f"a line has {len(LINEORDER)} values, and this one has {len(line)}")
-        return "line|" + "|".join(map(column_of, LINEORDER, line))
+            line = [line[column] for column in columns_that_fit(line)]
+        if not isinstance(line, collections.abc.Iterable):
+            raise WrongType(f"a line is {shown(line)}; its {len(LINEORDER)} values are wanted", None, line)
+        values = tuple(line)
+        if len(values) != len(LINEORDER):
+            raise WrongValue(f"a line has {len(values)} values; {len(LINEORDER)} are wanted", None, line)
+        return "line|" + "|".join(map(line_field, LINEORDER, values))
 
     def __enter__(self):
         return self
@@ -395,10 +525,17 @@ class Connection:
     def ask_together(self, questions):
         """The answers to 1 to 16 questions, all after the same commits. Each question is a name, or a name with its
         constants, as ("star", "COUNT", "C_REGION")."""
+        if isinstance(questions, str) or not isinstance(questions, collections.abc.Iterable):
+            raise WrongType(f"the questions are {shown(questions)}; a list of them is wanted", None, questions)
         questions = list(map(question_of, questions))
-        if not questions:
-            raise ProgrammingError("nothing is asked")
+        if not 1 <= len(questions) <= MOST_TOGETHER:
+            raise WrongValue(f"{len(questions)} questions are asked together; 1 to {MOST_TOGETHER} are wanted")
         return self._ask(["ask", *map(record_of, questions), "answer"], questions)
+
+    def unknown(self, answer):
+        """What is told of each value that the question of an answer looks for and no line has, in a text each. The
+        values that lines have are asked for, by a question more for each column."""
+        return list(self._unknown(answer, time.monotonic() + self.timeout))
 
     def refresh(self):
         """A refresh, for a `with` block: it is committed at the block's end, or Refused is raised there."""
@@ -440,20 +577,18 @@ class Connection:
         deadline = time.monotonic() + self.timeout
         answers = self._request(records, len(questions), lambda text: self._answers(questions, text), deadline)
         for answer in answers if self.warns else ():
-            if answer.is_empty():
-                self._warn(answer, deadline)
+            for told in self._unknown(answer, deadline) if answer.is_empty() else ():
+                warnings.warn(told, UnknownValue, 3)
         return answers
 
-    def _warn(self, answer, deadline):
-        """Warns of each value that a question looks for, where no line has it. The values that lines have are asked
-        for, by a question more for each column."""
+    def _unknown(self, answer, deadline):
         for column, value in tests_of(answer.name, answer.constants):
             asked = ("star", ("COUNT", column))
             read = functools.partial(self._answers, [asked])
             values = [str(row[0]) for row in self._request([record_of(asked)], 1, read, deadline)[0]]
             if not holds(value, values, column):
                 told = ": " + ", ".join(values) if len(values) <= MOST_TOLD else ""
-                warnings.warn(f"no line has {column} {value}; its {len(values)} values{told}", UnknownValue, 4)
+                yield f"no line has {column} {value}; its {len(values)} values{told}"
 
     def _request(self, records, replies, read, deadline=None):
         """Sends the records of a request, and gives what `read` makes of its replies."""

@@ -5,10 +5,12 @@ PROGRAM is ssb_live (by default out/start/ssb_live, which `./start` makes); the 
 are small, and what is asked of them was reckoned by hand. It takes some seconds; the status is 1 where a test fails.
 """
 import contextlib
+import datetime
 import importlib.util
 import json
 import os
 import pathlib
+import random
 import resource
 import signal
 import subprocess
@@ -16,7 +18,9 @@ import sys
 import tempfile
 import threading
 import time
+import types
 import unittest
+import unittest.mock
 import warnings
 
 sys.dont_write_bytecode = True
@@ -39,6 +43,7 @@ TABLES = {
                   "8|1|1|2|1|19940101|5-LOW|0|5|500|500|1|495|300|0|19940101|RAIL"]}
 Q1_1 = 1000 * 2 + 3000 * 3          # of the lines of 1993 with a discount of 1 to 3, and fewer than 25 pieces
 BY_NATION = ("star", "LO_REVENUE", "C_NATION", "D_YEAR")
+TWICE = ("star", "COUNT", "C_REGION", "C_REGION")       # each constant may be one, and the server takes no column twice
 
 
 def line(key, number=1, price=100, discount=2, date=19930615):
@@ -125,12 +130,26 @@ class Answers(Trial):
         self.assertEqual((answer.columns, list(answer)), (("C_NATION", "D_YEAR", "LO_REVENUE"), rows))
         self.assertEqual((len(answer), answer[-1]), (3, rows[2]))
 
-    @unittest.skipUnless(importlib.util.find_spec("pandas"), "pandas is not there")
     def test_an_answer_is_a_frame_of_pandas(self):
-        frame = self.live.ask(*BY_NATION).to_pandas()
-        self.assertEqual(list(frame.columns), ["C_NATION", "D_YEAR", "LO_REVENUE"])
-        self.assertEqual(frame.groupby("C_NATION")["LO_REVENUE"].sum().to_dict(), {"CHINA": 1475, "UNITED STATES": 2910})
-        self.assertEqual(self.live.ask("star", "COUNT", "D_YEAR", "D_YEAR=1995").to_pandas().shape, (0, 2))
+        """Of a stand-in, and of pandas itself where it is installed."""
+        answer, columns = self.live.ask(*BY_NATION), ["C_NATION", "D_YEAR", "LO_REVENUE"]
+        stand_in = types.SimpleNamespace(DataFrame=lambda rows, columns: (rows, columns))
+        with unittest.mock.patch.dict(sys.modules, pandas=stand_in):
+            self.assertEqual(answer.to_pandas(), (answer.rows, columns))
+        if importlib.util.find_spec("pandas"):
+            frame = answer.to_pandas()
+            self.assertEqual((list(frame.columns), frame.shape), (columns, (3, 3)))
+            sums = frame.groupby("C_NATION")["LO_REVENUE"].sum().to_dict()
+            self.assertEqual(sums, {"CHINA": 1475, "UNITED STATES": 2910})
+            self.assertEqual(self.live.ask("star", "COUNT", "D_YEAR", "D_YEAR=1995").to_pandas().shape, (0, 2))
+
+    def test_a_frame_needs_pandas(self):
+        answer = self.live.ask(*BY_NATION)
+        with unittest.mock.patch.dict(sys.modules, pandas=None):
+            with self.raises(ssb_live.NoPandas, "needs pandas: .* pandas .*; `rows` has the rows") as told:
+                answer.to_pandas()
+        self.assertIsInstance(told.exception, ImportError)
+        self.assertEqual(len(answer.rows), 3)
 
     def test_constants_are_sent_as_they_are(self):
         self.assertEqual(self.live.ask("Q1.1", 1994, 1, 1, 0, 24).rows, [(500,)])
@@ -165,8 +184,8 @@ class Answers(Trial):
             self.assertEqual([list(answer.columns), list(map(list, answer))], [told["columns"], told["rows"]], question)
 
     def test_a_fault_is_raised_and_the_connection_goes_on(self):
-        for question, record in [(("Q9.9",), "query|Q9.9"), (("star",), "query|star"),
-                                 (("Q1.1", 1993), "query|Q1.1|1993")]:
+        for question in [TWICE, ("star", "COUNT", *ssb_live.GROUPS[:5]), ("star", "COUNT", "D_YEAR=1", "D_YEAR=1..2")]:
+            record = "|".join(("query", *question))
             with self.raises(ssb_live.Fault, f"70 BadLine 1: {record}".replace("|", ".")) as told:
                 self.live.ask(*question)
             self.assertEqual((told.exception.number, told.exception.record), (70, record))
@@ -174,19 +193,90 @@ class Answers(Trial):
 
     def test_what_would_be_another_request_is_not_sent(self):
         for text in ("ASIA|ASIA", "ASIA\nquery", "ASIA\r", "ASIA "):
-            with self.raises(ssb_live.ProgrammingError, "has a bar"):
-                self.live.ask("Q2.1", "MFGR#12", text)
+            for question in [("Q2.1", "MFGR#12", text), ("star", "COUNT", f"C_REGION={text}"),
+                             ("star", "COUNT", f"C_REGION={text}..EUROPE")]:
+                with self.raises(ssb_live.WrongValue, "S_REGION, is|C_REGION, is") as told:
+                    self.live.ask(*question)
+                self.assertRegex(str(told.exception), "a text without a bar, an end of a line, or a space at its end")
+                self.assertEqual(told.exception.value, text)
         for question in (("star", "COUNT", ""), ("Q1.1", "")):
-            with self.raises(ssb_live.ProgrammingError, "empty constant"):
+            with self.raises(ssb_live.WrongValue, "wanted"):
                 self.live.ask(*question)
-        with self.raises(ssb_live.ProgrammingError, "at most 1,048,576 bytes"):
-            self.live.ask("star", "COUNT", "C_CITY=" + "x" * 2**20)
+        with self.raises(ssb_live.ProgrammingError, "at most 1,048,576 bytes"), self.live.refresh() as refresh:
+            for key in range(2**20 // len("withdraw|7")):
+                refresh.withdraw(key % 10)
         self.assertEqual(self.live.ask("Q1.1").rows, [(Q1_1,)])
 
+    def test_a_constant_of_another_type_is_not_sent(self):
+        wanted = [(("Q1.1", 1993.0, 1, 3, 0, 24), "Q1.1: constant 1, D_YEAR, is 1993.0; a whole", "D_YEAR", 1993.0),
+                  (("Q1.1", 1993, 1, None, 0, 24), "constant 3, LO_DISCOUNT to, is None", "LO_DISCOUNT", None),
+                  (("Q3.1", "ASIA", b"ASIA", 1992, 1997), "S_REGION, is b'ASIA'; a text is", "S_REGION", b"ASIA"),
+                  (("star", "COUNT", 1993), "star: constant 2 is 1993; a text is wanted", None, 1993),
+                  ((b"Q1.1",), "the name of a question is b'Q1.1'; a text is wanted", None, b"Q1.1")]
+        for question, text, column, value in wanted:
+            with self.raises(ssb_live.WrongType, text) as told:
+                self.live.ask(*question)
+            self.assertEqual((told.exception.column, told.exception.value), (column, value))
+            self.assertIsInstance(told.exception, TypeError)
+        for questions in ("Q1.1", 7, [7]):
+            with self.raises(ssb_live.WrongType, "a list of them is wanted|a name, or a name with constants"):
+                self.live.ask_together(questions)
+
+    def test_a_constant_that_none_can_be_is_not_sent(self):
+        wanted = [(("q1.1",), "the name of a question is 'q1.1'; Q1.1 to Q4.3 or star is wanted", None, "q1.1"),
+                  (("Q1.1", 1993, 1, 3, 0, ""), "constant 5, LO_QUANTITY to, is ''; a whole number", "LO_QUANTITY", ""),
+                  (("Q1.1", 2**32, 1, 3, 0, 24), "D_YEAR, is 4294967296; .* from 0 to 2.32 - 1", "D_YEAR", 2**32),
+                  (("Q1.1", -1, 1, 3, 0, 24), "D_YEAR, is -1; a whole number from 0", "D_YEAR", -1),
+                  (("Q2.1", "MFGR#12", "x" * 65), "S_REGION, has 65 bytes; at most 64 are", "S_REGION", "x" * 65),
+                  (("star", "count"), "star: constant 1 is 'count'; a measure is wanted: LO_REVENUE", None, "count"),
+                  (("star",), "star: constant 1 is ''; a measure is wanted", None, ""),
+                  (("star", "COUNT", "c_region"), "constant 2 is 'c_region'; COLUMN, .* C_REGION", None, "c_region"),
+                  (("star", "COUNT", "LO_TAX=1"), "constant 2 is 'LO_TAX=1'", None, "LO_TAX=1"),
+                  (("star", "COUNT", "LO_QUANTITY"), "constant 2 is 'LO_QUANTITY'", None, "LO_QUANTITY"),
+                  (("star", "COUNT", "D_YEAR=1993..x"), "star: constant 2, D_YEAR, is 'x'", "D_YEAR", "x"),
+                  (("star", "COUNT", "D_YEAR=1993", "C_CITY"), "3 is 'C_CITY'; group columns before", None, "C_CITY"),
+                  (("star", "COUNT", "ORDER=SUM", "D_YEAR=1"), "and ORDER=SUM last, are wanted", None, "D_YEAR=1"),
+                  (("Q1.1", 1993), "Q1.1 has 1 of its constants; none, or all 5, are wanted: D_YEAR,", None, None)]
+        for question, text, column, value in wanted:
+            with self.raises(ssb_live.WrongValue, text) as told:
+                self.live.ask(*question)
+            self.assertEqual((told.exception.column, told.exception.value), (column, value))
+            self.assertIsInstance(told.exception, ValueError)
+        self.assertEqual(self.live.ask("Q1.1").rows, [(Q1_1,)])
+
+    def test_what_is_not_sent_the_server_refuses_too(self):
+        """So nothing that can be asked is held back."""
+        pick, held = random.Random(7).choice, 0
+        values = ["ASIA", "x" * 64, "x" * 65, " a", "..", "5", "01993", "0" * 21, "4294967296", "-1", "1993..1995"]
+        names = [*ssb_live.GROUPS, *ssb_live.TESTS, "LO_TAX", "c_region", "ORDER"]
+        for _ in range(1000):
+            name = pick(["star", "star", *ssb_live.CONSTANTS])
+            if name == "star":
+                tests = [f"{pick(names)}={pick(values)}" for _ in range(3)]
+                more = [pick([pick(names), test, "ORDER=SUM", pick(values)]) for test in tests]
+                constants = [pick(["COUNT", "COUNT", "count"]), *more[:pick(range(4))]]
+            else:
+                constants = [pick(values[:6]) for _ in ssb_live.CONSTANTS[name]][:pick([1, 9, 9])]
+            try:
+                ssb_live.question_of((name, *constants))
+            except ssb_live.Misfit:
+                held += 1
+                request = "|".join(("query", name, *constants)) + "\n"
+                self.assertEqual(self.live.exchange(request.encode()), b"fault: 70 BadLine 1\n", request)
+        self.assertGreater(held, 300)
+
     def test_an_empty_last_constant_is_a_constant(self):
-        with self.raises(ssb_live.Fault, "70 BadLine 1"):
-            self.live.ask("Q1.1", 1993, 1, 3, 0, "")
         self.assertEqual(self.live.ask("Q2.1", "MFGR#12", "").rows, [])
+        self.assertEqual(self.live.ask("star", "COUNT", "C_CITY=").rows, [(None,)])
+
+    def test_all_that_is_asked_for_by_the_constants_of_the_thirteen_is_taken(self):
+        texts = {"P_CATEGORY": "MFGR#12", "P_BRAND1": "MFGR#1201", "P_MFGR": "MFGR#1", "C_CITY": "CHINA    0"}
+        for name, constants in ssb_live.CONSTANTS.items():
+            columns = [constant.split()[0] for constant in constants]
+            asked = [7 if column in ssb_live.NUMBERS else texts.get(column, "ASIA") for column in columns]
+            with warnings.catch_warnings():
+                warnings.simplefilter("ignore", ssb_live.UnknownValue)
+                self.assertEqual(self.live.ask(name, *asked).at, 0)
 
     def test_a_connection_that_is_closed_says_so(self):
         self.live.close()
@@ -227,12 +317,11 @@ class Together(Trial):
         self.assertEqual([answer.rows for answer in answers], [[(count,)] for count in counts])
 
     def test_a_fault_is_that_of_all(self):
-        with self.raises(ssb_live.Fault, "70 BadLine 3"):
-            self.live.ask_together(["Q1.1", "Q9.9", "Q1.1"])
-        with self.raises(ssb_live.Fault, "78 TooManyQuestions 18"):
-            self.live.ask_together(["Q1.1"] * 17)
-        with self.raises(ssb_live.ProgrammingError, "nothing is asked"):
-            self.live.ask_together([])
+        with self.raises(ssb_live.Fault, "70 BadLine 3: query.star.COUNT.C_REGION.C_REGION"):
+            self.live.ask_together(["Q1.1", TWICE, "Q1.1"])
+        for count in (0, 17):
+            with self.raises(ssb_live.WrongValue, f"^{count} questions are asked together; 1 to 16 are wanted"):
+                self.live.ask_together(["Q1.1"] * count)
         self.assertEqual(self.live.ask("Q1.1").rows, [(Q1_1,)])
 
     def test_two_clients_at_once_see_their_own_commits_and_never_go_back(self):
@@ -284,8 +373,11 @@ class Refreshes(Trial):
             refresh.add(named)
         self.assertEqual(self.live.ask("Q1.1").rows, [(Q1_1 + 200,)])
         del named["LO_TAX"]
-        with self.raises(ssb_live.ProgrammingError, "LO_TAX"), self.live.refresh() as refresh:
-            refresh.add(named)
+        for other, text in [(named, "a line lacks LO_TAX; the columns of LINEORDER are wanted"),
+                            ({**named, "lo_tax": 0}, "a line lacks LO_TAX and has lo_tax; the columns"),
+                            ({}, "a line lacks LO_COMMITDATE, LO_CUSTKEY, LO_DISCOUNT, 14 more; the columns")]:
+            with self.raises(ssb_live.WrongValue, text), self.live.refresh() as refresh:
+                refresh.add(other)
 
     def test_a_refusal_is_raised_and_changes_nothing(self):
         with self.raises(ssb_live.Refused, "action 2: 47 Absent 77") as told, self.live.refresh() as refresh:
@@ -297,8 +389,8 @@ class Refreshes(Trial):
         self.assertEqual(self.live.ask("Q1.1").rows, [(Q1_1,)])
 
     def test_a_fault_of_a_refresh_is_raised(self):
-        cases = [(lambda it: None, "72 EmptyBlock 2"), (lambda it: it.withdraw(-1), "70 BadLine 2"),
-                 (lambda it: it.add(), "73 Row 2 1 NoLines"), (lambda it: it.add(line(9, number=-1)), "70 BadLine 3")]
+        cases = [(lambda it: None, "72 EmptyBlock 2"), (lambda it: it.add(), "73 Row 2 1 NoLines"),
+                 (lambda it: it.add(line(9, number=8)), "73 Row 3 10 OutOfRange LO_LINENUMBER: LO_LINENUMBER is 8")]
         for work, text in cases:
             with self.raises(ssb_live.Fault, text), self.live.refresh() as refresh:
                 work(refresh)
@@ -308,6 +400,15 @@ class Refreshes(Trial):
                 refresh.add(line(9), line(9, number=2, discount=11))
         self.assertEqual((told.exception.column, told.exception.value), ("LO_DISCOUNT", "11"))
         self.assertEqual(told.exception.text, "73 Row 5 10 OutOfRange LO_DISCOUNT")
+        for lines, text, column, value in [
+                ([line(9), line(10, number=2)], "3 KeysDiffer: LO_ORDERKEY is 10 and 9$", "LO_ORDERKEY", "10 and 9"),
+                ([line(9), line(9, number=3), line(9, number=3)], "4 LineRepeated 3: LO_LINENUMBER is 3$",
+                 "LO_LINENUMBER", "3")]:
+            with self.raises(ssb_live.Fault, f"73 Row 3 {text}") as told, self.live.refresh() as refresh:
+                refresh.withdraw(7)
+                refresh.add(*lines)
+            fault = told.exception
+            self.assertEqual((fault.column, fault.value, fault.record), (column, value, "add"))
         self.assertEqual(self.live.ask("Q1.1").at, 0)
 
     def test_a_refusal_names_the_key_that_no_row_has(self):
@@ -317,22 +418,51 @@ class Refreshes(Trial):
                 refresh.add(line(9, date=20260101))
                 refresh.withdraw(8)
         self.assertEqual((told.exception.column, told.exception.values), ("LO_ORDERDATE", ["20260101"]))
+        for work, text, key in [(lambda it: it.add(line(7)), "41 Present 7", "7"),
+                                (lambda it: it.amend(line(77)), "48 AmendAbsent 77", "77"),
+                                (lambda it: it.withdraw(77), "47 Absent 77", "77")]:
+            with self.raises(ssb_live.Refused, f"action 1: {text}: LO_ORDERKEY is {key}$") as told:
+                with self.live.refresh() as refresh:
+                    work(refresh)
+            self.assertEqual((told.exception.text, told.exception.values), (text, [key]))
 
     def test_a_value_of_another_type_is_not_sent(self):
-        cases = [("LO_DISCOUNT", 0.1, "LO_DISCOUNT: 0.1 is no whole number"), ("LO_TAX", None, "LO_TAX: None is no"),
-                 ("LO_QUANTITY", "many", "LO_QUANTITY: 'many' is no whole number"), ("LO_ORDERKEY", True, "True is no"),
-                 ("LO_SHIPMODE", 3, "LO_SHIPMODE: 3 is no text"), ("LO_SHIPMODE", "A|R", "LO_SHIPMODE: 'A.R' has a bar")]
-        for column, value, text in cases:
+        day = datetime.date(1993, 6, 15)
+        for column, value, text in [("LO_DISCOUNT", 0.1, "LO_DISCOUNT is 0.1; a whole number is wanted"),
+                                    ("LO_TAX", None, "LO_TAX is None; a whole"), ("LO_ORDERKEY", True, "is True"),
+                                    ("LO_ORDERDATE", day, r"LO_ORDERDATE is datetime.date\(1993, 6, 15\); a whole"),
+                                    ("LO_SHIPMODE", 3, "LO_SHIPMODE is 3; a text is wanted"),
+                                    ("LO_SHIPPRIORITY", 0.0, "PRIORITY is 0.0"), ("LO_TAX", b"1", "LO_TAX is b'1'")]:
             named = {**dict(zip(ssb_live.LINEORDER, line(9))), column: value}
-            with self.raises(ssb_live.ProgrammingError, text), self.live.refresh() as refresh:
+            with self.raises(ssb_live.WrongType, text) as told, self.live.refresh() as refresh:
                 refresh.add(named)
-        with self.raises(ssb_live.ProgrammingError, "17 values, and this one has 2"), self.live.refresh() as refresh:
-            refresh.add((1, 2))
-        with self.raises(ssb_live.ProgrammingError, "LO_ORDERKEY: 7.0 is no whole number"):
+            self.assertEqual((told.exception.column, told.exception.value), (column, value))
+        with self.raises(ssb_live.WrongType, "LO_ORDERKEY is 7.0; a whole number is wanted"):
             self.live.refresh().withdraw(7.0)
-        with self.raises(ssb_live.ProgrammingError, "1993.0 is no whole number"):
-            self.live.ask("Q1.1", 1993.0, 1, 3, 0, 24)
+        with self.raises(ssb_live.WrongType, "a line is 7; its 17 values are wanted"):
+            self.live.refresh().add(7)
         self.assertEqual(self.live.ask("Q1.1").rows, [(Q1_1,)])
+
+    def test_a_value_that_no_column_can_have_is_not_sent(self):
+        for column, value, text in [("LO_QUANTITY", "many", "LO_QUANTITY is 'many'; a whole number from 0"),
+                                    ("LO_TAX", -1, "LO_TAX is -1; a whole number from 0 to 2.64 - 1 is wanted"),
+                                    ("LO_ORDERKEY", 2**64, "LO_ORDERKEY is 18446744073709551616; a whole"),
+                                    ("LO_TAX", "1 ", "LO_TAX is '1 '"), ("LO_TAX", "\u0661", "LO_TAX is"),
+                                    ("LO_SHIPMODE", "A|R", "LO_SHIPMODE is 'A.R'; a text without a bar"),
+                                    ("LO_SHIPMODE", "x" * 65, "LO_SHIPMODE has 65 bytes; at most 64 are wanted")]:
+            named = {**dict(zip(ssb_live.LINEORDER, line(9))), column: value}
+            with self.raises(ssb_live.WrongValue, text) as told, self.live.refresh() as refresh:
+                refresh.add(named)
+            self.assertEqual((told.exception.column, told.exception.value), (column, value))
+        with self.raises(ssb_live.WrongValue, "a line has 2 values; 17 are wanted"), self.live.refresh() as refresh:
+            refresh.add((1, 2))
+        self.assertEqual(self.live.ask("Q1.1").rows, [(Q1_1,)])
+
+    def test_values_at_their_ends_are_taken(self):
+        named = dict(zip(ssb_live.LINEORDER, line(2**64 - 1)))
+        with self.live.refresh() as refresh:
+            refresh.add({**named, "LO_SHIPMODE": "\u00e9" * 32, "LO_SHIPPRIORITY": "low", "LO_COMMITDATE": "0"})
+        self.assertEqual(self.live.ask("Q1.1").rows, [(Q1_1 + 200,)])
 
     def test_numbers_may_be_digits(self):
         with self.live.refresh() as refresh:
