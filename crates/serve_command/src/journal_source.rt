@@ -3,7 +3,7 @@
 ghost use Rattle.std.specs.Prelude.{◌≡◌, ◌≢◌, ◌⊎◌, ◌≤◌, [], All, IfOk, IfErr, OnOk, vec_len};
 ghost use Rattle.journal_opening.specs.declared.start.JournalStart.TheVariants.{Begins};
 ghost use Rattle.serve_command.specs.Journals.{GoesOnFrom, KeepsNone, RefusesFile};
-ghost use Rattle.serve_command.specs.LeftFiles.{IsLeftFile, KeepsFound, KeepsLog};
+ghost use Rattle.serve_command.specs.LeftFiles.{IsLeftFile, KeepsFound, KeepsLog, KeepsTornBytes};
 ghost use Rattle.serve_command.specs.Status.{refusal_status, serving_status};
 ghost use Rattle.ssb_journal.specs.Counts.{IsLeft};
 ghost use Rattle.history_core.specs.Counts.{most_clients};
@@ -11,7 +11,7 @@ ghost use Rattle.history_core.specs.Counts.{most_clients};
 use crate::acknowledging::Durable;
 use crate::fault::{ServeFault, ServeRefusal};
 use crate::journaled_run::{BeginsJournal, JournaledRun, run_journaled};
-use crate::left_file::{LeftFile, UnservedFile};
+use crate::left_file::{LeftFile, UnservedFile, UnservedSource};
 use crate::ready::{ReadyLine, tell_ready};
 use crate::remade::remake_journal;
 use crate::unserved::UnservedSessions;
@@ -105,7 +105,7 @@ pub fn run_source<R, P, U, S, E>(
     source: JournalSource<'_, U>,
     speakers: Vec<S>,
     screen: &E,
-) -> Result<JournaledRun<U::Whole, S::Left>, UnservedFile<U, U::Whole>>
+) -> Result<JournaledRun<U::Whole, S::Left, P::Kept>, UnservedSource<U, U::Whole, P::Kept>>
 where
     R: Threads + Sync + Wait + Clock + AllocGlobal,
     P: OpensJournal + KeepsTorn,
@@ -137,6 +137,12 @@ where
     ensures any_moment_err { IfErr result (λ unserved. IsLeftFile (λ file. U.holds file ≡ U.holds source.entry.file)
         (KeepsFound U.Whole.seen U.Whole.moment U.Whole.left_since source.entry.marks.now (U.holds source.entry.file))
         unserved.file) }
+    // The place has kept what a crash had torn, or the file is as it was; so also where it ends with an `Err`.
+    ensures torn { IfOk result (λ run. KeepsTornBytes U.Whole.seen P.bytes source.entry.marks.now
+        (U.holds source.entry.file) run.torn run.disk) }
+    ensures torn_err { IfErr result (λ unserved. IsLeftFile (λ file. U.holds file ≡ U.holds source.entry.file)
+        (KeepsTornBytes U.Whole.seen P.bytes source.entry.marks.now (U.holds source.entry.file) unserved.torn)
+        unserved.file) }
 {
     let JournalSource {
         loaded,
@@ -148,15 +154,22 @@ where
     let started = match StartedJournal::open(rt.alloc(), marks, at.start(), at.path(), file) {
         Ok(started) => started,
         Err((fault, file)) => {
-            return Err(UnservedFile {
+            return Err(UnservedSource {
                 refusal: ServeRefusal::Journal(fault),
                 file: LeftFile::Unread(file),
+                torn: None,
             });
         },
     };
     let remade = match remake_journal(rt, rt.alloc(), loaded, dispatchers, marks, started) {
         Ok(remade) => remade,
-        Err(unserved) => return Err(unserved),
+        Err(UnservedFile { refusal, file }) => {
+            return Err(UnservedSource {
+                refusal,
+                file,
+                torn: None,
+            });
+        },
     };
     tell_form(&mut io::writer(screen), remade.opened.kept.form);
     let keeper = TornKeeper {
@@ -167,9 +180,10 @@ where
     };
     match run_journaled(rt, rt.alloc(), remade, speakers, &keeper) {
         Ok(run) => Ok(run),
-        Err(UnservedSessions { fault, disk }) => Err(UnservedFile {
+        Err(UnservedSessions { fault, disk, torn }) => Err(UnservedSource {
             refusal: ServeRefusal::NotServed(fault),
             file: LeftFile::Read(disk),
+            torn,
         }),
     }
 }

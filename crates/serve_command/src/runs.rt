@@ -255,6 +255,7 @@ where
         disk,
         count,
         was_written,
+        torn: _,
     } = run;
     Ok(SessionsRun {
         left,

@@ -1,6 +1,6 @@
 //! The clients: each opens its ends, is served its sessions, and tells what broke them.
 
-ghost use Rattle.std.specs.Prelude.{◌≡◌, ℕ, false, IsOk, IsTrue};
+ghost use Rattle.std.specs.Prelude.{◌≡◌, ◌⊎◌, ℕ, false, true, IsOk, IsTrue};
 ghost use Rattle.std.specs.Option.{is_some};
 ghost use Rattle.history.specs.Members.{number_of};
 ghost use Rattle.serve_command.specs.Sessions.{HasLeft, HasServedOnce, HasStreamed, IsBetween};
@@ -217,19 +217,21 @@ impl<'a, F: Files, E: Print> PathClient<'a, F, E> {
         let _ = writeln!(screen, "ssb_live: client {}: {fault}", self.number);
     }
 
-    // What follows a session that ended so. Its fault is told, but for that of a journal: it is told once, and not by
-    // each client. Who broke it, or sent too long a request, may still have both ends open, and has to see that they are
-    // closed: what it sends on would be read in the next session.
-    fn end_of<R: Clock>(
+    // What follows a session that ended so: none, where there is a failure. Its fault is told, but for that of a journal: it
+    // is told once, and not by each client. Who broke it, or sent too long a request, may still have both ends open, and
+    // has to see that they are closed: what it sends on would be read in the next session.
+    fn end_of<R: Clock, V>(
         &self,
         rt: &R,
         ended: Result<Served, SessionError>,
         comes_again: bool,
-        has_failed: bool,
+        failure: &Option<V>,
     ) -> SessionEnd
         ensures last { result ≡ SessionEnd.Last → IsOk ended }
         ensures again { result ≡ SessionEnd.Again → IsTrue comes_again }
+        ensures broken { result ≡ SessionEnd.Broken → (comes_again ≡ false) ⊎ is_some failure.now ≡ true }
     {
+        let has_failed = failure.is_some();
         match ended {
             Ok(_) if comes_again && has_failed => SessionEnd::Broken,
             Ok(served) if comes_again => {
@@ -311,10 +313,11 @@ impl<'a, F: Files, E: Print> PathClient<'a, F, E> {
             took_refreshes,
         } = left;
         wire.into_output().drop();
-        if acknowledger.has_failed() {
+        let failure = acknowledger.failure(rt);
+        if failure.is_some() {
             self.attendant.fail();
         }
-        let end = self.end_of(rt, ended, comes_again, acknowledger.has_failed());
+        let end = self.end_of(rt, ended, comes_again, &failure);
         let once = OnceLeft {
             end,
             told,
