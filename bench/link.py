@@ -16,7 +16,8 @@ runs on the machine that FILE is on, as a user who may read FILE. It is one file
   --once                 sends what the journal has, and ends
   --ahead N              at most so many refreshes are under way (by default 1000)
   --every MS             between two looks at the journal (by default 2)
-  --told FILE            adds each `committed N` of the second to FILE
+  --told FILE            adds each `committed N` of the second to FILE, and at the beginning how many it has: the first
+                         server's --confirmed reads them
   --quiet                tells only why it ends
 
 A group is taken where its gate is open, it is whole and its checksum is right; then FILE is synced, and then its
@@ -298,6 +299,8 @@ class Link:
         self.connect()
         self.wait_for_journal()
         self.pass_over()
+        if self.told:
+            self.told.write(b"committed %d\n" % self.count)
         self.tell(f"{self.count} commits, then as they come")
         while not (self.words.once and self.is_even()):
             self.turn()

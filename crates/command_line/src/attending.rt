@@ -2,10 +2,11 @@
 
 ghost use Rattle.std.specs.Thread.{IsSend};
 
-use journal_file::JournalFile;
+use confirmed_commits::Confirms;
+use journal_file::{FileDisk, JournalFile};
 use journal_opening::JournalPath;
 use serve_command::{
-    JournalPlace, PathClients, ServeSettings, StreamClient, serve_clients, serve_stream,
+    Durable, JournalPlace, PathClients, ServeSettings, StreamClient, serve_clients, serve_stream,
 };
 use ssb_text::TableFiles;
 use std::io::{Print, Read, Write};
@@ -23,11 +24,11 @@ pub(crate) struct OneServed {
 }
 
 /// Serves a client whose ends are open.
-pub(crate) fn serve_one<R, F, T, I: Read + Drop + Send, W: Write + Drop + Send, E: Print>(
+pub(crate) fn serve_one<R, F, X, T, I: Read + Drop + Send, W: Write + Drop + Send, E: Print>(
     rt: &R,
     settings: ServeSettings,
     tables: TableFiles<T>,
-    place: Option<JournalPlace<'_, JournalPath<'_, F>>>,
+    place: Option<JournalPlace<'_, JournalPath<'_, F>, X>>,
     client: StreamClient<I, W>,
     errors: &E,
 ) -> OneServed
@@ -35,6 +36,8 @@ where
     R: Clock + Threads + Sync + Wait + AllocGlobal,
     F: Files,
     F::File: JournalFile + Send,
+    X: Confirms<Durable<FileDisk<F::File>>> + Sync,
+    X::Told: Send,
     T: Read + Drop,
 {
     let ended = serve_stream(rt, settings, tables, place, client, errors);
@@ -45,11 +48,11 @@ where
 }
 
 /// Serves clients that open their own ends, and attends to them meanwhile.
-pub(crate) fn attend_clients<R, F, I: Read + Drop, E: Print + Sync>(
+pub(crate) fn attend_clients<R, F, X, I: Read + Drop, E: Print + Sync>(
     rt: &R,
     settings: ServeSettings,
     tables: TableFiles<I>,
-    place: Option<JournalPlace<'_, JournalPath<'_, F>>>,
+    place: Option<JournalPlace<'_, JournalPath<'_, F>, X>>,
     clients: PathClients<'_, F>,
     errors: &E,
 ) -> u8
@@ -58,6 +61,8 @@ where
     F: Files + Sync + AllocGlobal,
     F::File: JournalFile + Send,
     F::Dir: Send,
+    X: Confirms<Durable<FileDisk<F::File>>> + Sync,
+    X::Told: Send,
 {
     let files = clients.files;
     let attendant = clients.attendant;

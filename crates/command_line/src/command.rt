@@ -1,7 +1,7 @@
 //! What the words of a command line do.
 
 use crate::attending::{attend_clients, serve_one};
-use crate::commits_screen::serve_shown;
+use crate::confirming::serve_confirmed;
 use crate::histories::{check_trace, export_tables, write_changes};
 use crate::job_help::{tell_help, tell_notes};
 use crate::metrics::{MetricsFile, push_metrics};
@@ -11,13 +11,14 @@ use crate::streams::{Streams, tell};
 use crate::terminal_view::TerminalView;
 use crate::{job_help, named_journal, pipes};
 use arguments::{HintsWord, Job, JournalWord, RunWords, ServeWords, StandingWord, job_of};
-use journal_file::{JournalFile, torn_path};
+use confirmed_commits::{Confirms, OnThisMachine};
+use journal_file::{FileDisk, JournalFile, torn_path};
 use journal_opening::JournalPath;
 use query_command::standard_questions;
 use run_command::{RunInput, RunSettings, demo, open_trace, run_scripts};
 use serve_command::{
-    Attendant, EndPaths, JournalPlace, MOST_CLIENTS, PathClients, ServeFault, ServeRefusal,
-    ServeSettings, StreamClient, report_no_pipes,
+    Attendant, Durable, EndPaths, JournalPlace, MOST_CLIENTS, PathClients, ServeFault,
+    ServeRefusal, ServeSettings, StreamClient, report_no_pipes,
 };
 use server_figures::LiveFigures;
 use ssb_files::{
@@ -32,13 +33,13 @@ use ssb_questions::Question;
 use ssb_text::{TableFiles, Tables};
 use std::alloc::Global;
 use std::hash::RandomState;
-use std::io;
 use std::io::{BufWriter, Print, Read, Write};
 use std::random::RandomSource;
 use std::rt::Files;
 use std::sync::{Arc, Wait};
 use std::thread::Threads;
 use std::time::Clock;
+use std::{fs, io};
 use terminal::{HelpedOutput, Prompted, TypedRequest};
 
 /// The terminal, where there is one and the words let it show the progress of a load, which begins now.
@@ -215,11 +216,33 @@ fn clients_of(alloc: Global, words: &[&str]) -> Result<Vec<EndPaths>, Fault> {
 
 /// The files of a live server, opened, and how it serves.
 #[derive(Drop)]
-pub(crate) struct OpenedServer<O: Drop> {
+pub(crate) struct OpenedServer<'a, O: Drop, X> {
     pub(crate) settings: ServeSettings,
     tables: Tables<O>,
     clients: Vec<EndPaths>,
     journal: Option<NamedJournal>,
+    // What confirms the journal's commits.
+    confirms: &'a X,
+}
+
+impl<'a, O: Drop, X> OpenedServer<'a, O, X> {
+    /// The same, whose journal's commits this one confirms.
+    pub(crate) fn confirmed_by<Y>(self, confirms: &Y) -> OpenedServer<'_, O, Y> {
+        let OpenedServer {
+            settings,
+            tables,
+            clients,
+            journal,
+            confirms: _,
+        } = self;
+        OpenedServer {
+            settings,
+            tables,
+            clients,
+            journal,
+            confirms,
+        }
+    }
 }
 
 // Looks whether a live server would write over a file that it reads or writes, or that a client is answered to.
@@ -233,6 +256,9 @@ fn check_server_paths<F: Files + AllocGlobal>(
         paths.push(UsedPath::find(files, ends[0], PathUse::Input)?)?;
         paths.push(UsedPath::find(files, ends[1], PathUse::Output)?)?;
     }
+    for by in &words.confirmed {
+        paths.push(UsedPath::find(files, by, PathUse::Input)?)?;
+    }
     if let Some(word) = words.journal {
         let journal = word.path();
         let torn = torn_path(files.alloc(), journal)?;
@@ -241,6 +267,16 @@ fn check_server_paths<F: Files + AllocGlobal>(
     }
     push_metrics(files, words.metrics, &mut paths)?;
     check_paths(paths.as_slice())
+}
+
+// Looks whether what second servers tell can be heard: nobody would be told of a commit without it.
+fn check_confirmed<F: Files + AllocGlobal>(files: &F, words: &ServeWords<'_>) -> Result<(), Fault> {
+    for by in &words.confirmed {
+        if fs::metadata(files, by).is_err() {
+            return Err(Fault::CannotRead(String::from_str(files.alloc(), by)?));
+        }
+    }
+    Ok(())
 }
 
 // Looks whether the journal is there, where one is to be gone on with.
@@ -264,12 +300,13 @@ fn open_server<R: RandomSource, F: Files + AllocGlobal>(
     rt: &R,
     files: &F,
     words: &ServeWords<'_>,
-) -> Result<OpenedServer<F::File>, ServeFault> {
+) -> Result<OpenedServer<'static, F::File, OnThisMachine>, ServeFault> {
     let tables = open_tables(files, words.data)?;
     let source = open_standing(files, words.standing)?;
     let clients = clients_of(files.alloc(), words.clients.as_slice())?;
     let standing = if clients.len() <= MOST_CLIENTS {
         check_server_paths(files, words)?;
+        check_confirmed(files, words)?;
         let standing = questions_of(files.alloc(), source)?;
         check_journal(files, words)?;
         standing
@@ -290,15 +327,16 @@ fn open_server<R: RandomSource, F: Files + AllocGlobal>(
         tables,
         clients,
         journal,
+        confirms: &OnThisMachine,
     })
 }
 
 // Serves the person at a terminal over tables that are loaded now. Where hints are told, a fault has help below it.
-fn serve_typed<R, F, T, I: Read + Drop + Send, W: Write + Drop + Send, E: Print + Sync>(
+fn serve_typed<R, F, X, T, I: Read + Drop + Send, W: Write + Drop + Send, E: Print + Sync>(
     rt: &R,
     settings: ServeSettings,
     tables: TableFiles<T>,
-    place: Option<JournalPlace<'_, JournalPath<'_, F>>>,
+    place: Option<JournalPlace<'_, JournalPath<'_, F>, X>>,
     view: &TerminalView<'_, '_, F>,
     streams: Streams<'_, I, W, E>,
 ) -> u8
@@ -307,6 +345,8 @@ where
     F: Files + Sync + AllocGlobal,
     F::File: JournalFile + Send,
     F::Dir: Send,
+    X: Confirms<Durable<FileDisk<F::File>>> + Sync,
+    X::Told: Send,
     T: Read + Drop,
 {
     let alloc = rt.alloc();
@@ -327,6 +367,7 @@ where
 pub(crate) fn serve_loading<
     R,
     F,
+    X,
     T,
     I: Read + Drop + Send,
     W: Write + Drop + Send,
@@ -335,7 +376,7 @@ pub(crate) fn serve_loading<
     rt: &R,
     files: &F,
     words: &ServeWords<'_>,
-    opened: OpenedServer<T>,
+    opened: OpenedServer<'_, T, X>,
     streams: Streams<'_, I, W, E>,
 ) -> u8
 where
@@ -343,6 +384,8 @@ where
     F: Files + Sync + AllocGlobal,
     F::File: JournalFile + Send,
     F::Dir: Send,
+    X: Confirms<Durable<FileDisk<F::File>>> + Sync,
+    X::Told: Send,
     T: Read + Drop,
 {
     let OpenedServer {
@@ -350,6 +393,7 @@ where
         tables,
         clients,
         journal,
+        confirms,
     } = opened;
     let errors = streams.errors;
     let bytes = TableBytes::new();
@@ -358,7 +402,7 @@ where
         layout: words.layout,
     };
     let path = named_journal::journal_path(files, journal.as_ref());
-    let place = named_journal::journal_place(path.as_ref(), &bytes, !words.quiet);
+    let place = named_journal::journal_place(path.as_ref(), confirms, &bytes, !words.quiet);
     if !clients.is_empty() {
         let Ok(attendant) = Attendant::<F::File>::new(rt.alloc(), clients.as_slice(), !words.quiet)
         else {
@@ -415,6 +459,7 @@ where
         tables,
         clients,
         journal,
+        confirms,
     } = match open_server(rt, files, words) {
         Ok(opened) => opened,
         Err(fault) => return fault.tell(&mut io::writer(errors)),
@@ -436,8 +481,9 @@ where
         tables: watch_tables(screen.as_ref(), tables),
         clients,
         journal,
+        confirms,
     };
-    let status = serve_shown(rt, files, words, metrics, opened, streams);
+    let status = serve_confirmed(rt, files, words, metrics, opened, streams);
     locks.drop();
     status
 }
@@ -465,7 +511,7 @@ where
     let view = TerminalView::of(files, &settings, None, hints)?;
     let bytes = TableBytes::new();
     let path = named_journal::journal_path(files, None);
-    let place = named_journal::journal_place(path.as_ref(), &bytes, false);
+    let place = named_journal::journal_place(path.as_ref(), &OnThisMachine, &bytes, false);
     let tables = TableFiles::benchmark(small_data::tables());
     Ok(serve_typed(rt, settings, tables, place, &view, streams))
 }

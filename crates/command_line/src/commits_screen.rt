@@ -8,7 +8,9 @@ use crate::measured::serve_measured;
 use crate::metrics::MetricsFile;
 use crate::streams::Streams;
 use arguments::ServeWords;
-use journal_file::JournalFile;
+use confirmed_commits::Confirms;
+use journal_file::{FileDisk, JournalFile};
+use serve_command::Durable;
 use server_figures::LiveFigures;
 use ssb_files::Fault;
 use std::fmt::Display;
@@ -93,12 +95,20 @@ impl<'a, E: Print> Print for CommitsScreen<'a, E> {
 
 /// Serves clients over tables that are loaded now. Where a person sees the errors, a thread of its own shows there how
 /// many commits of the journal are made again, until the server takes requests.
-pub(crate) fn serve_shown<R, F, T, I: Read + Drop + Send, W: Write + Drop + Send, E: Print + Sync>(
+pub(crate) fn serve_shown<
+    R,
+    F,
+    X,
+    T,
+    I: Read + Drop + Send,
+    W: Write + Drop + Send,
+    E: Print + Sync,
+>(
     rt: &R,
     files: &F,
     words: &ServeWords<'_>,
     metrics: Option<MetricsFile<'_, F>>,
-    opened: OpenedServer<T>,
+    opened: OpenedServer<'_, T, X>,
     streams: Streams<'_, I, W, E>,
 ) -> u8
 where
@@ -106,6 +116,8 @@ where
     F: Files + Sync + AllocGlobal,
     F::File: JournalFile + Send,
     F::Dir: Send,
+    X: Confirms<Durable<FileDisk<F::File>>> + Sync,
+    X::Told: Send,
     T: Read + Drop,
 {
     if words.journal.is_none() || words.quiet || !streams.shows_progress {

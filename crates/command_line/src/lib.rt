@@ -20,6 +20,7 @@
 mod attending;
 mod command;
 mod commits_screen;
+mod confirming;
 mod end_bell;
 mod histories;
 mod job_help;

@@ -7,7 +7,9 @@ use crate::end_bell::EndBell;
 use crate::metrics::MetricsFile;
 use crate::streams::Streams;
 use arguments::ServeWords;
-use journal_file::JournalFile;
+use confirmed_commits::Confirms;
+use journal_file::{FileDisk, JournalFile};
+use serve_command::Durable;
 use std::io::{Print, Read, Write};
 use std::random::RandomSource;
 use std::rt::Files;
@@ -17,11 +19,11 @@ use std::thread::Threads;
 use std::time::Clock;
 
 // Serves clients over tables that are loaded now, and tells who waits for its end when it has ended.
-fn serving_to_the_end<R, F, T, I: Read + Drop + Send, W: Write + Drop + Send, E: Print + Sync>(
+fn serving_to_the_end<R, F, X, T, I: Read + Drop + Send, W: Write + Drop + Send, E: Print + Sync>(
     rt: &R,
     files: &F,
     words: &ServeWords<'_>,
-    opened: OpenedServer<T>,
+    opened: OpenedServer<'_, T, X>,
     streams: Streams<'_, I, W, E>,
     bell: &EndBell,
 ) -> u8
@@ -30,6 +32,8 @@ where
     F: Files + Sync + AllocGlobal,
     F::File: JournalFile + Send,
     F::Dir: Send,
+    X: Confirms<Durable<FileDisk<F::File>>> + Sync,
+    X::Told: Send,
     T: Read + Drop,
 {
     let status = serve_loading(rt, files, words, opened, streams);
@@ -38,12 +42,12 @@ where
 }
 
 // Serves clients over tables that are loaded now, while a thread of its own writes the figures into their file.
-fn measure_serving<R, F, T, I: Read + Drop + Send, W: Write + Drop + Send, E: Print + Sync>(
+fn measure_serving<R, F, X, T, I: Read + Drop + Send, W: Write + Drop + Send, E: Print + Sync>(
     rt: &R,
     files: &F,
     words: &ServeWords<'_>,
     metrics: MetricsFile<'_, F>,
-    opened: OpenedServer<T>,
+    opened: OpenedServer<'_, T, X>,
     streams: Streams<'_, I, W, E>,
 ) -> u8
 where
@@ -51,6 +55,8 @@ where
     F: Files + Sync + AllocGlobal,
     F::File: JournalFile + Send,
     F::Dir: Send,
+    X: Confirms<Durable<FileDisk<F::File>>> + Sync,
+    X::Told: Send,
     T: Read + Drop,
 {
     let errors = streams.errors;
@@ -69,6 +75,7 @@ where
 pub(crate) fn serve_measured<
     R,
     F,
+    X,
     T,
     I: Read + Drop + Send,
     W: Write + Drop + Send,
@@ -78,7 +85,7 @@ pub(crate) fn serve_measured<
     files: &F,
     words: &ServeWords<'_>,
     metrics: Option<MetricsFile<'_, F>>,
-    opened: OpenedServer<T>,
+    opened: OpenedServer<'_, T, X>,
     streams: Streams<'_, I, W, E>,
 ) -> u8
 where
@@ -86,6 +93,8 @@ where
     F: Files + Sync + AllocGlobal,
     F::File: JournalFile + Send,
     F::Dir: Send,
+    X: Confirms<Durable<FileDisk<F::File>>> + Sync,
+    X::Told: Send,
     T: Read + Drop,
 {
     match metrics {

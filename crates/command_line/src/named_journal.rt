@@ -67,16 +67,18 @@ pub(crate) fn journal_path<'a, F: Files + AllocGlobal>(
     })
 }
 
-/// The journal's place, where there is a file; whether it is told how many commits it has.
-pub(crate) fn journal_place<'a, 'f, F: Files + AllocGlobal>(
+/// The journal's place, where there is a file; what confirms its commits, and whether it is told how many it has.
+pub(crate) fn journal_place<'a, 'f, F: Files + AllocGlobal, X>(
     file: Option<&'a JournalPath<'f, F>>,
+    confirms: &'a X,
     bytes: &'a TableBytes,
     tells: bool,
-) -> Option<JournalPlace<'a, JournalPath<'f, F>>>
+) -> Option<JournalPlace<'a, JournalPath<'f, F>, X>>
     ensures { is_some result ≡ is_some file.entry }
 {
     Some(JournalPlace {
         file: file?,
+        confirms,
         bytes,
         tells,
     })

@@ -15,6 +15,7 @@ use crate::left_file::{LeftFile, UnservedFile, UnservedSource};
 use crate::ready::{ReadyLine, tell_ready};
 use crate::remade::remake_journal;
 use crate::unserved::UnservedSessions;
+use confirmed_commits::Confirms;
 use journal::{KeepsTorn, UnreadDisk};
 use journal_opening::{OpeningFault, OpensJournal, StartedJournal, tell_form};
 use ssb_files::TableBytes;
@@ -28,10 +29,12 @@ use std::thread::Threads;
 use std::time::Clock;
 use stream_sessions::Speaks;
 
-/// Where the journal is, and what is told of it.
+/// Where the journal is, what has to be of its commits before clients are told of them, and what is told of it.
 #[derive(Drop)]
-pub struct JournalPlace<'a, P> {
+pub struct JournalPlace<'a, P, X> {
     pub file: &'a P,
+    /// What has to be of commits that are on the disk.
+    pub confirms: &'a X,
     /// The bytes of the tables, which are counted while these are loaded.
     pub bytes: &'a TableBytes,
     /// Whether it is told how many commits the journal has.
@@ -52,7 +55,8 @@ pub struct JournalSource<'a, U: UnreadDisk + Drop> {
 // Keeps what a crash has torn beside the journal, and tells how many commits it has, and that the server is ready.
 #[derive(Drop)]
 struct TornKeeper<'a, P: KeepsTorn, E: Print> {
-    place: &'a JournalPlace<'a, P>,
+    file: &'a P,
+    tells: bool,
     commits: u64,
     ready: Option<ReadyLine>,
     screen: &'a E,
@@ -65,8 +69,8 @@ impl<'a, P: KeepsTorn, E: Print> KeepsTorn for TornKeeper<'a, P, E> {
 
     fn keep_torn(&self, torn: Vec<u8>) -> io::Result<P::Kept> {
         let bytes = torn.len();
-        let kept = self.place.file.keep_torn(torn)?;
-        if self.place.tells {
+        let kept = self.file.keep_torn(torn)?;
+        if self.tells {
             let mut screen = io::writer(self.screen);
             let commits = self.commits;
             let _ = match bytes {
@@ -98,10 +102,10 @@ impl<'a, P: KeepsTorn, E: Print> BeginsJournal for TornKeeper<'a, P, E> {
 /// Serves clients at once, one for each speaker, by 1 to 4 dispatchers over a loaded base, behind the commits of a
 /// journal's file that was just opened; where the journal begins, it has none. All of it is read before anything is
 /// written; what a crash has torn is kept at the place before it is cut off. An `Err` hands the file back.
-pub fn run_source<R, P, U, S, E>(
+pub fn run_source<R, P, X, U, S, E>(
     rt: &R,
     dispatchers: u32,
-    place: &JournalPlace<'_, P>,
+    place: &JournalPlace<'_, P, X>,
     source: JournalSource<'_, U>,
     speakers: Vec<S>,
     screen: &E,
@@ -112,7 +116,9 @@ where
     P::Kept: Drop,
     U: UnreadDisk + Drop,
     U::Whole: Send,
-    S: Speaks<R, Durable<U::Whole>> + Drop + Send,
+    X: Confirms<Durable<U::Whole>> + Sync,
+    X::Told: Send,
+    S: Speaks<R, X::Told> + Drop + Send,
     S::Left: Drop + Send,
     E: Print,
     requires unread { U.taken source.file ≡ [] }
@@ -173,12 +179,13 @@ where
     };
     tell_form(&mut io::writer(screen), remade.opened.kept.form);
     let keeper = TornKeeper {
-        place,
+        file: at,
+        tells: place.tells,
         commits: remade.opened.kept.count,
         ready,
         screen,
     };
-    match run_journaled(rt, rt.alloc(), remade, speakers, &keeper) {
+    match run_journaled(rt, rt.alloc(), remade, speakers, &keeper, place.confirms) {
         Ok(run) => Ok(run),
         Err(UnservedSessions { fault, disk, torn }) => Err(UnservedSource {
             refusal: ServeRefusal::NotServed(fault),

@@ -24,6 +24,7 @@ use crate::acknowledging::{Durable, JournalAcknowledger, KeptAlone};
 use crate::remade::{RemadeServer, Seats};
 use crate::server_log::{JournalLeft, LogStart, ServerLog, left_of};
 use crate::unserved::{JournaledFault, UnservedSessions};
+use confirmed_commits::{Confirming, Confirms};
 use journal::{Disk, Found, Journal, KeepsTorn};
 use row_store::Log;
 use ssb_journal::laws::{begun_journal_keeps, first_of_log};
@@ -86,12 +87,13 @@ struct BegunJournal<F: Drop, W: Wait + Drop> {
     count: u64,
 }
 
-// Who takes part in the sessions: clients, each with its speaker, and dispatchers.
+// Who takes part in the sessions: clients, each with its speaker, dispatchers, and what confirms commits.
 #[derive(Drop)]
-struct Participants<W: Wait + Drop, S: Drop> {
+struct Participants<'a, W: Wait + Drop, S: Drop, X> {
     clients: Vec<Client<W>>,
     speakers: Vec<S>,
     dispatchers: Vec<Dispatcher<W>>,
+    confirms: &'a X,
 }
 
 /// Keeps what a crash has torn of a journal's file, and tells how the journal begins.
@@ -214,19 +216,21 @@ fn clients_and_left<W: Wait + Drop, L: Drop>(
     Ok((clients, all_left))
 }
 
-// Serves the sessions, whose clients are told of commits with the evidence of this acknowledger.
-fn serve_all<D, W, R, S, K>(
+// Serves the sessions, whose clients are told of commits that this one acknowledges and the participants' one confirms.
+fn serve_all<D, W, R, S, K, X>(
     rt: &R,
     alloc: Global,
     server: &Server<W>,
-    participants: Participants<W, S>,
+    participants: Participants<'_, W, S, X>,
     acknowledger: &K,
 ) -> Result<EndedThreads<W, Spoken<W, S::Left>>, AllocError>
 where
     D: Disk + Drop + Send,
     W: Wait + Drop + Send,
     R: Wait + Threads + Sync + Clock,
-    S: Speaks<R, Durable<D>> + Drop + Send,
+    X: Confirms<Durable<D>> + Sync,
+    X::Told: Send,
+    S: Speaks<R, X::Told> + Drop + Send,
     S::Left: Drop + Send,
     K: Acknowledges<Durable<D>> + Sync,
     requires clients { All (IsQuiet server.now) participants.clients.items }
@@ -240,22 +244,24 @@ where
         clients,
         speakers,
         dispatchers,
+        confirms,
     } = participants;
+    let confirming: Confirming<'_, Durable<D>, K, X> = Confirming::new(acknowledger, confirms);
     let service = Service {
         rt,
         alloc,
-        acknowledger,
+        acknowledger: &confirming,
         server,
     };
     serve_opened(&service, clients, dispatchers, speakers)
 }
 
 // Serves the sessions behind an open journal; and what is left of that.
-fn run_open<D, W, R, S, K>(
+fn run_open<D, W, R, S, K, X>(
     rt: &R,
     alloc: Global,
     server: &Server<W>,
-    participants: Participants<W, S>,
+    participants: Participants<'_, W, S, X>,
     begun: BegunJournal<Journal<D>, W>,
 ) -> (
     Result<EndedThreads<W, Spoken<W, S::Left>>, AllocError>,
@@ -265,7 +271,9 @@ where
     D: Disk + Drop + Send,
     W: Wait + Drop + Send,
     R: Wait + Threads + Sync + Clock,
-    S: Speaks<R, Durable<D>> + Drop + Send,
+    X: Confirms<Durable<D>> + Sync,
+    X::Told: Send,
+    S: Speaks<R, X::Told> + Drop + Send,
     S::Left: Drop + Send,
     K: LogStart + Send + Sync,
     requires clients { All (IsQuiet server.now) participants.clients.items }
@@ -294,7 +302,7 @@ where
     let journaled = JournalAcknowledger {
         journal: SharedJournal::new(JournaledLog::new(file, source, count)),
     };
-    let ended = serve_all::<D, W, R, S, JournalAcknowledger<D, ServerLog<'_, W, K>>>(
+    let ended = serve_all::<D, W, R, S, JournalAcknowledger<D, ServerLog<'_, W, K>>, X>(
         rt,
         alloc,
         server,
@@ -306,11 +314,11 @@ where
 }
 
 // Serves the sessions behind the file of a journal; and what is left of that. A file that is read alone is as it was.
-fn run_sessions<D, W, R, S, K>(
+fn run_sessions<D, W, R, S, K, X>(
     rt: &R,
     alloc: Global,
     server: &Server<W>,
-    participants: Participants<W, S>,
+    participants: Participants<'_, W, S, X>,
     begun: BegunJournal<BegunFile<D>, W>,
 ) -> (
     Result<EndedThreads<W, Spoken<W, S::Left>>, AllocError>,
@@ -320,7 +328,9 @@ where
     D: Disk + Drop + Send,
     W: Wait + Drop + Send,
     R: Wait + Threads + Sync + Clock,
-    S: Speaks<R, Durable<D>> + Drop + Send,
+    X: Confirms<Durable<D>> + Sync,
+    X::Told: Send,
+    S: Speaks<R, X::Told> + Drop + Send,
     S::Left: Drop + Send,
     K: LogStart + Send + Sync,
     requires clients { All (IsQuiet server.now) participants.clients.items }
@@ -353,13 +363,13 @@ where
                 reader,
                 count,
             };
-            run_open::<D, W, R, S, K>(rt, alloc, server, participants, open)
+            run_open::<D, W, R, S, K, X>(rt, alloc, server, participants, open)
         },
         BegunFile::ReadOnly(disk) => {
             let alone = KeptAlone {
                 on_disk: Mutex::new(OnDisk::of(&disk, count)),
             };
-            let ended = serve_all::<D, W, R, S, KeptAlone<D>>(
+            let ended = serve_all::<D, W, R, S, KeptAlone<D>, X>(
                 rt,
                 alloc,
                 server,
@@ -461,16 +471,17 @@ where
 
 /// Serves 1 to 16 clients, one for each speaker, by a server whose log is the commits of a journal's file; each client
 /// and each dispatcher in a thread of its own. What a crash has torn of the file is kept, and the journal is begun. What
-/// is told to a client is on the disk before. It waits until all of them have ended.
+/// is told to a client is on the disk before, and confirmed. It waits until all of them have ended.
 ///
 /// Where the file of a journal that was there cannot be written, what it keeps is served, and no refresh is taken. A new
 /// journal that could not be begun is `Write`. An `Err` hands the disk back.
-pub fn run_journaled<D, T, W, R, S>(
+pub fn run_journaled<D, T, W, R, S, X>(
     rt: &R,
     alloc: Global,
     remade: RemadeServer<'_, W, D>,
     speakers: Vec<S>,
     keeper: &T,
+    confirms: &X,
 ) -> Result<JournaledRun<D, S::Left, T::Kept>, UnservedSessions<D, T::Kept>>
 where
     D: Disk + Drop + Send,
@@ -478,7 +489,9 @@ where
     T::Kept: Drop,
     W: Wait + Drop + Send,
     R: Wait + Threads + Sync + Clock,
-    S: Speaks<R, Durable<D>> + Drop + Send,
+    X: Confirms<Durable<D>> + Sync,
+    X::Told: Send,
+    S: Speaks<R, X::Told> + Drop + Send,
     S::Left: Drop + Send,
     requires few { vec_len speakers ≤ most_clients }
     requires full { remade.server.clients ≡ most_clients }
@@ -532,8 +545,15 @@ where
         clients,
         speakers,
         dispatchers,
+        confirms,
     };
-    let (ended, left) = run_sessions::<D, W, R, S, Brand>(rt, alloc, &server, participants, begun);
+    let (ended, left) = run_sessions::<D, W, R, S, Brand, X>(
+        rt,
+        alloc,
+        &server,
+        participants,
+        begun,
+    );
     let Ok(ended) = ended else {
         return Err(UnservedSessions {
             fault: JournaledFault::OutOfMemory,

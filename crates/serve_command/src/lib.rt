@@ -69,7 +69,7 @@ mod serving;
 mod speakers;
 mod unserved;
 
-pub use acknowledging::Durable;
+pub use acknowledging::{Durable, Durable};
 pub use attendant::Attendant;
 pub use ends::{EndPaths, report_no_pipes};
 pub use fault::{ServeFault, ServeRefusal};
