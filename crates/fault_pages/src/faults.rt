@@ -190,7 +190,11 @@ impl ListsFaults for ScriptError {
             ScriptError::TooLong => ScriptError::Read,
             ScriptError::Read => ScriptError::NoAnswer,
             ScriptError::NoAnswer => ScriptError::TooManyQuestions(3),
-            ScriptError::TooManyQuestions(_) | ScriptError::OutOfMemory => return None,
+            ScriptError::TooManyQuestions(_) => ScriptError::Sql(
+                3,
+                SqlFault::Unexpected(SQL_PLACE),
+            ),
+            ScriptError::Sql(_, _) | ScriptError::OutOfMemory => return None,
         })
     }
 }
@@ -338,8 +342,10 @@ impl ListsFaults for QuestionsError {
     // A failed read has the number that it has in any script.
     fn next(&self) -> Option<QuestionsError> {
         match self {
-            QuestionsError::NotAQuestion(_) | QuestionsError::Read | QuestionsError::OutOfMemory =>
-                { None }
+            QuestionsError::NotAQuestion(_) => {
+                Some(QuestionsError::Sql(3, SqlFault::Unexpected(SQL_PLACE)))
+            }
+            QuestionsError::Sql(_, _) | QuestionsError::Read | QuestionsError::OutOfMemory => None,
         }
     }
 }

@@ -1,7 +1,7 @@
--- A text that spells a script has no fault: its lines are read from the first to the last, and each may stand.
+-- A text that spells a script has no fault, but for a statement's: its lines are read from the first to the last, and each may stand.
 use Rattle.std.proofs.Common.{◌≡◌, ℕ, ◌+◌, ◌<◌, ◌≤◌, Bool, true, false, List, [], ◌∷◌, ◌++◌, map, length, Option, Some}
 use Rattle.std.proofs.Common.{None, Result, Ok, if◌then◌else◌, nat_eq, nat_lt, subst, refl, sym, ap, ◌∙◌}
-use Rattle.std.proofs.Common.{append_assoc, append-nil, arith}
+use Rattle.std.proofs.Common.{append_assoc, append-nil, arith, inl, inr}
 use Rattle.std.specs.List.{AllByRecursion, AllZip, flat_map}
 use Rattle.std.specs.Prelude.{◌||◌}
 use Rattle.std.proofs.lemmas.Bool.{le-ltb, lt-ltb, ltb-false}
@@ -19,19 +19,21 @@ use Rattle.ssb_schema.proofs.FirstFaultLaws.{test_none}
 use Rattle.ssb_schema.proofs.OrderLaws.{order_keeps}
 use Rattle.ssb_script.specs.Begun.{Begun}
 use Rattle.ssb_script.specs.Begun as begun
-use Rattle.ssb_script.specs.Laws.{HasNoFaultIfSpelled}
+use Rattle.ssb_script.specs.Laws.{HasNoFaultIfSpelled, IsOfStatement}
 use Rattle.ssb_script.specs.Lines.{ScriptLine, RecordFault, is_abort, is_line, line_of, word_of}
 use Rattle.ssb_script.specs.Lines as line
 use Rattle.ssb_script.specs.Requests.{RequestRecord, Refresh, Ask, Abort, IsWholeAction, IsWholeRequest, action_of}
 use Rattle.ssb_script.specs.Requests.{lines_of_action, lines_of_asking, lines_of_refresh, most_questions}
-use Rattle.ssb_script.specs.Scripts.{EndsOpen, HasRoom, IsFirstFault, IsOpenEnd, IsSettled, Spell, SpellAll}
+use Rattle.ssb_script.specs.Scripts.{EndsOpen, HasRoom, IsFaultOf, IsFirstFault, IsNoStatement, IsOpenEnd, IsSettled}
+use Rattle.ssb_script.specs.Scripts.{Spell, SpellAll}
 use Rattle.ssb_script.specs.Scripts.{SpellsScript, checks_in, ends_in_order, fault_of, first_of, is_outside, lines_in}
 use Rattle.ssb_script.specs.Scripts.{lines_of_begun, order_refused, refusal_at_end}
 use Rattle.ssb_script.specs.declared.control.OrderOpening.{OrderOpening}
 use Rattle.ssb_script.specs.declared.control.OrderOpening.TheVariants.{Add, Amend}
 use Rattle.ssb_script.specs.declared.error.ScriptError.{ScriptError}
+use Rattle.ssb_script.specs.declared.error.ScriptError.TheVariants as error
 use Rattle.ssb_script.specs.declared.request.Asking.{Asking}
-use Rattle.ssb_script.specs.declared.request.Asking.TheVariants.{Alone, Together}
+use Rattle.ssb_script.specs.declared.request.Asking.TheVariants.{Alone, Together, Statement as Stated}
 use Rattle.ssb_questions.specs.declared.query.Query.{Query as Named}
 use Rattle.ssb_questions.specs.declared.value.Value.{Value}
 use Rattle.ssb_script.specs.declared.word.ScriptWord.{ScriptWord}
@@ -74,6 +76,7 @@ next Outside (line.Line row) = Outside
 next (Inside actions) (line.Line row) = Inside actions
 next (Within actions opening lines) (line.Line row) = Within actions opening (lines ++ row ∷ [])
 next (Block questions) (line.Line row) = Block questions
+next s (line.Sql text) = Outside
 next s (line.Withdraw key) = Inside (actions_of s ++ action.Withdraw key ∷ [])
 next s line.Commit = Outside
 next s line.Ask = Block []
@@ -125,6 +128,7 @@ MayAnswer (Block questions) = 0 < length questions
 -- a line may stand there, and lines may, one after another
 abbrev Fits : Stand → ScriptLine → Type 0
 Fits s (line.Query question) = MayAsk s
+Fits s (line.Sql text) = IsOutside s
 Fits s line.Begin = IsOutside s
 Fits s (line.Open opening) = MayEnd s × (length (actions_of s) < most_actions)
 Fits s (line.Line row) = TakesLine s
@@ -192,6 +196,7 @@ behind_request (Refresh actions) lines spell =
 behind_request (Ask (Alone question)) lines spell = ap (behind Outside) spell
 behind_request (Ask (Together questions)) lines spell =
     ap (behind Outside) spell ∙ behind-append (Block []) (map line.Query questions) (line.Answer ∷ [])
+behind_request (Ask (Stated asked)) lines spell = ap (behind Outside) spell
 behind_request Abort lines spell =
     ap (behind Outside) spell.joined ∙ behind-append Outside (lines_of_begun spell.begun) (line.Abort ∷ [])
 
@@ -292,6 +297,7 @@ has_few actions none = few_of (length actions) none
 fit_asking : (asking : Asking) (rest : List ScriptLine) → IsWholeRequest (Ask asking) → AllFit Outside rest
     → AllFit Outside (lines_of_asking asking ++ rest)
 fit_asking (Alone question) rest whole fit = (tt, fit)
+fit_asking (Stated asked) rest whole fit = (tt, fit)
 fit_asking (Together questions) rest whole fit = (
   tt,
   subst (AllFit (Block [])) (sym (append_assoc (map line.Query questions) (line.Answer ∷ []) rest))
@@ -401,6 +407,7 @@ well_answered _ answers = absurd answers
 
 ends_unless_spared : (s : Stand) (l : ScriptLine) → Fits s l → spares l ≡ false → EndsWell s
 ends_unless_spared s (line.Query question) fits e = well_asked s fits
+ends_unless_spared s (line.Sql text) fits e = well_outside s fits
 ends_unless_spared s line.Begin fits e = well_outside s fits
 ends_unless_spared s (line.Open opening) fits e = well_ended s fits.0
 ends_unless_spared s (line.Line row) fits e = absurd cc
@@ -430,6 +437,7 @@ not_zero n some = grind (arith, nat_tests)
 checks_none : (number : ℕ) (b : Begun) (l : ScriptLine) → Fits (stand_of b) l
     → first_of (checks_in number b (Ok l)) ≡ None
 checks_none number begun.Nothing (line.Query question) fits = refl
+checks_none number begun.Nothing (line.Sql text) fits = refl
 checks_none number begun.Nothing line.Begin fits = refl
 checks_none number begun.Nothing (line.Open opening) fits = absurd fits.0
 checks_none number begun.Nothing (line.Withdraw key) fits = absurd fits.0
@@ -490,8 +498,19 @@ says_next (p ∷ front) (q ∷ lines) r more e =
     let same : q ≡ p = cc in
     (later.0, later.1, later.2, same_list q p lines (front ++ later.0 ∷ later.1) same later.3)
 
+-- where a record's checks find nothing, its fault is that of a statement
+of_statement : (number : ℕ) (spelled : Result ScriptLine RecordFault) (e : ScriptError)
+    → IsNoStatement number spelled e → IsOfStatement e
+of_statement number (Ok (line.Sql text)) (error.Sql n why) is = tt
+of_statement number _ _ is = absurd is
+
+refused_only : (most number : ℕ) (b : Begun) (fields : List (List ℕ)) (e : ScriptError)
+    → fault_of most number b fields ≡ None → IsFaultOf most number b fields e → IsOfStatement e
+refused_only most number b fields e none (inl is) = absurd (none-some e (sym none ∙ is))
+refused_only most number b fields e none (inr refused) = of_statement number (line_of fields) e refused.1
+
 no_first_fault : (most : ℕ) (text : List ℕ) (wanted : List RequestRecord) (e : ScriptError)
-    → SpellsScript most text wanted → IsFirstFault most text e → ⊥
+    → SpellsScript most text wanted → IsFirstFault most text e → IsOfStatement e
 no_first_fault most text wanted e a b =
     let before = b.before in
     let all = text_begins text (before ++ b.fields ∷ []) a.records b.begins a.all in
@@ -510,7 +529,8 @@ no_first_fault most text wanted e a b =
     (fit_behind Outside lines (one.0 ∷ one.1) fit) in
     let few : length before + 1 ≤ most =
     omega (arith, a.few, ap length split, length-append before (b.fields ∷ all.0)) in
-    none-some e (sym (record_passes most (length before + 1) b.begun b.fields one.0 few one.2 here.0) ∙ b.is)
+    refused_only most (length before + 1) b.begun b.fields e
+    (record_passes most (length before + 1) b.begun b.fields one.0 few one.2 here.0) b.is
 
 -- where nothing is begun, nothing is lacking
 nothing_lacks : (b : Begun) (e : ScriptError) → stand_of b ≡ Outside → IsOpenEnd b e → ⊥

@@ -1,4 +1,5 @@
--- A text spells no two lists of requests: they are read off its lines, from the last to the first.
+-- A text spells no two lists of requests, but for what statements are read as: they are read off its lines, from the last
+-- to the first.
 use Rattle.std.proofs.Common.{◌≡◌, ℕ, Bool, true, false, List, [], ◌∷◌, ◌++◌, map, Option, Some, None, Ok, Err, Result}
 use Rattle.std.proofs.Common.{refl, sym, ap, ◌∙◌, append_assoc, arith}
 use Rattle.std.specs.List.{AllZip, flat_map}
@@ -16,14 +17,27 @@ use Rattle.ssb_script.specs.Begun as begun
 use Rattle.ssb_script.specs.Laws.{HasOneReading}
 use Rattle.ssb_script.specs.Lines.{ScriptLine, RecordFault, line_of}
 use Rattle.ssb_script.specs.Lines as line
-use Rattle.ssb_script.specs.Requests.{RequestRecord, Refresh, Ask, Abort, IsWholeRequest, action_of, lines_of_action}
+use Rattle.ssb_script.specs.Requests.{RequestRecord, Refresh, Ask, Abort, AreAlike, IsWholeRequest, action_of}
+use Rattle.ssb_script.specs.Requests.{lines_of_action}
 use Rattle.ssb_script.specs.Scripts.{Spell, SpellAll, SpellsScript, is_outside, lines_in, lines_of_begun}
 use Rattle.ssb_script.specs.declared.control.OrderOpening.TheVariants.{Add, Amend}
-use Rattle.ssb_script.specs.declared.request.Asking.TheVariants.{Alone, Together}
+use Rattle.ssb_script.specs.declared.request.Asking.TheVariants.{Alone, Together, Statement as Stated}
 use Rattle.ssb_text.proofs.OneListLaws.{one_records}
 
 abbrev Question : Type 0
 Question = Named × List Value
+
+-- what lines say of a request: all of it, or of a statement its text
+data Said : Type 0 where
+  Whole : RequestRecord → Said
+  Text : List ℕ → Said
+
+abbrev said_of : RequestRecord → Said
+said_of (Refresh actions) = Whole (Refresh actions)
+said_of (Ask (Alone question)) = Whole (Ask (Alone question))
+said_of (Ask (Together questions)) = Whole (Ask (Together questions))
+said_of (Ask (Stated asked)) = Text asked.text
+said_of Abort = Whole Abort
 
 -- what the lines from one on hold: lines of an order that began before it, actions of a refresh that did, questions of
 -- a block that did, whether what did is dropped, and requests
@@ -32,7 +46,7 @@ record Tail : Type 0 where
   actions : List Action
   block : Option (List Question)
   dropped : Bool
-  requests : List RequestRecord
+  requests : List Said
 
 -- a question of the block, where its end follows; else one alone
 abbrev before_query : Question → Tail → Option (List Question) → Tail
@@ -41,7 +55,7 @@ before_query question tail None = record {
   actions = [];
   block = None;
   dropped = false;
-  requests = Ask (Alone question) ∷ tail.requests;
+  requests = Whole (Ask (Alone question)) ∷ tail.requests;
 }
 before_query question tail (Some questions) = record {
   lines = [];
@@ -62,12 +76,14 @@ unless false one = one
 
 abbrev before : ScriptLine → Tail → Tail
 before (line.Query question) tail = before_query question tail tail.block
+before (line.Sql text) tail =
+    record { lines = []; actions = []; block = None; dropped = false; requests = Text text ∷ tail.requests }
 before line.Begin tail = record {
   lines = [];
   actions = [];
   block = None;
   dropped = false;
-  requests = unless tail.dropped (Refresh tail.actions) ∷ tail.requests;
+  requests = Whole (unless tail.dropped (Refresh tail.actions)) ∷ tail.requests;
 }
 before (line.Open opening) tail = record {
   lines = [];
@@ -97,7 +113,7 @@ before line.Ask tail = record {
   actions = [];
   block = None;
   dropped = false;
-  requests = unless tail.dropped (Ask (Together (asked_in tail.block))) ∷ tail.requests;
+  requests = Whole (unless tail.dropped (Ask (Together (asked_in tail.block)))) ∷ tail.requests;
 }
 before line.Answer tail =
     record { lines = []; actions = []; block = Some []; dropped = false; requests = tail.requests }
@@ -153,7 +169,7 @@ of_actions (a ∷ actions) rest =
       requests = t.requests;
     }) later)
 
-of_block : (questions : List Question) (end : List ScriptLine) (dropped : Bool) (requests : List RequestRecord)
+of_block : (questions : List Question) (end : List ScriptLine) (dropped : Bool) (requests : List Said)
     → tail_of end ≡ record { lines = []; actions = []; block = Some []; dropped = dropped; requests = requests }
     → tail_of (map line.Query questions ++ end) ≡ record {
       lines = [];
@@ -167,7 +183,7 @@ of_block (question ∷ questions) end dropped requests e =
     ap (before (line.Query question)) (of_block questions end dropped requests e)
 
 -- the lines of actions, be the last whole or not, change nothing of whether they are dropped, and of later requests
-abbrev later_of : Tail → Bool × List RequestRecord
+abbrev later_of : Tail → Bool × List Said
 later_of tail = (tail.dropped, tail.requests)
 
 later_order : (order : List LineFields) (rest : List ScriptLine)
@@ -188,13 +204,13 @@ later_actions (a ∷ actions) rest =
     ap (λ lines. later_of (tail_of lines)) (append_assoc (lines_of_action a) (flat_map lines_of_action actions) rest)
     ∙ (later_action a (flat_map lines_of_action actions ++ rest) ∙ later_actions actions rest)
 
-begin_dropped : (tail : Tail) (requests : List RequestRecord) → later_of tail ≡ (true, requests)
-    → (before line.Begin tail).requests ≡ Abort ∷ requests
+begin_dropped : (tail : Tail) (requests : List Said) → later_of tail ≡ (true, requests)
+    → (before line.Begin tail).requests ≡ Whole Abort ∷ requests
 begin_dropped tail requests e =
-    rw (ap (λ (p : Bool × List RequestRecord). p.0) e, ap (λ (p : Bool × List RequestRecord). p.1) e) refl
+    rw (ap (λ (p : Bool × List Said). p.0) e, ap (λ (p : Bool × List Said). p.1) e) refl
 
 of_begun : (b : Begun) (rest : List ScriptLine) → is_outside b ≡ false
-    → (tail_of ((lines_of_begun b ++ line.Abort ∷ []) ++ rest)).requests ≡ Abort ∷ (tail_of rest).requests
+    → (tail_of ((lines_of_begun b ++ line.Abort ∷ []) ++ rest)).requests ≡ Whole Abort ∷ (tail_of rest).requests
 of_begun begun.Nothing rest inside = absurd cc
 of_begun (begun.Refresh actions) rest inside =
     let acts = flat_map lines_of_action actions in
@@ -214,7 +230,7 @@ of_begun (begun.Asked questions) rest inside =
     ∙ ap (λ t. (before line.Ask t).requests) (of_block questions (line.Abort ∷ rest) true (tail_of rest).requests refl)
 
 of_request : (one : RequestRecord) (lines rest : List ScriptLine) → Spell one lines → (tail_of rest).block ≡ None
-    → (tail_of (lines ++ rest)).requests ≡ one ∷ (tail_of rest).requests
+    → (tail_of (lines ++ rest)).requests ≡ said_of one ∷ (tail_of rest).requests
 of_request (Refresh actions) lines rest spell none =
     ap (λ first. (tail_of (first ++ rest)).requests) spell
     ∙ (ap (λ lines. (tail_of (line.Begin ∷ lines)).requests)
@@ -229,6 +245,7 @@ of_request (Ask (Together questions)) lines rest spell none =
     (append_assoc (map line.Query questions) (line.Answer ∷ []) rest)
     ∙ ap (λ t. (before line.Ask t).requests)
     (of_block questions (line.Answer ∷ rest) false (tail_of rest).requests refl))
+of_request (Ask (Stated asked)) lines rest spell none = ap (λ first. (tail_of (first ++ rest)).requests) spell
 of_request Abort lines rest spell none =
     ap (λ first. (tail_of (first ++ rest)).requests) spell.joined ∙ of_begun spell.begun rest spell.inside
 
@@ -246,6 +263,7 @@ no_block (Refresh actions) lines rest spell none = ap (λ first. (tail_of (first
 no_block (Ask (Alone question)) lines rest spell none =
     ap (λ first. (tail_of (first ++ rest)).block) spell ∙ ap (λ o. (before_query question (tail_of rest) o).block) none
 no_block (Ask (Together questions)) lines rest spell none = ap (λ first. (tail_of (first ++ rest)).block) spell
+no_block (Ask (Stated asked)) lines rest spell none = ap (λ first. (tail_of (first ++ rest)).block) spell
 no_block Abort lines rest spell none =
     ap (λ first. (tail_of (first ++ rest)).block) spell.joined
     ∙ (ap (λ all. (tail_of all).block) (append_assoc (lines_of_begun spell.begun) (line.Abort ∷ []) rest)
@@ -260,16 +278,16 @@ no_blocks (one ∷ requests) (part ∷ parts) each =
     no_block one part (lines_in parts) each.0 (no_blocks requests parts each.1)
 
 of_parts : (requests : List RequestRecord) (parts : List (List ScriptLine)) → AllZip Spell requests parts
-    → (tail_of (lines_in parts)).requests ≡ requests
+    → (tail_of (lines_in parts)).requests ≡ map said_of requests
 of_parts [] [] each = refl
 of_parts [] (part ∷ parts) each = absurd each
 of_parts (one ∷ requests) [] each = absurd each
 of_parts (one ∷ requests) (part ∷ parts) each =
     of_request one part (lines_in parts) each.0 (no_blocks requests parts each.1)
-    ∙ ap (λ rest. one ∷ rest) (of_parts requests parts each.1)
+    ∙ ap (λ rest. said_of one ∷ rest) (of_parts requests parts each.1)
 
 of_requests : (requests : List RequestRecord) (lines : List ScriptLine) → SpellAll requests lines
-    → (tail_of lines).requests ≡ requests
+    → (tail_of lines).requests ≡ map said_of requests
 of_requests requests lines spell =
     ap (λ all. (tail_of all).requests) spell.joined ∙ of_parts requests spell.parts spell.each
 
@@ -282,13 +300,53 @@ pub all_given : (lines : List ScriptLine) → map given (map Ok lines) ≡ lines
 all_given [] = refl
 all_given (l ∷ lines) = ap (λ rest. l ∷ rest) (all_given lines)
 
+-- requests of which lines say the same are alike
+whole_is : (one other : RequestRecord) → Whole one ≡ Whole other → other ≡ one
+whole_is one other e = cc
+
+alike : (one other : RequestRecord) → said_of one ≡ said_of other → AreAlike one other
+alike (Refresh actions) (Refresh more) e = whole_is (Refresh actions) (Refresh more) e
+alike (Refresh actions) Abort e = whole_is (Refresh actions) Abort e
+alike (Refresh actions) (Ask (Alone question)) e = whole_is (Refresh actions) (Ask (Alone question)) e
+alike (Refresh actions) (Ask (Together questions)) e = whole_is (Refresh actions) (Ask (Together questions)) e
+alike (Refresh actions) (Ask (Stated asked)) e = absurd cc
+alike Abort (Refresh more) e = whole_is Abort (Refresh more) e
+alike Abort Abort e = refl
+alike Abort (Ask (Alone question)) e = whole_is Abort (Ask (Alone question)) e
+alike Abort (Ask (Together questions)) e = whole_is Abort (Ask (Together questions)) e
+alike Abort (Ask (Stated asked)) e = absurd cc
+alike (Ask (Alone question)) (Refresh more) e = absurd cc
+alike (Ask (Alone question)) Abort e = absurd cc
+alike (Ask (Alone question)) (Ask (Alone other)) e = cc
+alike (Ask (Alone question)) (Ask (Together questions)) e = cc
+alike (Ask (Alone question)) (Ask (Stated asked)) e = absurd cc
+alike (Ask (Together questions)) (Refresh more) e = absurd cc
+alike (Ask (Together questions)) Abort e = absurd cc
+alike (Ask (Together questions)) (Ask (Alone other)) e = cc
+alike (Ask (Together questions)) (Ask (Together others)) e = cc
+alike (Ask (Together questions)) (Ask (Stated asked)) e = absurd cc
+alike (Ask (Stated asked)) (Refresh more) e = absurd cc
+alike (Ask (Stated asked)) Abort e = absurd cc
+alike (Ask (Stated asked)) (Ask (Alone other)) e = absurd cc
+alike (Ask (Stated asked)) (Ask (Together questions)) e = absurd cc
+alike (Ask (Stated asked)) (Ask (Stated other)) e = cc
+
+all_alike : (one other : List RequestRecord) → map said_of one ≡ map said_of other → AllZip AreAlike one other
+all_alike [] [] e = tt
+all_alike [] (b ∷ other) e = absurd cc
+all_alike (a ∷ one) [] e = absurd cc
+all_alike (a ∷ one) (b ∷ other) e =
+    let first : said_of a ≡ said_of b = cc in
+    let rest : map said_of one ≡ map said_of other = cc in
+    (alike a b first, all_alike one other rest)
+
 pub one_reading : (text : List ℕ) → HasOneReading text
 one_reading text most more one other a b =
     let records = one_records text a.records b.records a.all b.all in
     let results : map Ok a.lines ≡ map Ok b.lines = sym a.said ∙ (ap (map line_of) records ∙ b.said) in
     let lines : a.lines ≡ b.lines = sym (all_given a.lines) ∙ (ap (map given) results ∙ all_given b.lines) in
-    sym (of_requests one a.lines a.spelled)
-    ∙ (ap (λ lines. (tail_of lines).requests) lines ∙ of_requests other b.lines b.spelled)
+    all_alike one other (sym (of_requests one a.lines a.spelled)
+    ∙ (ap (λ lines. (tail_of lines).requests) lines ∙ of_requests other b.lines b.spelled))
 
 -- a text of no bytes asks nothing
 spells_nothing : (most : ℕ) → SpellsScript most [] []
@@ -303,5 +361,10 @@ spells_nothing most = record {
   whole = All-nil IsWholeRequest;
 }
 
+like_nothing : (wanted : List RequestRecord) → AllZip AreAlike wanted [] → wanted ≡ []
+like_nothing [] alike = refl
+like_nothing (one ∷ wanted) alike = absurd alike
+
 pub asks_nothing : (most : ℕ) (wanted : List RequestRecord) → SpellsScript most [] wanted → wanted ≡ []
-asks_nothing most wanted spells = one_reading [] most most wanted [] spells (spells_nothing most)
+asks_nothing most wanted spells =
+    like_nothing wanted (one_reading [] most most wanted [] spells (spells_nothing most))

@@ -1,5 +1,6 @@
 -- What a script asks of the warehouse, and the lines that spell it.
-use Rattle.std.specs.Prelude.{◌≡◌, ◌≤◌, ◌++◌, ℕ, List, [], ◌∷◌, All, None, map, length}
+use Rattle.std.specs.Prelude.{◌≡◌, ◌≤◌, ◌++◌, ℕ, Bool, false, List, [], ◌∷◌, All, Option, None, Some}
+use Rattle.std.specs.Prelude.{is_some, map, length}
 use Rattle.std.specs.List.{flat_map}
 use Rattle.ssb_questions.specs.declared.query.Query.{Query as Named}
 use Rattle.ssb_questions.specs.declared.value.Value.{Value}
@@ -9,10 +10,13 @@ use Rattle.ssb_schema.specs.declared.line.LineFields.{LineFields}
 use Rattle.ssb_schema.specs.declared.refresh.Action.{Action}
 use Rattle.ssb_schema.specs.declared.refresh.Action.TheVariants as action
 use Rattle.ssb_script.specs.declared.request.Asking.{Asking}
-use Rattle.ssb_script.specs.declared.request.Asking.TheVariants.{Alone, Together}
+use Rattle.ssb_script.specs.declared.request.Asking.TheVariants.{Alone, Together, Statement as Stated}
 use Rattle.ssb_script.specs.declared.request.Request.{Request}
 use Rattle.ssb_script.specs.declared.request.Request.TheVariants as request
 use Rattle.ssb_script.specs.declared.request.Script.{Script}
+use Rattle.ssb_script.specs.declared.statement.StatementAsked.{StatementAsked}
+use Rattle.ssb_sql.specs.Said.{IsRead}
+use Rattle.ssb_sql.specs.declared.statement.Statement.{Statement}
 use Rattle.ssb_script.specs.Lines.{ScriptLine}
 use Rattle.ssb_script.specs.Lines as line
 use Rattle.ssb_script.specs.declared.control.OrderOpening.{OrderOpening}
@@ -34,6 +38,13 @@ request_of request.Abort = Abort
 abbrev pub questions_in : Asking → List (Named × List Value)
 questions_in (Alone question) = question ∷ []
 questions_in (Together questions) = questions
+questions_in (Stated asked) = asked.statement.questions.items
+
+-- the statement that is asked, if one is
+abbrev pub statement_in : Asking → Option Statement
+statement_in (Alone question) = None
+statement_in (Together questions) = None
+statement_in (Stated asked) = Some asked.statement
 
 -- the most questions of a block
 abbrev pub most_questions : ℕ
@@ -55,6 +66,7 @@ lines_of_refresh actions = line.Begin ∷ (flat_map lines_of_action actions ++ l
 abbrev pub lines_of_asking : Asking → List ScriptLine
 lines_of_asking (Alone question) = line.Query question ∷ []
 lines_of_asking (Together questions) = line.Ask ∷ (map line.Query questions ++ line.Answer ∷ [])
+lines_of_asking (Stated asked) = line.Sql asked.text ∷ []
 
 -- the action of an order that began so
 abbrev pub action_of : OrderOpening → List LineFields → Action
@@ -67,10 +79,36 @@ IsWholeAction (action.Add order) = order_fault order ≡ None
 IsWholeAction (action.Amend order) = order_fault order ≡ None
 IsWholeAction (action.Withdraw key) = Unit {0}
 
+-- a statement is what tokens say
+abbrev pub IsWholeStatement : StatementAsked → Type 0
+IsWholeStatement asked = IsRead asked.statement
+
 -- a block has 1 to 16 questions
 abbrev pub IsWholeAsking : Asking → Type 0
 IsWholeAsking (Alone question) = Unit {0}
 IsWholeAsking (Together questions) = (1 ≤ length questions) × (length questions ≤ most_questions)
+IsWholeAsking (Stated asked) = IsWholeStatement asked
+
+-- two requests are one, but for what the text of a statement is read as
+abbrev pub AskAlike : Asking → Asking → Type 0
+AskAlike (Alone question) other = other ≡ Alone question
+AskAlike (Together questions) other = other ≡ Together questions
+AskAlike (Stated asked) (Stated other) = other.text ≡ asked.text
+AskAlike (Stated asked) (Alone question) = ⊥
+AskAlike (Stated asked) (Together questions) = ⊥
+
+abbrev pub AreAlike : RequestRecord → RequestRecord → Type 0
+AreAlike (Ask asking) (Ask other) = AskAlike asking other
+AreAlike (Ask asking) (Refresh actions) = ⊥
+AreAlike (Ask asking) Abort = ⊥
+AreAlike (Refresh actions) other = other ≡ Refresh actions
+AreAlike Abort other = other ≡ Abort
+
+-- whether a statement is asked
+abbrev pub is_statement : RequestRecord → Bool
+is_statement (Ask asking) = is_some (statement_in asking)
+is_statement (Refresh actions) = false
+is_statement Abort = false
 
 -- a refresh has 1 to 64 actions, on orders
 abbrev pub IsWholeRequest : RequestRecord → Type 0

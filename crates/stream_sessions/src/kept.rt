@@ -60,7 +60,8 @@ pub(crate) fn keep_reply(told: &mut Option<Vec<Told>>, client: u32, reply: Reply
     let Some(kept) = told else {
         return;
     };
-    if let Reply::Answered(answers) = reply {
-        keep_all(kept, client, answers);
+    match reply {
+        Reply::Answered(answers) | Reply::Listed(answers, _) => keep_all(kept, client, answers),
+        Reply::Refreshed(_) | Reply::Aborted => {}
     }
 }
