@@ -16,6 +16,7 @@ use crate::grabbing::grab_all;
 use crate::passes::{RequestRows, answer_all, count_questions, count_standing};
 use crate::snapshot::snapshot;
 use crate::{Server, Token};
+use row_store::Follower;
 use ssb_answers::Unserved;
 use ssb_questions::Question;
 use ssb_schema::Items;
@@ -23,7 +24,7 @@ use standing_columns::StandingColumns;
 use std::alloc::AllocError;
 use std::sync::Wait;
 use std::thread::Threads;
-use twin_cell::{EndsCopies, TwinReader};
+use twin_cell::TwinReader;
 
 /// What a turn of a dispatcher did.
 #[derive(Clone, Copy, Debug, PartialEq, Eq)]
@@ -51,9 +52,9 @@ impl ScanGate for OpenGate {
 }
 
 // Answers every request in hand by the rows that were found, or gives it up.
-fn finish<W: EndsCopies + Drop>(
-    server: &Server<W>,
-    token: &mut Token<W>,
+fn finish<K: Follower + Drop>(
+    server: &ssb_clients::Server<K>,
+    token: &mut history::Token<K>,
     batch: &mut Batch,
     at: u64,
     scanned: Result<Vec<RequestRows>, AllocError>,
@@ -84,9 +85,9 @@ fn finish<W: EndsCopies + Drop>(
 }
 
 // The rows of each request in hand, over this copy. The batch is counted before its clients get them.
-fn answer_batch<W: EndsCopies + Drop, R: Threads + Sync>(
+fn answer_batch<K: Follower + Drop, R: Threads + Sync>(
     rt: &R,
-    server: &Server<W>,
+    server: &ssb_clients::Server<K>,
     columns: &StandingColumns,
     requests: &[Items<Question>],
 ) -> Result<Vec<RequestRows>, AllocError>

@@ -6,7 +6,9 @@ ghost use Rattle.history.specs.Tokens.{TokenRecord};
 ghost use Rattle.ssb_clients.specs.Tickets.{IsQuiet};
 ghost use Rattle.ssb_serving.specs.Streams.{IsSpoken};
 
-use ssb_server::{Client, Server};
+use row_store::Follower;
+use ssb_clients::Server;
+use ssb_server::{Client, ColumnsWriter};
 use std::alloc::{AllocError, Global};
 use std::marker::PhantomData;
 use std::snapshot::Snapshot;
@@ -48,14 +50,15 @@ where
 }
 
 /// What a client's thread does with its seat. The thread is started for whatever does so: the prover compares all that
-/// a closure takes and gives, part by part, which for a seat is more than it can.
-pub(crate) trait TakesSeat<W: Wait + Drop, R, P>: Leaves<P> {
-    fn take(self, rt: &R, alloc: Global, server: &Server<W>) -> P
+/// a closure takes and gives, part by part, which for a seat is more than it can. So it is for the server over whatever
+/// follows the commits.
+pub(crate) trait TakesSeat<F: Follower + Drop, R, P>: Leaves<P> {
+    fn take(self, rt: &R, alloc: Global, server: &Server<F>) -> P
         requires { IsQuiet server.now (Self.client self) }
         ensures { Self.leaves self result };
 }
 
-impl<'a, W, R, S, K, E> TakesSeat<W, R, Spoken<W, S::Left>> for Seat<'a, W, S, K, E>
+impl<'a, W, R, S, K, E> TakesSeat<ColumnsWriter<W>, R, Spoken<W, S::Left>> for Seat<'a, W, S, K, E>
 where
     W: Wait + Drop,
     E: Evidence,
@@ -63,7 +66,7 @@ where
     K: Acknowledges<E>,
     S::Left: Drop,
 {
-    fn take(self, rt: &R, alloc: Global, server: &Server<W>) -> Spoken<W, S::Left> {
+    fn take(self, rt: &R, alloc: Global, server: &Server<ColumnsWriter<W>>) -> Spoken<W, S::Left> {
         let Seat {
             mut client,
             speaker,
@@ -91,16 +94,16 @@ impl<P, T: Leaves<P>> Promise<P> for LeftBy<T> {
 pub(crate) type Speaking<T, P> = PromisedHandle<P, LeftBy<T>>;
 
 // Starts a client's thread.
-fn start_client<'s, E, W, T, P, R>(
+fn start_client<'s, E, F, T, P, R>(
     scope: &Scope<'s, E>,
     rt: &'s R,
     alloc: Global,
-    server: &'s Server<W>,
+    server: &'s Server<F>,
     seat: T,
 ) -> Result<Speaking<T, P>, AllocError>
 where
-    W: Wait + Drop + Send,
-    T: TakesSeat<W, R, P> + Drop + Send + 's,
+    F: Follower + Drop + Send,
+    T: TakesSeat<F, R, P> + Drop + Send + 's,
     P: Drop + Send + 's,
     R: Wait + Threads + Sync,
     requires { IsQuiet server.now (T.client seat) }
@@ -120,17 +123,17 @@ where
 }
 
 /// Starts a thread for each seat, in order. Where a thread can't be started, no later one is.
-pub(crate) fn start_clients<'s, E, W, T, P, R>(
+pub(crate) fn start_clients<'s, E, F, T, P, R>(
     scope: &Scope<'s, E>,
     rt: &'s R,
     alloc: Global,
-    server: &'s Server<W>,
+    server: &'s Server<F>,
     seats: Vec<T>,
     speaking: &mut Vec<Speaking<T, P>>,
 ) -> Result<(), AllocError>
 where
-    W: Wait + Drop + Send,
-    T: TakesSeat<W, R, P> + Drop + Send + 's,
+    F: Follower + Drop + Send,
+    T: TakesSeat<F, R, P> + Drop + Send + 's,
     P: Drop + Send + 's,
     R: Wait + Threads + Sync,
     requires seats { All (λ seat. IsQuiet server.now (T.client seat)) seats.items }

@@ -5,7 +5,9 @@ ghost use Rattle.history.specs.Tokens.{TokenRecord};
 ghost use Rattle.ssb_serving.specs.Members.{IsStill, AreStill};
 ghost use Rattle.ssb_clients.specs.Tickets.{IsOf};
 
-use ssb_server::{Dispatcher, OpenGate, Server, Turn};
+use row_store::Follower;
+use ssb_clients::Server;
+use ssb_server::{ColumnsWriter, Dispatcher, OpenGate, Turn};
 use std::alloc::AllocError;
 use std::snapshot::Snapshot;
 use std::sync::Wait;
@@ -23,24 +25,29 @@ impl<W: Wait + Drop> HasToken for Dispatcher<W> {
 }
 
 /// What a dispatcher's thread does with its dispatcher. The thread is started for whatever does so: the prover
-/// compares all that a closure's captures are made of, which for a dispatcher is more than it can.
-pub(crate) trait TakesTurns<W: Wait + Drop>: HasToken {
-    fn take_turn<R: Wait + Threads + Sync>(&mut self, rt: &R, server: &Server<W>) -> Turn
+/// compares all that a closure's captures are made of, which for a dispatcher is more than it can. So it is for the
+/// server over whatever follows the commits.
+pub(crate) trait TakesTurns<F: Follower + Drop>: HasToken {
+    fn take_turn<R: Wait + Threads + Sync>(&mut self, rt: &R, server: &Server<F>) -> Turn
         requires shared { IsSync R.row }
         requires table { (Self.token self.old).table ≡ server.now }
         ensures { IsStill (Self.token self.old) (Self.token self.new) };
 
-    fn idle<R: Wait>(&mut self, rt: &R, server: &Server<W>)
+    fn idle<R: Wait>(&mut self, rt: &R, server: &Server<F>)
         requires { (Self.token self.old).table ≡ server.now }
         ensures { IsStill (Self.token self.old) (Self.token self.new) };
 }
 
-impl<W: Wait + Drop> TakesTurns<W> for Dispatcher<W> {
-    fn take_turn<R: Wait + Threads + Sync>(&mut self, rt: &R, server: &Server<W>) -> Turn {
+impl<W: Wait + Drop> TakesTurns<ColumnsWriter<W>> for Dispatcher<W> {
+    fn take_turn<R: Wait + Threads + Sync>(
+        &mut self,
+        rt: &R,
+        server: &Server<ColumnsWriter<W>>,
+    ) -> Turn {
         self.turn(rt, server, &OpenGate)
     }
 
-    fn idle<R: Wait>(&mut self, rt: &R, server: &Server<W>) {
+    fn idle<R: Wait>(&mut self, rt: &R, server: &Server<ColumnsWriter<W>>) {
         if self.lags(server) {
             self.follow(rt, server);
         } else {
@@ -71,9 +78,9 @@ fn time_since<C: Clock>(clock: &C, since: Option<Instant>) -> Option<Duration> {
 
 // Takes turns until it is told to stop, and counts how long each batch took. Where nothing is asked, it carries commits
 // over to the copies if they lag, and else rests. Who tells it to stop sets the flag, and then rings.
-fn dispatch<W: Wait + Drop, D: TakesTurns<W> + Drop, R: Wait + Threads + Sync + Clock>(
+fn dispatch<F: Follower + Drop, D: TakesTurns<F> + Drop, R: Wait + Threads + Sync + Clock>(
     rt: &R,
-    server: &Server<W>,
+    server: &Server<F>,
     stop: &AtomicBool,
     mut dispatcher: D,
 ) -> D
@@ -101,16 +108,16 @@ fn dispatch<W: Wait + Drop, D: TakesTurns<W> + Drop, R: Wait + Threads + Sync + 
 }
 
 // Starts a dispatcher's thread.
-fn start_dispatcher<'s, E, W, D, R>(
+fn start_dispatcher<'s, E, F, D, R>(
     scope: &Scope<'s, E>,
     rt: &'s R,
-    server: &'s Server<W>,
+    server: &'s Server<F>,
     stop: &'s AtomicBool,
     dispatcher: D,
 ) -> Result<PromisedHandle<D, DispatchedBy<D>>, AllocError>
 where
-    W: Wait + Drop + Send,
-    D: TakesTurns<W> + Drop + Send + 's,
+    F: Follower + Drop + Send,
+    D: TakesTurns<F> + Drop + Send + 's,
     R: Wait + Threads + Sync + Clock,
     requires { IsOf server.now (D.token dispatcher) }
     ensures { IfOk result (λ thread. thread.promise.dispatcher.value ≡ dispatcher) }
@@ -132,7 +139,7 @@ where
 pub(crate) fn start_dispatchers<'s, E, W: Wait + Drop + Send, R: Wait + Threads + Sync + Clock>(
     scope: &Scope<'s, E>,
     rt: &'s R,
-    server: &'s Server<W>,
+    server: &'s Server<ColumnsWriter<W>>,
     stop: &'s AtomicBool,
     dispatchers: Vec<Dispatcher<W>>,
     dispatching: &mut Vec<Dispatching<W>>,

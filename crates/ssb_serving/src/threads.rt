@@ -7,7 +7,7 @@ ghost use Rattle.ssb_serving.specs.Members.{AreStill};
 
 use crate::clients::{Leaves, Speaking, TakesSeat, join_clients, start_clients};
 use crate::staff::Staff;
-use ssb_server::{Dispatcher, Server};
+use ssb_server::{ColumnsWriter, Dispatcher, Server};
 use std::alloc::{AllocError, Global};
 use std::sync::Wait;
 use std::sync::atomic::AtomicBool;
@@ -67,7 +67,7 @@ fn run_all<'s, E, W, T, P, R>(
 ) -> Result<EndedThreads<W, P>, AllocError>
 where
     W: Wait + Drop + Send,
-    T: TakesSeat<W, R, P> + Drop + Send + 's,
+    T: TakesSeat<ColumnsWriter<W>, R, P> + Drop + Send + 's,
     P: Drop + Send + 's,
     R: Wait + Threads + Sync + Clock,
     requires seats { All (λ seat. IsQuiet server.now (T.client seat)) crew.seats.items }
@@ -104,7 +104,7 @@ fn run_in_scope<W, T, P, R>(
 ) -> Result<EndedThreads<W, P>, AllocError>
 where
     W: Wait + Drop + Send,
-    T: TakesSeat<W, R, P> + Drop + Send,
+    T: TakesSeat<ColumnsWriter<W>, R, P> + Drop + Send,
     P: Drop + Send,
     R: Wait + Threads + Sync + Clock,
     requires seats { All (λ seat. IsQuiet server.now (T.client seat)) crew.seats.items }
@@ -136,7 +136,7 @@ pub(crate) fn run_threads<W, T, P, R>(
 ) -> Result<EndedThreads<W, P>, AllocError>
 where
     W: Wait + Drop + Send,
-    T: TakesSeat<W, R, P> + Drop + Send,
+    T: TakesSeat<ColumnsWriter<W>, R, P> + Drop + Send,
     P: Drop + Send,
     R: Wait + Threads + Sync + Clock,
     requires seats { All (λ seat. IsQuiet server.now (T.client seat)) seats.items }
