@@ -33,9 +33,14 @@ use std::sync::Wait;
 
 /// The table: the row store and the writer in their slots, each with a word, and a word and a slot for each client's
 /// mailbox. Contracts see it as a `TableRecord`: which table it is, over which base, for how many clients and dispatchers.
-#[derive(Drop)]
 pub struct SharedTable<W: Follower + Drop> {
     ruled: RuledTable<W>,
+}
+
+impl<W: Follower + Drop> Drop for SharedTable<W> {
+    fn drop(self) {
+        let SharedTable { ruled: _ } = self;
+    }
 }
 
 impl<W: Follower + Drop> Model for SharedTable<W> {

@@ -21,10 +21,18 @@ use std::sync::Wait;
 
 /// The token of who keeps a journal: it reads the log, and neither refreshes, asks nor answers. At the table it is one
 /// dispatcher more, behind the others, that never grabs. Contracts see the token; between two calls it holds nothing.
-#[derive(Drop)]
 pub struct LogReader<K: Follower + Drop> {
     token: Token<K>,
     number: u32,
+}
+
+impl<K: Follower + Drop> Drop for LogReader<K> {
+    fn drop(self) {
+        let LogReader {
+            token: _,
+            number: _,
+        } = self;
+    }
 }
 
 impl<K: Follower + Drop> Model for LogReader<K> {

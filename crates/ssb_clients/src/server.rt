@@ -26,7 +26,6 @@ pub const MOST_AT_TABLE: u32 = MOST_DISPATCHERS + 1;
 /// What clients and dispatchers share: the table, and the places where they sleep. Contracts see the table: its name,
 /// the base, and how many clients and dispatchers there are. `K` is the writer of the copies, which follows the
 /// commits.
-#[derive(Drop)]
 pub struct Server<K: Follower + Drop> {
     pub(crate) table: SharedTable<K>,
     clients: u32,
@@ -37,6 +36,21 @@ pub struct Server<K: Follower + Drop> {
     pub(crate) alloc: Global,
     // For the close. Tokens may not be shared between threads, and behind a lock they are not; nobody takes it.
     room: Mutex<ClosingRoom<K>>,
+}
+
+impl<K: Follower + Drop> Drop for Server<K> {
+    fn drop(self) {
+        let Server {
+            table: _,
+            clients: _,
+            dispatchers: _,
+            bells: _,
+            pace: _,
+            figures: _,
+            alloc: _,
+            room: _,
+        } = self;
+    }
 }
 
 impl<K: Follower + Drop> Model for Server<K> {
