@@ -5,18 +5,16 @@ use Rattle.row_store.specs.State.{State, StandsFor}
 use Rattle.row_store.proofs.PrefixLaws.{beginnings_chain}
 use Rattle.ssb_base.specs.Base.{Tables}
 use Rattle.twin_cell.specs.Twin.{Reading, Entered}
-use Rattle.fact_columns.specs.Stored.{Stored, columns_state}
 use Rattle.history_core.specs.declared.dispatcher.Outcome.{Outcome}
 use Rattle.history_core.specs.declared.dispatcher.Outcome.TheVariants.{Served, GivenUp}
 use Rattle.history.specs.Tokens.{TableRecord, TokenRecord, IsFree}
-use Rattle.shared_scan.specs.Answers.{AreSnapshot}
 use Rattle.ssb_server.specs.Hand.{Hand, no_hand, Keeps}
 use Rattle.history.specs.Words.{IsCause}
 use Rattle.ssb_answers.specs.declared.answer.Unserved.{Unserved as Cause}
 use Rattle.ssb_answers.specs.declared.answer.Unserved.TheVariants.{OutOfMemory, Twin}
 use Rattle.ssb_server.specs.Deeds as deeds
 use Rattle.ssb_clients.specs.Fetching.{IsDispatcher}
-use Rattle.ssb_server.specs.Turns.{HoldsNothing, HasGrabbed, HasFetched, Knows, StandsAt, Gave, IsTrueCause}
+use Rattle.ssb_server.specs.Turns.{HoldsNothing, HasGrabbed, HasFetched, HasFewLines, Knows, StandsAt, Gave, IsTrueCause}
 use Rattle.ssb_server.specs.declared.turn.Turn.{Turn}
 use Rattle.ssb_server.specs.declared.turn.Turn.TheVariants.{Idle, Answered, Unserved}
 use Rattle.ssb_server.specs.Ends.{Finishes, Ends, Grows, Turned}
@@ -76,19 +74,18 @@ dispatcher_grabbed table t u hand grabbed is = subst (λ x. IsDispatcher table x
 pub nothing_grabbed : (t u : TokenRecord) (hand : Hand) → HasGrabbed t hand u → HoldsNothing t → HoldsNothing u
 nothing_grabbed t u hand grabbed is = subst HoldsNothing (sym grabbed.now) record { rows = is.rows; writer = is.writer }
 
--- the entered columns stand for all that the token sees
-pub are_snapshot : (t : TokenRecord) (guard : Entered) (columns : Stored) → StandsAt t.table.base t.seen guard
-    → columns_state columns ≡ guard.state → length (lines_after t.table.base t.seen) ≤ t.table.base.limits.lines
-    → AreSnapshot columns
-are_snapshot t guard columns at same few = grind arith
+-- the entered copy stands for all that the token sees
+pub has_few_lines : (t : TokenRecord) (guard : Entered) (state : State) → StandsAt t.table.base t.seen guard
+    → state ≡ guard.state → length (lines_after t.table.base t.seen) ≤ t.table.base.limits.lines → HasFewLines state
+has_few_lines t guard state at same few = grind arith
 
-pub copy_stands : (t : TokenRecord) (guard : Entered) (columns : Stored) → StandsAt t.table.base t.seen guard
-    → columns_state columns ≡ guard.state → StandsFor (columns_state columns) t.seen
-copy_stands t guard columns at same = subst (λ s. StandsFor s t.seen) (sym same) at.stands
+pub copy_stands : (t : TokenRecord) (guard : Entered) (state : State) → StandsAt t.table.base t.seen guard
+    → state ≡ guard.state → StandsFor state t.seen
+copy_stands t guard state at same = subst (λ s. StandsFor s t.seen) (sym same) at.stands
 
-pub copy_base : (t : TokenRecord) (guard : Entered) (columns : Stored) → StandsAt t.table.base t.seen guard
-    → columns_state columns ≡ guard.state → columns.base ≡ t.table.base
-copy_base t guard columns at same = ap (λ (s : State). s.base) same ∙ at.base_is
+pub copy_base : (t : TokenRecord) (guard : Entered) (state : State) → StandsAt t.table.base t.seen guard
+    → state ≡ guard.state → state.base ≡ t.table.base
+copy_base t guard state at same = ap (λ (s : State). s.base) same ∙ at.base_is
 
 -- the reader that left knows what is seen
 pub left : (base : Tables) (seen : List CommitRecord) (guard : Entered) (back : Reading) → StandsAt base seen guard

@@ -1,9 +1,10 @@
 -- What the steps of a turn do to a dispatcher's token.
-use Rattle.std.specs.Prelude.{◌≡◌, ℕ, ◌<◌, All, false, List, [], ◌∷◌, ◌++◌, length, map, Some, Result, MatchResult}
+use Rattle.std.specs.Prelude.{◌≡◌, ℕ, ◌<◌, ◌≤◌, All, false, List, [], ◌∷◌, ◌++◌, length, map, Some, Result, MatchResult}
 use Rattle.std.specs.declared.alloc.AllocError.{AllocError}
-use Rattle.row_store.specs.History.{CommitRecord, IsPrefix}
-use Rattle.row_store.specs.State.{StandsFor}
+use Rattle.row_store.specs.History.{CommitRecord, IsPrefix, lines_after}
+use Rattle.row_store.specs.State.{State, StandsFor}
 use Rattle.ssb_base.specs.Base.{Tables}
+use Rattle.ssb_base.specs.Limits.{most_lines}
 use Rattle.history_core.specs.declared.dispatcher.Outcome.{Outcome}
 use Rattle.history.specs.Tokens.{TokenRecord}
 use Rattle.history.specs.Words.{IsFresh}
@@ -82,6 +83,12 @@ IsTrueCause history (Twin told found) = (told ≡ length history) × (told < fou
 abbrev pub IsFound : Reading → Unserved → Type 0
 IsFound reader OutOfMemory = Unit {0}
 IsFound reader (Twin told found) = found ≡ length reader.last
+
+-- the state is that of a history that leaves no more lines than can be summed
+pub record HasFewLines (state : State) : Type 0 where
+  pub history : List CommitRecord
+  pub stands : StandsFor state history
+  pub few : length (lines_after state.base history) ≤ most_lines
 
 -- no copy is held: the reader, and the cause
 pub record Misses (base : Tables) (history : List CommitRecord) (missed : Reading × Unserved) : Type 0 where

@@ -10,15 +10,16 @@ ghost use Rattle.ssb_server.specs.Turns.{answers_after, HoldsNothing, HasInHand,
 
 use crate::batch::Batch;
 use crate::passes::RequestRows;
-use crate::{Server, Token};
+use history::Token;
 use history_core::Response;
+use row_store::Follower;
 use ssb_answers::Unserved;
-use twin_cell::EndsCopies;
+use ssb_clients::Server;
 
 // Gives this answer to the request that was grabbed last.
-fn give_one<W: EndsCopies + Drop>(
-    server: &Server<W>,
-    token: &mut Token<W>,
+fn give_one<K: Follower + Drop>(
+    server: &Server<K>,
+    token: &mut Token<K>,
     client: u32,
     answer: Response,
 )
@@ -33,9 +34,9 @@ fn give_one<W: EndsCopies + Drop>(
 }
 
 /// Answers every request in hand by its rows. It tells how many there were.
-pub(crate) fn give_rows<W: EndsCopies + Drop>(
-    server: &Server<W>,
-    token: &mut Token<W>,
+pub(crate) fn give_rows<K: Follower + Drop>(
+    server: &Server<K>,
+    token: &mut Token<K>,
     batch: &mut Batch,
     at: u64,
     mut rows: Vec<RequestRows>,
@@ -66,9 +67,9 @@ pub(crate) fn give_rows<W: EndsCopies + Drop>(
 }
 
 /// Gives up every request in hand, with the cause. It tells how many there were.
-pub(crate) fn give_up_all<W: EndsCopies + Drop>(
-    server: &Server<W>,
-    token: &mut Token<W>,
+pub(crate) fn give_up_all<K: Follower + Drop>(
+    server: &Server<K>,
+    token: &mut Token<K>,
     batch: &mut Batch,
     cause: Unserved,
 ) -> usize

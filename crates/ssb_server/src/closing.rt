@@ -9,9 +9,10 @@ ghost use Rattle.ssb_clients.specs.Tickets.{IsOf, IsQuiet, AreAllThere, Leaves, 
 
 use crate::opening::Opened;
 use crate::tickets::{are_numbered, gather_all};
-use row_store::Log;
+use row_store::{Log, Replica};
 use ssb_base::Base;
 use ssb_clients::tickets::are_clients_numbered;
+use standing_columns::StandingColumns;
 use std::fmt;
 use std::fmt::{Display, Formatter};
 use std::sync::Arc;
@@ -26,17 +27,17 @@ pub struct Closed {
 
 /// A client, a dispatcher or who reads the log is missing, or there twice. All is handed back.
 #[derive(Drop)]
-pub struct CloseError<W: EndsCopies + Drop> {
-    pub opened: Opened<W>,
+pub struct CloseError<W: EndsCopies + Drop, C: Replica + Drop = StandingColumns> {
+    pub opened: Opened<W, C>,
 }
 
-impl<W: EndsCopies + Drop> Display for CloseError<W> {
+impl<W: EndsCopies + Drop, C: Replica + Drop> Display for CloseError<W, C> {
     fn fmt<O: fmt::Write>(&self, f: &mut Formatter<O>) -> fmt::Result {
         f.write_str("63 TokenMissing")
     }
 }
 
-impl<W: EndsCopies + Drop> Opened<W> {
+impl<W: EndsCopies + Drop, C: Replica + Drop> Opened<W, C> {
     // Whether each client, each dispatcher and who reads the log is there once.
     fn are_all_there(&self) -> bool
         ensures { IsTrue result ↔ AreAllThere self.now.server self.now.clients.items
@@ -72,7 +73,7 @@ impl<W: EndsCopies + Drop> Opened<W> {
 
     /// Ends the server. Its clients and dispatchers, and who reads the log, if it was opened with one, are handed in,
     /// each once, the clients and the dispatchers in any order, and no client is asking.
-    pub fn close(self) -> Result<Closed, CloseError<W>>
+    pub fn close(self) -> Result<Closed, CloseError<W, C>>
         requires clients { All (IsQuiet self.server) self.clients.items }
         requires dispatchers { All (IsOf self.server) (with_reader self.dispatchers.items self.reader) }
         ensures whole { OnOk result (AreAllThere self.server self.clients.items

@@ -11,27 +11,29 @@ ghost use Rattle.ssb_server.specs.Turns.{HasFetched};
 
 use crate::batch::Batch;
 use crate::following::follow;
+use crate::passes::AnswersBatch;
 use crate::turn::{ScanGate, Turn, take_turn};
-use crate::{Server, Token};
+use history::Token;
 use history_core::Who;
-use standing_columns::StandingColumns;
+use row_store::Replica;
+use ssb_clients::Server;
 use std::marker::Model;
 use std::sync::Wait;
 use std::thread::Threads;
-use twin_cell::{EndsCopies, TwinReader};
+use twin_cell::{EndsCopies, TwinReader, TwinWriter};
 
-/// A dispatcher's token, with its reader of the columns and room for a batch. Contracts see the token; between two
-/// turns it holds nothing.
-pub struct Dispatcher<W: EndsCopies + Drop> {
-    token: Token<W>,
-    reader: Option<TwinReader<StandingColumns>>,
+/// A dispatcher's token, with its reader of the copies and room for a batch. Contracts see the token; between two
+/// turns it holds nothing. The copies are of any replica, as in `snapshot`.
+pub struct TwinDispatcher<C: Replica + Drop, W: EndsCopies + Drop> {
+    token: Token<TwinWriter<C, W>>,
+    reader: Option<TwinReader<C>>,
     batch: Batch,
     number: u32,
 }
 
-impl<W: EndsCopies + Drop> Drop for Dispatcher<W> {
+impl<C: Replica + Drop, W: EndsCopies + Drop> Drop for TwinDispatcher<C, W> {
     fn drop(self) {
-        let Dispatcher {
+        let TwinDispatcher {
             token: _,
             reader: _,
             batch: _,
@@ -40,7 +42,7 @@ impl<W: EndsCopies + Drop> Drop for Dispatcher<W> {
     }
 }
 
-impl<W: EndsCopies + Drop> Model for Dispatcher<W> {
+impl<C: Replica + Drop, W: EndsCopies + Drop> Model for TwinDispatcher<C, W> {
     ghost use Rattle.history.specs.Tokens.{TokenRecord};
 
     ghost Value = { TokenRecord };
@@ -52,13 +54,13 @@ impl<W: EndsCopies + Drop> Model for Dispatcher<W> {
     ghost invariant = { λ d. IsReady d.number d.token d.reader d.batch };
 }
 
-impl<W: EndsCopies + Drop> Dispatcher<W> {
+impl<C: Replica + Drop, W: EndsCopies + Drop> TwinDispatcher<C, W> {
     /// A dispatcher of a token that was just dealt, with a reader over its base that was told nothing.
     pub(crate) fn new(
-        token: Token<W>,
-        reader: TwinReader<StandingColumns>,
+        token: Token<TwinWriter<C, W>>,
+        reader: TwinReader<C>,
         batch: Batch,
-    ) -> Dispatcher<W>
+    ) -> TwinDispatcher<C, W>
         requires token { IsNewDispatcher reader.base token }
         requires reader { reader.told ≡ [] }
         requires batch { batch ≡ no_hand }
@@ -67,7 +69,7 @@ impl<W: EndsCopies + Drop> Dispatcher<W> {
         let Who::Dispatcher(number) = token.who() else {
             unreachable!()
         };
-        Dispatcher {
+        TwinDispatcher {
             token,
             reader: Some(reader),
             batch,
@@ -76,11 +78,11 @@ impl<W: EndsCopies + Drop> Dispatcher<W> {
     }
 
     /// The dispatcher's token.
-    pub(crate) fn into_token(self) -> Token<W>
+    pub(crate) fn into_token(self) -> Token<TwinWriter<C, W>>
         ensures token { result ≡ self }
         ensures left { IsLeft self }
     {
-        let Dispatcher {
+        let TwinDispatcher {
             token,
             reader: _,
             batch: _,
@@ -91,13 +93,13 @@ impl<W: EndsCopies + Drop> Dispatcher<W> {
 
     /// Sleeps until something was posted since the last turn began, until `Server::ring`, or until it is to look
     /// whether the copies lag. It may return for no reason.
-    pub fn rest<R: Wait>(&self, rt: &R, server: &Server<W>) {
+    pub fn rest<R: Wait>(&self, rt: &R, server: &Server<TwinWriter<C, W>>) {
         server.rest(rt, self.number);
     }
 
     /// Whether the copies lack commits that it is for this dispatcher to carry over while nothing is asked: so many
     /// that memory would fill up, or the last ones before a silence.
-    pub fn lags(&self, server: &Server<W>) -> bool {
+    pub fn lags(&self, server: &Server<TwinWriter<C, W>>) -> bool {
         server.lags(self.number)
     }
 
@@ -110,9 +112,9 @@ impl<W: EndsCopies + Drop> Dispatcher<W> {
     }
 }
 
-impl<W: Wait + Drop> Dispatcher<W> {
+impl<C: AnswersBatch + Drop, W: Wait + Drop> TwinDispatcher<C, W> {
     /// Carries all commits so far over to both copies, though nothing is asked. It waits as a turn does.
-    pub fn follow<R: Wait>(&mut self, rt: &R, server: &Server<W>)
+    pub fn follow<R: Wait>(&mut self, rt: &R, server: &Server<TwinWriter<C, W>>)
         requires { self.old.table ≡ server.now }
         ensures followed { HasFetched self.old self.new }
         ensures free { IsFree self.new }
@@ -125,7 +127,7 @@ impl<W: Wait + Drop> Dispatcher<W> {
     pub fn turn<R: Wait + Threads + Sync, G: ScanGate>(
         &mut self,
         rt: &R,
-        server: &Server<W>,
+        server: &Server<TwinWriter<C, W>>,
         gate: &G,
     ) -> Turn
         requires { self.old.table ≡ server.now }

@@ -1,21 +1,21 @@
-//! How the copies follow the commits, though nothing is asked.
+//! How the copies follow the commits, though nothing is asked: copies of any replica, as in `snapshot`.
 ghost use Rattle.std.specs.Prelude.{◌≡◌, ◌++◌, false};
 ghost use Rattle.ssb_clients.specs.Fetching.{IsDispatcher, Fetches};
 ghost use Rattle.ssb_server.specs.Turns.{HoldsNothing, HasFetched, HasTaken, Follows};
 
 use crate::snapshot::renew;
-use crate::{Server, Token};
-use row_store::{Commit, Follower};
-use standing_columns::StandingColumns;
+use history::Token;
+use row_store::{Commit, Follower, Replica};
+use ssb_clients::Server;
 use std::alloc::AllocError;
 use std::sync::Wait;
 use twin_cell::TwinWriter;
 
 // Appends the commits that the writer lacks and publishes them, and once more, so that both copies have them.
-fn level<W: Wait + Drop>(
-    writer: TwinWriter<StandingColumns, W>,
+fn level<C: Replica + Drop, W: Wait + Drop>(
+    writer: TwinWriter<C, W>,
     commits: Vec<Commit>,
-) -> (TwinWriter<StandingColumns, W>, Result<(), AllocError>)
+) -> (TwinWriter<C, W>, Result<(), AllocError>)
     ensures { Follows writer.base (writer.published ++ writer.pending ++ commits.items) result.0 }
 {
     let (writer, renewed) = renew(writer, commits);
@@ -26,12 +26,12 @@ fn level<W: Wait + Drop>(
 }
 
 // Fetches the commits that the writer lacks, and brings both copies up to them.
-fn carry_over<W: Wait + Drop, R: Wait>(
+fn carry_over<C: Replica + Drop, W: Wait + Drop, R: Wait>(
     rt: &R,
-    server: &Server<W>,
-    token: &mut Token<W>,
-    writer: TwinWriter<StandingColumns, W>,
-) -> (TwinWriter<StandingColumns, W>, Result<(), AllocError>)
+    server: &Server<TwinWriter<C, W>>,
+    token: &mut Token<TwinWriter<C, W>>,
+    writer: TwinWriter<C, W>,
+) -> (TwinWriter<C, W>, Result<(), AllocError>)
     requires dispatcher { IsDispatcher server.now token.old }
     requires free { token.old.has_rows ≡ false }
     requires writer { HasTaken token.old writer }
@@ -46,7 +46,11 @@ fn carry_over<W: Wait + Drop, R: Wait>(
 }
 
 /// Carries all commits so far over to both copies. Both parts are home afterwards.
-pub(crate) fn follow<W: Wait + Drop, R: Wait>(rt: &R, server: &Server<W>, token: &mut Token<W>)
+pub(crate) fn follow<C: Replica + Drop, W: Wait + Drop, R: Wait>(
+    rt: &R,
+    server: &Server<TwinWriter<C, W>>,
+    token: &mut Token<TwinWriter<C, W>>,
+)
     requires dispatcher { IsDispatcher server.now token.old }
     requires free { HoldsNothing token.old }
     ensures followed { HasFetched token.old token.new }

@@ -5,13 +5,14 @@ ghost use Rattle.ssb_clients.specs.Fetching.{IsDispatcher};
 ghost use Rattle.ssb_server.specs.Turns.{HoldsNothing, HasGrabbed};
 
 use crate::batch::Batch;
-use crate::{Server, Token};
-use twin_cell::EndsCopies;
+use history::Token;
+use row_store::Follower;
+use ssb_clients::Server;
 
 /// One try at each client's mailbox, in the order of clients.
-pub(crate) fn grab_all<W: EndsCopies + Drop>(
-    server: &Server<W>,
-    token: &mut Token<W>,
+pub(crate) fn grab_all<K: Follower + Drop>(
+    server: &Server<K>,
+    token: &mut Token<K>,
     batch: &mut Batch,
 )
     requires dispatcher { IsDispatcher server.now token.old }

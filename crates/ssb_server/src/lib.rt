@@ -43,9 +43,10 @@ mod tickets;
 mod turn;
 
 pub use closing::{CloseError, Closed};
-pub use dispatcher::Dispatcher;
+pub use dispatcher::TwinDispatcher;
 pub use loaded::Loaded;
 pub use opening::{OpenFault, Opened, open};
+pub use passes::{AnswersBatch, RequestRows};
 pub use ssb_clients::{Keeps, MOST_CLIENTS, MOST_DISPATCHERS};
 use standing_columns::StandingColumns;
 pub use standing_columns::StandingError;
@@ -62,14 +63,8 @@ pub type Server<W> = ssb_clients::Server<ColumnsWriter<W>>;
 /// A client of such a server.
 pub type Client<W> = ssb_clients::Client<ColumnsWriter<W>>;
 
+/// A dispatcher of such a server.
+pub type Dispatcher<W> = TwinDispatcher<StandingColumns, W>;
+
 /// Who reads the log of such a server.
 pub type LogReader<W> = ssb_clients::LogReader<ColumnsWriter<W>>;
-
-/// A token of its table.
-pub(crate) type Token<W> = history::Token<ColumnsWriter<W>>;
-
-/// Its table, just made.
-pub(crate) type OpenedTable<W> = history::OpenedTable<ColumnsWriter<W>>;
-
-/// Room for its tokens.
-pub(crate) type ClosingRoom<W> = ssb_clients::ClosingRoom<ColumnsWriter<W>>;

@@ -9,18 +9,19 @@ ghost use Rattle.ssb_server.specs.Opening.{AreCounts, IsDispatcherCount, IsOpenF
 ghost use Rattle.ssb_server.specs.Opening.{AreSeats, MayRead};
 
 use crate::batch::Batch;
-use crate::dispatcher::Dispatcher;
+use crate::dispatcher::TwinDispatcher;
 use crate::loaded::Loaded;
-use crate::{Client, Keeps, LogReader, OpenedTable, Server, Token};
+use history::{OpenedTable, SharedTable, Token};
+use row_store::{Follower, Replica};
 use server_figures::LiveFigures;
 use ssb_clients::tickets::clients_of;
-use ssb_clients::{MOST_CLIENTS, MOST_DISPATCHERS};
+use ssb_clients::{Client, Keeps, LogReader, MOST_CLIENTS, MOST_DISPATCHERS, Server};
 use standing_columns::StandingColumns;
 use std::alloc::{AllocError, Global};
 use std::sync::{Arc, Wait};
 use std::thread::Threads;
 use thiserror::Error;
-use twin_cell::{EndsCopies, TwinError, TwinReader, twin};
+use twin_cell::{EndsCopies, TwinError, TwinReader, TwinWriter, twin};
 
 /// Why no server was opened.
 #[derive(Clone, Copy, Debug, PartialEq, Eq, Error)]
@@ -40,21 +41,22 @@ pub enum OpenFault {
 }
 
 /// An open server, with all who have a token of it: its clients and its dispatchers, in a new one each by number from
-/// 1, and who reads its log, where somebody does, which at the table is one dispatcher more, behind the others.
+/// 1, and who reads its log, where somebody does, which at the table is one dispatcher more, behind the others. The
+/// copies are of the columns, but nothing here looks into one, and the prover takes their type long.
 #[derive(Drop)]
-pub struct Opened<W: EndsCopies + Drop> {
-    pub server: Server<W>,
-    pub clients: Vec<Client<W>>,
-    pub dispatchers: Vec<Dispatcher<W>>,
-    pub reader: Option<LogReader<W>>,
+pub struct Opened<W: EndsCopies + Drop, C: Replica + Drop = StandingColumns> {
+    pub server: Server<TwinWriter<C, W>>,
+    pub clients: Vec<Client<TwinWriter<C, W>>>,
+    pub dispatchers: Vec<TwinDispatcher<C, W>>,
+    pub reader: Option<LogReader<TwinWriter<C, W>>>,
 }
 
 // A dispatcher of each token, with a reader and room for a batch.
-fn dispatchers_of<W: EndsCopies + Drop>(
+fn dispatchers_of<C: Replica + Drop, W: EndsCopies + Drop>(
     alloc: Global,
-    tokens: Vec<Token<W>>,
-    mut readers: Vec<TwinReader<StandingColumns>>,
-) -> Result<Vec<Dispatcher<W>>, AllocError>
+    tokens: Vec<Token<TwinWriter<C, W>>>,
+    mut readers: Vec<TwinReader<C>>,
+) -> Result<Vec<TwinDispatcher<C, W>>, AllocError>
     requires { AreSeats tokens.items readers.items }
     ensures { IfOk result (λ dispatchers. dispatchers.items ≡ tokens.items) }
 {
@@ -64,13 +66,13 @@ fn dispatchers_of<W: EndsCopies + Drop>(
             unreachable!()
         };
         let batch = Batch::new(alloc)?;
-        dispatchers.push(Dispatcher::new(token, reader, batch))?;
+        dispatchers.push(TwinDispatcher::new(token, reader, batch))?;
     }
     Ok(dispatchers)
 }
 
 // The last token, which leaves.
-fn last_token<W: EndsCopies + Drop>(tokens: &mut Vec<Token<W>>) -> Token<W>
+fn last_token<K: Follower + Drop>(tokens: &mut Vec<Token<K>>) -> Token<K>
     requires { 1 ≤ length tokens.old.items }
     ensures { tokens.old.items ≡ tokens.new.items ++ result ∷ [] }
 {
@@ -81,7 +83,7 @@ fn last_token<W: EndsCopies + Drop>(tokens: &mut Vec<Token<W>>) -> Token<W>
 }
 
 // Who reads the log gets the last token of a dispatcher, where there is to be a reader.
-fn reader_of<W: EndsCopies + Drop>(tokens: &mut Vec<Token<W>>, keeps: Keeps) -> Option<LogReader<W>>
+fn reader_of<K: Follower + Drop>(tokens: &mut Vec<Token<K>>, keeps: Keeps) -> Option<LogReader<K>>
     requires { MayRead keeps tokens.old.items }
     ensures parted { with_reader tokens.new.items result ≡ tokens.old.items }
     ensures there { is_some result ≡ has_reader keeps }
@@ -91,27 +93,27 @@ fn reader_of<W: EndsCopies + Drop>(tokens: &mut Vec<Token<W>>, keeps: Keeps) -> 
         Keeps::Recent => None,
         Keeps::Unread => {
             let token = last_token(tokens);
-            Some(ssb_clients::LogReader::new(token))
+            Some(LogReader::new(token))
         }
     }
 }
 
 // A table that was just made, readers of its columns, and the figures of the server over it.
 #[derive(Drop)]
-struct MadeTable<W: EndsCopies + Drop> {
-    opened: OpenedTable<W>,
-    readers: Vec<TwinReader<StandingColumns>>,
+struct MadeTable<C: Replica + Drop, W: EndsCopies + Drop> {
+    opened: OpenedTable<TwinWriter<C, W>>,
+    readers: Vec<TwinReader<C>>,
     figures: Arc<LiveFigures>,
 }
 
 // The clients and dispatchers of these tokens of a table that was just made, with the server over it.
-fn seat_all<W: EndsCopies + Drop>(
+fn seat_all<C: Replica + Drop, W: EndsCopies + Drop>(
     alloc: Global,
-    made: MadeTable<W>,
-    reader: Option<LogReader<W>>,
+    made: MadeTable<C, W>,
+    reader: Option<LogReader<TwinWriter<C, W>>>,
     counts: (u32, u32),
     keeps: Keeps,
-) -> Result<Opened<W>, AllocError>
+) -> Result<Opened<W, C>, AllocError>
     requires counts { (counts.0 ≡ made.opened.shared.clients) × (counts.1 ≡ made.opened.shared.dispatchers) }
     requires few { (counts.0 ≤ most_clients) × (counts.1 ≤ most_at_table) }
     requires clients { made.opened.clients.items ≡ new_clients made.opened.shared }
@@ -128,7 +130,7 @@ fn seat_all<W: EndsCopies + Drop>(
         readers,
         figures,
     } = made;
-    let history::OpenedTable {
+    let OpenedTable {
         shared,
         clients,
         dispatchers,
@@ -136,7 +138,7 @@ fn seat_all<W: EndsCopies + Drop>(
     let clients = clients_of(alloc, clients)?;
     let dispatchers = dispatchers_of(alloc, dispatchers, readers)?;
     Ok(Opened {
-        server: ssb_clients::Server::new(alloc, shared, counts.0, counts.1, keeps, figures)?,
+        server: Server::new(alloc, shared, counts.0, counts.1, keeps, figures)?,
         clients,
         dispatchers,
         reader,
@@ -150,7 +152,7 @@ fn table_over<W: Threads + Sync + Wait + Drop>(
     loaded: Loaded,
     counts: (u32, u32),
     answering: u32,
-) -> Result<MadeTable<W>, TwinError>
+) -> Result<MadeTable<StandingColumns, W>, TwinError>
     requires clients { (1 ≤ counts.0) × (counts.0 ≤ most_clients) }
     requires tokens { (1 ≤ counts.1) × (counts.1 ≤ most_at_table) }
     requires answering { IsDispatcherCount answering }
@@ -169,7 +171,7 @@ fn table_over<W: Threads + Sync + Wait + Drop>(
     } = loaded;
     figures.has_committed(0, rows.line_count() as u64);
     let (writer, readers) = twin(alloc, rt, columns, answering as usize)?;
-    match history::SharedTable::new(alloc, rows, writer, counts.0, counts.1) {
+    match SharedTable::new(alloc, rows, writer, counts.0, counts.1) {
         Ok(opened) => Ok(MadeTable {
             opened,
             readers,

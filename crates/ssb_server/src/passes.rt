@@ -1,13 +1,16 @@
 //! What a batch asks, answered over one copy: by totals where a question stands, the others in passes of at most 16
 //! questions, whosever they are.
 ghost use Rattle.std.specs.Prelude.{◌≡◌, ◌++◌, ◌≤◌, List, IfOk, OnOk, length};
+ghost use Rattle.std.specs.Thread.{IsSync};
 ghost use Rattle.row_store.specs.History.{CommitRecord};
 ghost use Rattle.row_store.specs.State.{StandsFor};
 ghost use Rattle.fact_columns.specs.Stored.{columns_state};
 ghost use Rattle.shared_scan.specs.Answers.{AreSnapshot};
 ghost use Rattle.ssb_server.specs.Passes.{all_questions, joined, grouped};
-ghost use Rattle.ssb_server.specs.Turns.{answers_after};
+ghost use Rattle.ssb_server.specs.Turns.{HasFewLines, answers_after};
 
+use row_store::Replica;
+use server_figures::LiveFigures;
 use ssb_answers::{ResultRow, Rows};
 use ssb_questions::Question;
 use ssb_schema::Items;
@@ -80,9 +83,9 @@ fn group(
     Ok(found)
 }
 
-/// For each request, in order, the rows of each of its questions, all of them over these columns. Fails for want of
-/// memory alone.
-pub(crate) fn answer_all<R: Threads + Sync>(
+// For each request, in order, the rows of each of its questions, all of them over these columns. Fails for want of
+// memory alone.
+fn answer_all<R: Threads + Sync>(
     rt: &R,
     alloc: Global,
     columns: &StandingColumns,
@@ -98,8 +101,8 @@ pub(crate) fn answer_all<R: Threads + Sync>(
     Ok(found)
 }
 
-/// How many questions the requests have: a figure for a reader, which the contract bounds.
-pub(crate) fn count_questions(requests: &[Items<Question>]) -> u64
+// How many questions the requests have: a figure for a reader, which the contract bounds.
+fn count_questions(requests: &[Items<Question>]) -> u64
     ensures { result ≤ length (all_questions requests.now) }
 {
     let mut count = 0u64;
@@ -109,8 +112,8 @@ pub(crate) fn count_questions(requests: &[Items<Question>]) -> u64
     count
 }
 
-/// How many of the requests' questions are answered from totals: a figure for a reader, which the contract bounds.
-pub(crate) fn count_standing(columns: &StandingColumns, requests: &[Items<Question>]) -> u64
+// How many of the requests' questions are answered from totals: a figure for a reader, which the contract bounds.
+fn count_standing(columns: &StandingColumns, requests: &[Items<Question>]) -> u64
     ensures { result ≤ length (all_questions requests.now) }
 {
     let mut count = 0u64;
@@ -118,4 +121,38 @@ pub(crate) fn count_standing(columns: &StandingColumns, requests: &[Items<Questi
         count = count.wrapping_add(columns.count_standing(request.as_slice()) as u64);
     }
     count
+}
+
+/// Copies that answer a batch. A turn is over any such copies, since it doesn't look into one, and the prover takes the
+/// columns' type long.
+pub trait AnswersBatch: Replica {
+    /// For each request, in order, the rows of each of its questions, all of them over this copy. The batch is counted
+    /// before its clients get them.
+    fn answer_batch<R: Threads + Sync>(
+        &self,
+        rt: &R,
+        alloc: Global,
+        figures: &LiveFigures,
+        requests: &[Items<Question>],
+    ) -> Result<Vec<RequestRows>, AllocError>
+        requires shared { IsSync R.row }
+        requires few { HasFewLines (Self.state self.now) }
+        ensures { (history : List CommitRecord) → StandsFor (Self.state self.now) history
+            → IfOk result (λ found. found.items
+            ≡ answers_after (Self.state self.now).base history requests.now) };
+}
+
+impl AnswersBatch for StandingColumns {
+    fn answer_batch<R: Threads + Sync>(
+        &self,
+        rt: &R,
+        alloc: Global,
+        figures: &LiveFigures,
+        requests: &[Items<Question>],
+    ) -> Result<Vec<RequestRows>, AllocError> {
+        let rows = answer_all(rt, alloc, self, requests)?;
+        let by_totals = count_standing(self, requests);
+        figures.has_answered(count_questions(requests), by_totals);
+        Ok(rows)
+    }
 }

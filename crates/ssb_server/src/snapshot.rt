@@ -1,23 +1,24 @@
-//! From the grabbed requests to the entered copy: the latest commits are fetched, published and told.
+//! From the grabbed requests to the entered copy: the latest commits are fetched, published and told. The copies are of
+//! any replica `C`, since none of this looks into one, and the prover takes a large type long.
 ghost use Rattle.std.specs.Prelude.{◌≡◌, ◌≤◌, false, [], ◌∷◌, ◌++◌, length, MatchResult};
 ghost use Rattle.row_store.specs.History.{lines_after};
 ghost use Rattle.ssb_clients.specs.Fetching.{IsDispatcher, Fetches};
 ghost use Rattle.ssb_server.specs.Turns.{HoldsNothing, HasFetched, Knows, StandsAt, HasTaken, Appends, Follows, Misses};
 
-use crate::{Server, Token};
+use history::Token;
 use row_store::{Commit, Follower, Replica};
 use ssb_answers::Unserved;
-use standing_columns::StandingColumns;
+use ssb_clients::Server;
 use std::alloc::AllocError;
 use std::sync::Wait;
 use twin_cell::{EndsCopies, Guard, TwinReader, TwinWriter};
 
 /// Why no copy was entered, with the reader.
-pub(crate) type Missed = (TwinReader<StandingColumns>, Unserved);
+pub(crate) type Missed<C> = (TwinReader<C>, Unserved);
 
 // The commits are pending from now on; where memory runs out, the first of them are.
-fn append_all<W: EndsCopies + Drop>(
-    writer: &mut TwinWriter<StandingColumns, W>,
+fn append_all<C: Replica + Drop, W: EndsCopies + Drop>(
+    writer: &mut TwinWriter<C, W>,
     commits: Vec<Commit>,
 ) -> Result<(), AllocError>
     ensures { Appends writer.old commits.items result writer.new }
@@ -32,9 +33,9 @@ fn append_all<W: EndsCopies + Drop>(
 }
 
 // Publishes where something is pending.
-fn publish_pending<W: Wait + Drop>(
-    writer: TwinWriter<StandingColumns, W>,
-) -> (TwinWriter<StandingColumns, W>, Result<(), AllocError>)
+fn publish_pending<C: Replica + Drop, W: Wait + Drop>(
+    writer: TwinWriter<C, W>,
+) -> (TwinWriter<C, W>, Result<(), AllocError>)
     ensures { MatchResult result.1 (λ _. result.0 ≡ record {
       base = writer.base;
       published = writer.published
@@ -49,11 +50,11 @@ fn publish_pending<W: Wait + Drop>(
 }
 
 // Tells the reader what is published, and enters. The copy holds just as many commits as were told.
-fn enter<W: EndsCopies + Drop, R: Wait>(
+fn enter<C: Replica + Drop, W: EndsCopies + Drop, R: Wait>(
     rt: &R,
-    writer: &mut TwinWriter<StandingColumns, W>,
-    mut reader: TwinReader<StandingColumns>,
-) -> Result<Guard<StandingColumns>, Missed>
+    writer: &mut TwinWriter<C, W>,
+    mut reader: TwinReader<C>,
+) -> Result<Guard<C>, Missed<C>>
     requires { Knows writer.old.base writer.old.published reader }
     ensures kept { writer.new ≡ writer.old }
     ensures entered { MatchResult result (StandsAt writer.old.base writer.old.published)
@@ -73,10 +74,10 @@ fn enter<W: EndsCopies + Drop, R: Wait>(
 }
 
 /// Appends the commits that the writer lacks, and publishes all.
-pub(crate) fn renew<W: Wait + Drop>(
-    mut writer: TwinWriter<StandingColumns, W>,
+pub(crate) fn renew<C: Replica + Drop, W: Wait + Drop>(
+    mut writer: TwinWriter<C, W>,
     commits: Vec<Commit>,
-) -> (TwinWriter<StandingColumns, W>, Result<(), AllocError>)
+) -> (TwinWriter<C, W>, Result<(), AllocError>)
     ensures { let all = writer.published ++ writer.pending ++ commits.items in
         MatchResult result.1 (λ _. result.0 ≡ record { base = writer.base; published = all; pending = [] })
         (λ _. Follows writer.base all result.0) }
@@ -88,15 +89,12 @@ pub(crate) fn renew<W: Wait + Drop>(
 }
 
 // Appends the commits that the writer lacks, publishes, and enters the copy.
-fn catch_up<W: Wait + Drop, R: Wait>(
+fn catch_up<C: Replica + Drop, W: Wait + Drop, R: Wait>(
     rt: &R,
-    writer: TwinWriter<StandingColumns, W>,
+    writer: TwinWriter<C, W>,
     commits: Vec<Commit>,
-    reader: TwinReader<StandingColumns>,
-) -> (
-    TwinWriter<StandingColumns, W>,
-    Result<Guard<StandingColumns>, Missed>,
-)
+    reader: TwinReader<C>,
+) -> (TwinWriter<C, W>, Result<Guard<C>, Missed<C>>)
     requires { Knows writer.base (writer.published ++ writer.pending ++ commits.items) reader }
     ensures writer { Follows writer.base (writer.published ++ writer.pending ++ commits.items) result.0 }
     ensures entered { let all = writer.published ++ writer.pending ++ commits.items in
@@ -111,16 +109,13 @@ fn catch_up<W: Wait + Drop, R: Wait>(
 }
 
 // Fetches the commits that the writer lacks, and enters the copy that holds all of them.
-fn bring_up<W: Wait + Drop, R: Wait>(
+fn bring_up<C: Replica + Drop, W: Wait + Drop, R: Wait>(
     rt: &R,
-    server: &Server<W>,
-    token: &mut Token<W>,
-    writer: TwinWriter<StandingColumns, W>,
-    reader: TwinReader<StandingColumns>,
-) -> (
-    TwinWriter<StandingColumns, W>,
-    Result<Guard<StandingColumns>, Missed>,
-)
+    server: &Server<TwinWriter<C, W>>,
+    token: &mut Token<TwinWriter<C, W>>,
+    writer: TwinWriter<C, W>,
+    reader: TwinReader<C>,
+) -> (TwinWriter<C, W>, Result<Guard<C>, Missed<C>>)
     requires dispatcher { IsDispatcher server.now token.old }
     requires free { token.old.has_rows ≡ false }
     requires writer { HasTaken token.old writer }
@@ -139,12 +134,12 @@ fn bring_up<W: Wait + Drop, R: Wait>(
 }
 
 /// Fetches, publishes and enters. Both parts are home afterwards.
-pub(crate) fn snapshot<W: Wait + Drop, R: Wait>(
+pub(crate) fn snapshot<C: Replica + Drop, W: Wait + Drop, R: Wait>(
     rt: &R,
-    server: &Server<W>,
-    token: &mut Token<W>,
-    reader: TwinReader<StandingColumns>,
-) -> Result<Guard<StandingColumns>, Missed>
+    server: &Server<TwinWriter<C, W>>,
+    token: &mut Token<TwinWriter<C, W>>,
+    reader: TwinReader<C>,
+) -> Result<Guard<C>, Missed<C>>
     requires dispatcher { IsDispatcher server.now token.old }
     requires free { HoldsNothing token.old }
     requires reader { Knows token.old.table.base token.old.seen reader }

@@ -8,13 +8,18 @@ ghost use Rattle.history_core.specs.Counts.{most_clients};
 ghost use Rattle.ssb_clients.specs.Counts.{most_at_table};
 ghost use Rattle.ssb_clients.specs.Tickets.{IsResting, IsLeft, with_reader};
 
-use crate::dispatcher::Dispatcher;
-use crate::{Client, ClosingRoom, LogReader, Token};
+use crate::dispatcher::TwinDispatcher;
+use history::Token;
+use row_store::Replica;
 use ssb_clients::tickets::{gather_clients, gather_reader};
-use twin_cell::EndsCopies;
+use ssb_clients::{Client, ClosingRoom, LogReader};
+use twin_cell::{EndsCopies, TwinWriter};
 
 // How many of the dispatchers have the number.
-fn dispatchers_with<W: EndsCopies + Drop>(dispatchers: &[Dispatcher<W>], number: u32) -> usize
+fn dispatchers_with<C: Replica + Drop, W: EndsCopies + Drop>(
+    dispatchers: &[TwinDispatcher<C, W>],
+    number: u32,
+) -> usize
     ensures { result ≡ count_by (λ (t : TokenRecord). number_of t.who == number) dispatchers.now }
 {
     let mut count = 0;
@@ -27,9 +32,9 @@ fn dispatchers_with<W: EndsCopies + Drop>(dispatchers: &[Dispatcher<W>], number:
 }
 
 // How many they are, with who reads the log.
-fn count_of<W: EndsCopies + Drop>(
-    dispatchers: &[Dispatcher<W>],
-    reader: &Option<LogReader<W>>,
+fn count_of<C: Replica + Drop, W: EndsCopies + Drop>(
+    dispatchers: &[TwinDispatcher<C, W>],
+    reader: &Option<LogReader<TwinWriter<C, W>>>,
 ) -> usize
     ensures { result ≡ length (with_reader dispatchers.now reader.now) }
 {
@@ -40,9 +45,9 @@ fn count_of<W: EndsCopies + Drop>(
 }
 
 // Whether just one of the dispatchers and of this reader of the log has the number.
-fn has_one_once<W: EndsCopies + Drop>(
-    dispatchers: &[Dispatcher<W>],
-    reader: &LogReader<W>,
+fn has_one_once<C: Replica + Drop, W: EndsCopies + Drop>(
+    dispatchers: &[TwinDispatcher<C, W>],
+    reader: &LogReader<TwinWriter<C, W>>,
     number: u32,
 ) -> bool
     ensures { IsTrue result ↔ (count_by (λ (t : TokenRecord). number_of t.who == number)
@@ -57,9 +62,9 @@ fn has_one_once<W: EndsCopies + Drop>(
 }
 
 // Whether just one of the dispatchers and of who reads the log has the number.
-fn has_once<W: EndsCopies + Drop>(
-    dispatchers: &[Dispatcher<W>],
-    reader: &Option<LogReader<W>>,
+fn has_once<C: Replica + Drop, W: EndsCopies + Drop>(
+    dispatchers: &[TwinDispatcher<C, W>],
+    reader: &Option<LogReader<TwinWriter<C, W>>>,
     number: u32,
 ) -> bool
     ensures { IsTrue result ↔ (count_by (λ (t : TokenRecord). number_of t.who == number)
@@ -72,9 +77,9 @@ fn has_once<W: EndsCopies + Drop>(
 }
 
 /// Whether the dispatchers, and who reads the log, are so many, with each number once.
-pub(crate) fn are_numbered<W: EndsCopies + Drop>(
-    dispatchers: &[Dispatcher<W>],
-    reader: &Option<LogReader<W>>,
+pub(crate) fn are_numbered<C: Replica + Drop, W: EndsCopies + Drop>(
+    dispatchers: &[TwinDispatcher<C, W>],
+    reader: &Option<LogReader<TwinWriter<C, W>>>,
     count: u32,
 ) -> bool
     ensures { IsTrue result ↔ AreNumbered count (with_reader dispatchers.now reader.now) }
@@ -91,9 +96,9 @@ pub(crate) fn are_numbered<W: EndsCopies + Drop>(
 }
 
 /// The tokens of the dispatchers, in room that is there.
-pub(crate) fn gather_dispatchers<W: EndsCopies + Drop>(
-    tokens: &mut Vec<Token<W>>,
-    dispatchers: Vec<Dispatcher<W>>,
+pub(crate) fn gather_dispatchers<C: Replica + Drop, W: EndsCopies + Drop>(
+    tokens: &mut Vec<Token<TwinWriter<C, W>>>,
+    dispatchers: Vec<TwinDispatcher<C, W>>,
 )
     requires { vec_len tokens.old + vec_len dispatchers ≤ vec_capacity tokens.old }
     ensures items { tokens.new.items ≡ tokens.old.items ++ dispatchers.items }
@@ -107,12 +112,12 @@ pub(crate) fn gather_dispatchers<W: EndsCopies + Drop>(
 }
 
 /// The tokens of all clients, and of all dispatchers and who reads the log, in the room for them.
-pub(crate) fn gather_all<W: EndsCopies + Drop>(
-    room: ClosingRoom<W>,
-    clients: Vec<Client<W>>,
-    dispatchers: Vec<Dispatcher<W>>,
-    reader: Option<LogReader<W>>,
-) -> (Vec<Token<W>>, Vec<Token<W>>)
+pub(crate) fn gather_all<C: Replica + Drop, W: EndsCopies + Drop>(
+    room: ClosingRoom<TwinWriter<C, W>>,
+    clients: Vec<Client<TwinWriter<C, W>>>,
+    dispatchers: Vec<TwinDispatcher<C, W>>,
+    reader: Option<LogReader<TwinWriter<C, W>>>,
+) -> (Vec<Token<TwinWriter<C, W>>>, Vec<Token<TwinWriter<C, W>>>)
     requires clients { length clients.items ≤ most_clients }
     requires dispatchers { length (with_reader dispatchers.items reader) ≤ most_at_table }
     ensures clients { result.0.items ≡ clients.items }
@@ -120,7 +125,7 @@ pub(crate) fn gather_all<W: EndsCopies + Drop>(
     ensures dispatchers { result.1.items ≡ with_reader dispatchers.items reader }
     ensures left { All IsLeft (with_reader dispatchers.items reader) }
 {
-    let ssb_clients::ClosingRoom {
+    let ClosingRoom {
         clients: mut client_tokens,
         dispatchers: mut dispatcher_tokens,
     } = room;

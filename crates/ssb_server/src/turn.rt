@@ -1,9 +1,5 @@
-//! A turn, over the parts of a dispatcher.
-ghost use Rattle.std.specs.Prelude.{◌≡◌, ◌<◌, [], List, length, Some, IfOk};
-ghost use Rattle.row_store.specs.History.{CommitRecord};
-ghost use Rattle.row_store.specs.State.{StandsFor};
-ghost use Rattle.fact_columns.specs.Stored.{columns_state};
-ghost use Rattle.shared_scan.specs.Answers.{AreSnapshot};
+//! A turn, over the parts of a dispatcher. The copies are of whatever answers a batch, as in `snapshot` of any replica.
+ghost use Rattle.std.specs.Prelude.{◌≡◌, ◌<◌, [], length, Some, IfOk};
 ghost use Rattle.twin_cell.specs.Twin.{Reading};
 ghost use Rattle.ssb_server.specs.Hand.{Keeps, no_hand};
 ghost use Rattle.ssb_clients.specs.Fetching.{IsDispatcher};
@@ -13,17 +9,16 @@ ghost use Rattle.ssb_server.specs.Ends.{Finishes, Ends, Turned, TellsFound};
 use crate::answers::{give_rows, give_up_all};
 use crate::batch::Batch;
 use crate::grabbing::grab_all;
-use crate::passes::{RequestRows, answer_all, count_questions, count_standing};
+use crate::passes::{AnswersBatch, RequestRows};
 use crate::snapshot::snapshot;
-use crate::{Server, Token};
+use history::Token;
+use row_store::Follower;
 use ssb_answers::Unserved;
-use ssb_questions::Question;
-use ssb_schema::Items;
-use standing_columns::StandingColumns;
+use ssb_clients::Server;
 use std::alloc::AllocError;
 use std::sync::Wait;
 use std::thread::Threads;
-use twin_cell::{EndsCopies, TwinReader};
+use twin_cell::{TwinReader, TwinWriter};
 
 /// What a turn of a dispatcher did.
 #[derive(Clone, Copy, Debug, PartialEq, Eq)]
@@ -51,9 +46,9 @@ impl ScanGate for OpenGate {
 }
 
 // Answers every request in hand by the rows that were found, or gives it up.
-fn finish<W: EndsCopies + Drop>(
-    server: &Server<W>,
-    token: &mut Token<W>,
+fn finish<K: Follower + Drop>(
+    server: &Server<K>,
+    token: &mut Token<K>,
     batch: &mut Batch,
     at: u64,
     scanned: Result<Vec<RequestRows>, AllocError>,
@@ -83,34 +78,20 @@ fn finish<W: EndsCopies + Drop>(
     }
 }
 
-// The rows of each request in hand, over this copy. The batch is counted before its clients get them.
-fn answer_batch<W: EndsCopies + Drop, R: Threads + Sync>(
-    rt: &R,
-    server: &Server<W>,
-    columns: &StandingColumns,
-    requests: &[Items<Question>],
-) -> Result<Vec<RequestRows>, AllocError>
-    requires snapshot { AreSnapshot columns.now }
-    ensures { (history : List CommitRecord) → StandsFor (columns_state columns.now) history
-        → IfOk result (λ rows. rows.items ≡ answers_after columns.now.base history requests.now) }
-{
-    let rows = answer_all(rt, server.alloc(), columns, requests)?;
-    let by_totals = count_standing(columns, requests);
-    server
-        .figures()
-        .has_answered(count_questions(requests), by_totals);
-    Ok(rows)
-}
-
 // Answers the requests in hand, or gives them up.
-fn answer_hand<W: Wait + Drop, R: Wait + Threads + Sync, G: ScanGate>(
+fn answer_hand<C, W, R, G>(
     rt: &R,
-    server: &Server<W>,
+    server: &Server<TwinWriter<C, W>>,
     gate: &G,
-    token: &mut Token<W>,
+    token: &mut Token<TwinWriter<C, W>>,
     batch: &mut Batch,
-    reader: TwinReader<StandingColumns>,
-) -> (TwinReader<StandingColumns>, Turn)
+    reader: TwinReader<C>,
+) -> (TwinReader<C>, Turn)
+where
+    C: AnswersBatch + Drop,
+    W: Wait + Drop,
+    R: Wait + Threads + Sync,
+    G: ScanGate,
     requires dispatcher { IsDispatcher server.now token.old }
     requires free { HoldsNothing token.old }
     requires hand { Keeps batch.old token.old.grabbed }
@@ -126,7 +107,8 @@ fn answer_hand<W: Wait + Drop, R: Wait + Threads + Sync, G: ScanGate>(
         Ok(guard) => {
             let at = token.seen_len();
             gate.scanning(at);
-            let scanned = answer_batch(rt, server, guard.replica(), batch.requests());
+            let copy = guard.replica();
+            let scanned = copy.answer_batch(rt, server.alloc(), server.figures(), batch.requests());
             let reader = guard.leave();
             let turn = finish(server, token, batch, at, scanned);
             (reader, turn)
@@ -140,14 +122,19 @@ fn answer_hand<W: Wait + Drop, R: Wait + Threads + Sync, G: ScanGate>(
 }
 
 /// A turn: what is asked is grabbed and answered.
-pub(crate) fn take_turn<W: Wait + Drop, R: Wait + Threads + Sync, G: ScanGate>(
+pub(crate) fn take_turn<C, W, R, G>(
     rt: &R,
-    server: &Server<W>,
+    server: &Server<TwinWriter<C, W>>,
     gate: &G,
-    token: &mut Token<W>,
+    token: &mut Token<TwinWriter<C, W>>,
     batch: &mut Batch,
-    reader: TwinReader<StandingColumns>,
-) -> (TwinReader<StandingColumns>, Turn)
+    reader: TwinReader<C>,
+) -> (TwinReader<C>, Turn)
+where
+    C: AnswersBatch + Drop,
+    W: Wait + Drop,
+    R: Wait + Threads + Sync,
+    G: ScanGate,
     requires dispatcher { IsDispatcher server.now token.old }
     requires free { HoldsNothing token.old }
     requires hand { token.old.grabbed ≡ [] }

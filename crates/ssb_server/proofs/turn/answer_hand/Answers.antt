@@ -2,13 +2,13 @@ use Rattle.std.proofs.Common.{◌≡◌, ◌∙◌, ◌≤◌, sym, subst, ap, S
 use Rattle.std.specs.Prelude.{IfOk}
 use Rattle.history.specs.Tokens.{TableRecord}
 use Rattle.ssb_server.specs.Turns.{answers_after, Knows}
-use Rattle.ssb_server.proofs.TurningLaws.{are_snapshot, copy_stands, copy_base, left, dispatcher_later, nothing_later}
+use Rattle.ssb_server.proofs.TurningLaws.{has_few_lines, copy_stands, copy_base, left, dispatcher_later, nothing_later}
 use Rattle.ssb_server.proofs.TurningLaws.{keeps_later, version_later, seen_finished, may_tell}
 use Rattle.ssb_server.proofs.turn.answer_hand.Goals as goal
 
-pub answer_batch-scanned-requires-clause-snapshot : goal.answer_batch-scanned-requires-clause-snapshot
-answer_batch-scanned-requires-clause-snapshot g c = λ κs outlives. are_snapshot c.snapshot.new.token c.in-Ok.guard
-    c.replica.result.now c.in-Ok.ensures.entered c.replica.ensures.state c.in-Ok.ensures.few
+pub answer_batch-scanned-requires-clause-few : goal.answer_batch-scanned-requires-clause-few
+answer_batch-scanned-requires-clause-few g c = has_few_lines c.snapshot.new.token c.in-Ok.guard
+    (g.C.Replica.state c.replica-copy.result.now) c.in-Ok.ensures.entered c.replica-copy.ensures.state c.in-Ok.ensures.few
 
 pub finish-turn-requires : goal.finish-turn-requires
 finish-turn-requires g c = record {
@@ -24,12 +24,12 @@ finish-turn-requires g c = record {
   );
   rows = subst (λ base. IfOk c.answer_batch-scanned.result
       (λ rows. rows.items ≡ answers_after base c.snapshot.new.token.seen c.args.batch.now.requests))
-      (copy_base c.snapshot.new.token c.in-Ok.guard c.replica.result.now c.in-Ok.ensures.entered c.replica.ensures.state)
-      (subst (λ qs. IfOk c.answer_batch-scanned.result (λ rows. rows.items ≡ answers_after c.replica.result.now.base
-      c.snapshot.new.token.seen qs)) c.requests.ensures
+      (copy_base c.snapshot.new.token c.in-Ok.guard (g.C.Replica.state c.replica-copy.result.now) c.in-Ok.ensures.entered c.replica-copy.ensures.state)
+      (subst (λ qs. IfOk c.answer_batch-scanned.result (λ rows. rows.items ≡ answers_after
+      (g.C.Replica.state c.replica-copy.result.now).base c.snapshot.new.token.seen qs)) c.requests.ensures
       (c.answer_batch-scanned.ensures c.snapshot.new.token.seen
-      (copy_stands c.snapshot.new.token c.in-Ok.guard c.replica.result.now c.in-Ok.ensures.entered
-      c.replica.ensures.state)));
+      (copy_stands c.snapshot.new.token c.in-Ok.guard (g.C.Replica.state c.replica-copy.result.now)
+      c.in-Ok.ensures.entered c.replica-copy.ensures.state)));
 }
 
 pub returns-in-Ok : goal.returns-in-Ok

@@ -1,6 +1,6 @@
 use Rattle.std.proofs.Common.{◌∙◌, refl}
 use Rattle.ssb_server.proofs.TurningLaws.{turned_free, turned_who}
-use Rattle.ssb_server.proofs.dispatcher.Dispatcher.turn.Goals as goal
+use Rattle.ssb_server.proofs.dispatcher.TwinDispatcher.turn.Goals as goal
 
 pub invariant_of-self : goal.invariant_of-self
 invariant_of-self g c = record {

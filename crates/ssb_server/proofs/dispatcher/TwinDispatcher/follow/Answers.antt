@@ -1,7 +1,7 @@
 use Rattle.std.proofs.Common.{◌∙◌, ap}
 use Rattle.history.specs.Tokens.{TokenRecord}
 use Rattle.ssb_server.proofs.TurningLaws.{fetched_free, fetched_knows}
-use Rattle.ssb_server.proofs.dispatcher.Dispatcher.follow.Goals as goal
+use Rattle.ssb_server.proofs.dispatcher.TwinDispatcher.follow.Goals as goal
 
 pub invariant_of-self : goal.invariant_of-self
 invariant_of-self g c = record {

@@ -1,5 +1,5 @@
 use Rattle.std.proofs.Common.{rules, ◌++◌, ap, sym, refl}
-use Rattle.ssb_server.proofs.dispatcher.Dispatcher.new.Goals as goal
+use Rattle.ssb_server.proofs.dispatcher.TwinDispatcher.new.Goals as goal
 
 pub invariant_of-result : goal.invariant_of-result
 invariant_of-result g c = record {
