@@ -1,5 +1,8 @@
 -- What is left to do for one who needs commits on the disk.
-use Rattle.std.specs.Prelude.{◌≡◌, ◌≤◌, ◌<◌, ℕ}
+use Rattle.std.specs.Prelude.{◌≡◌, ◌≤◌, ℕ, Option, None, Some}
+use Rattle.ssb_journal.specs.declared.failed_append.FailedAppend.{FailedAppend}
+use Rattle.ssb_journal.specs.declared.shared_journal.Whereabouts.{Whereabouts}
+use Rattle.ssb_journal.specs.declared.shared_journal.Whereabouts.TheVariants as whereabouts
 use Rattle.ssb_journal.specs.declared.shared_journal.JournalTurn.{JournalTurn}
 use Rattle.ssb_journal.specs.declared.shared_journal.JournalTurn.TheVariants.{Reached, Append, Wait, Failed}
 
@@ -10,10 +13,9 @@ HasEnough commits (Append log) = Unit {0}
 HasEnough commits Wait = Unit {0}
 HasEnough commits (Failed why) = Unit {0}
 
--- of a journal that is not written any more, and keeps so many commits: all that it keeps is the evidence where that is
--- enough, and else nobody waits or appends
-abbrev pub IsReadOnlyTurn : {D J : Type 0} → ℕ → ℕ → JournalTurn D J → Type 0
-IsReadOnlyTurn count commits (Reached on_disk) = (on_disk.commits ≡ count) × commits ≤ count
-IsReadOnlyTurn count commits (Append log) = ⊥
-IsReadOnlyTurn count commits Wait = ⊥
-IsReadOnlyTurn count commits (Failed why) = count < commits
+-- what is told of a journal's failure: the evidence of an append that failed, just where the journal has failed
+abbrev pub TellsFailure : {D J F : Type 0} → Whereabouts D J F → Option (FailedAppend D) → Type 0
+TellsFailure (whereabouts.Failed failed left) told = told ≡ Some failed
+TellsFailure (whereabouts.Here log) told = told ≡ None
+TellsFailure (whereabouts.Away on_disk) told = told ≡ None
+TellsFailure whereabouts.Nowhere told = told ≡ None

@@ -59,29 +59,6 @@ impl<D: Disk, L: LogSource> Model for LeftLog<D, L> {
 }
 
 impl<D: Disk, L: LogSource> LeftLog<D, L> {
-    /// What is left where a disk is not written any more, beside a log that begins with the commits that it keeps.
-    pub fn read_only(disk: D, source: L, count: u64) -> LeftLog<D, L>
-        requires left { IsLeft (D.may_leave disk) (D.seen disk) count (L.log source) false }
-        requires since { KeepsSince L.begun (D.moment disk) (D.left_since disk) count (L.log source) }
-        requires promised { HaveFirst count (L.log source) (D.promised disk) }
-        ensures { result ≡ record { disk = disk; source = source; count = count; whole = false } }
-    {
-        LeftLog {
-            disk,
-            source,
-            count,
-            is_whole: false,
-        }
-    }
-
-    /// The evidence of the commits that are on the disk.
-    pub(crate) fn on_disk(&self) -> OnDisk<D>
-        ensures commits { result.commits ≡ self.now.count }
-        ensures promised { HaveFirst self.now.count (L.log self.now.source) (D.promised self.now.disk) }
-    {
-        OnDisk::of(&self.disk, self.count)
-    }
-
     /// The disk, the log, how many of its commits are on the disk, and whether the journal was written to the end.
     pub fn into_parts(self) -> (D, L, u64, bool)
         ensures same { self ≡ record { disk = result.0; source = result.1; count = result.2; whole = result.3 } }
@@ -117,6 +94,7 @@ fn append_given<D: Disk + Drop, L: LogSource + Drop>(
     ensures any_moment { IfOk result (λ after. LeavesOnly D.moment D.left_since journal after.disk
         (KeepsBeginning count (L.log source))) }
     ensures same_err { IfErr result (λ e. (e.1.source ≡ source) × (e.1.count ≡ count)) }
+    ensures cut_off { IfErr result (λ e. e.1.whole ≡ false) }
     ensures any_moment_err { IfErr result (λ e. LeavesOnly D.moment D.left_since journal e.1.disk
         (KeepsBeginning count (L.log source))) }
     ensures failed { IfErr result (λ e. e.0 ≡ DiskError.Failed → D.faults journal < D.faults e.1.disk) }
@@ -177,6 +155,7 @@ impl<D: Disk + Drop, L: LogSource + Drop> JournaledLog<D, L> {
             ⊎ LeavesOnly D.moment D.left_since self.disk after.disk (KeepsBeginning self.count (L.log after.source))) }
         ensures grown_err { IfErr result (λ e. IsPrefix (L.log self.source) (L.log e.1.source)) }
         ensures same_err { IfErr result (λ e. e.1.count ≡ self.count) }
+        ensures cut_off { IfErr result (λ e. e.1.whole ≡ false) }
         ensures any_moment_err { IfErr result (λ e. LeavesOnly D.moment D.left_since self.disk e.1.disk
             (KeepsBeginning self.count (L.log e.1.source))) }
         // It does not give up by itself.

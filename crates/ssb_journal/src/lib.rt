@@ -28,8 +28,8 @@
 //! its type: who tells of a commit holds one of at least its number. No call of a disk breaks a promise, so a crash at
 //! any moment, also of a run that never ends, leaves all that was told until then
 //! (`laws::promised_commits_are_left`). At the end, and where an append has failed, disk and log come back as a
-//! [`LeftLog`]: whatever crashes then, so many commits are on the disk (`IsLeft`), and promised. Where a journal cannot
-//! be written, it is shared to be read alone ([`SharedJournal::read_only`]).
+//! [`LeftLog`]: whatever crashes then, so many commits are on the disk (`IsLeft`), and promised. That a journal has failed
+//! is told with evidence too ([`SharedJournal::failure`]): what a failed append has left makes it.
 //!
 //! ```text
 //! let mut reader = open(alloc, &marks, file)?;
@@ -47,6 +47,7 @@
 mod appending;
 mod checksum;
 mod commits;
+mod failed_append;
 mod fault;
 mod head;
 mod journaled_log;
@@ -63,6 +64,7 @@ mod texts;
 
 pub use appending::append_commits;
 pub use checksum::{CHECKSUM_LINE, seal};
+pub use failed_append::FailedAppend;
 pub use fault::JournalFault;
 pub use head::{HeadForm, TableMark, head_of};
 pub use journaled_log::{JournaledLog, LeftLog};

@@ -1,5 +1,5 @@
 //! The evidence that so many commits are on the disk.
-ghost use Rattle.std.specs.Prelude.{◌≡◌};
+ghost use Rattle.std.specs.Prelude.{◌≡◌, ◌<◌, ◌≤◌, MatchOption};
 ghost use Rattle.ssb_journal.specs.Counts.{HaveAtLeast};
 
 use journal::Disk;
@@ -27,14 +27,18 @@ impl<D: Disk> OnDisk<D> {
         }
     }
 
-    /// The same evidence, for another who needs it.
-    pub(crate) fn again(&self) -> OnDisk<D>
-        ensures { result.commits ≡ self.now.commits }
+    /// The same evidence, for another who needs so many commits; none where they are more.
+    pub fn of_first(&self, commits: u64) -> Option<OnDisk<D>>
+        ensures { MatchOption result (self.now.commits < commits)
+            (λ same. (same.commits ≡ self.now.commits) × (commits ≤ same.commits)) }
     {
-        OnDisk {
+        if self.commits < commits {
+            return None;
+        }
+        Some(OnDisk {
             commits: self.commits,
             of: PhantomData,
-        }
+        })
     }
 
     /// How many commits.

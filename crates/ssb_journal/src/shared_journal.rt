@@ -1,7 +1,8 @@
 //! A journal that threads share: whoever needs a commit on the disk appends for all, or waits for the one who does.
 ghost use Rattle.std.specs.Prelude.{◌≤◌, IfOk};
-ghost use Rattle.ssb_journal.specs.Turns.{HasEnough, IsReadOnlyTurn};
+ghost use Rattle.ssb_journal.specs.Turns.{HasEnough, TellsFailure};
 
+use crate::failed_append::FailedAppend;
 use crate::journaled_log::{JournaledLog, LeftLog};
 use crate::on_disk::OnDisk;
 use crate::source::LogSource;
@@ -27,9 +28,7 @@ enum Whereabouts<D, J, F> {
     // With one who appends. So many commits were on the disk before.
     Away(OnDisk<D>),
     // It has failed, and this is left of it.
-    Failed(JournalFailed, F),
-    // It is not written any more: this is what the disk keeps.
-    ReadOnly(F),
+    Failed(FailedAppend<D>, F),
     // With one who looks at it, or it was given up: there is nothing more.
     Nowhere,
 }
@@ -45,19 +44,6 @@ enum JournalTurn<D, J> {
     Wait,
     // To give up.
     Failed(JournalFailed),
-}
-
-// The turn of one who needs so many commits of a journal that is not written any more.
-fn read_only_turn<D: Disk, L: LogSource, J>(left: &LeftLog<D, L>, commits: u64) -> JournalTurn<D, J>
-    ensures enough { HasEnough commits result }
-    ensures left { IsReadOnlyTurn left.now.count commits result }
-{
-    let on_disk = left.on_disk();
-    if on_disk.commits() >= commits {
-        JournalTurn::Reached(on_disk)
-    } else {
-        JournalTurn::Failed(JournalFailed { cause: None })
-    }
 }
 
 impl<D: Disk + Drop, L: LogSource + Drop> Whereabouts<D, JournaledLog<D, L>, LeftLog<D, L>> {
@@ -76,24 +62,29 @@ impl<D: Disk + Drop, L: LogSource + Drop> Whereabouts<D, JournaledLog<D, L>, Lef
                 JournalTurn::Append(log)
             },
             Whereabouts::Away(on_disk) => {
-                let turn = if on_disk.commits() >= commits {
-                    JournalTurn::Reached(on_disk.again())
-                } else {
-                    JournalTurn::Wait
+                let turn = match on_disk.of_first(commits) {
+                    Some(reached) => JournalTurn::Reached(reached),
+                    None => JournalTurn::Wait,
                 };
                 *self = Whereabouts::Away(on_disk);
                 turn
             },
             Whereabouts::Failed(failed, left) => {
+                let cause = Some(failed.cause());
                 *self = Whereabouts::Failed(failed, left);
-                JournalTurn::Failed(failed)
-            },
-            Whereabouts::ReadOnly(left) => {
-                let turn = read_only_turn(&left, commits);
-                *self = Whereabouts::ReadOnly(left);
-                turn
+                JournalTurn::Failed(JournalFailed { cause })
             },
             Whereabouts::Nowhere => JournalTurn::Failed(JournalFailed { cause: None }),
+        }
+    }
+
+    // The evidence that it has failed, where it has.
+    fn failure(&self) -> Option<FailedAppend<D>>
+        ensures { TellsFailure self.now result }
+    {
+        match self {
+            Whereabouts::Failed(failed, _) => Some(failed.again()),
+            _ => None,
         }
     }
 
@@ -102,7 +93,6 @@ impl<D: Disk + Drop, L: LogSource + Drop> Whereabouts<D, JournaledLog<D, L>, Lef
         match mem::replace(self, Whereabouts::Nowhere) {
             Whereabouts::Here(log) => Some(log.into_left()),
             Whereabouts::Failed(_, left) => Some(left),
-            Whereabouts::ReadOnly(left) => Some(left),
             Whereabouts::Away(on_disk) => {
                 *self = Whereabouts::Away(on_disk);
                 None
@@ -129,14 +119,6 @@ impl<D: Disk + Drop, L: LogSource + Drop> SharedJournal<D, L> {
         }
     }
 
-    /// Shares what is left of a journal, to be read alone: nothing is ever appended to it.
-    pub fn read_only(left: LeftLog<D, L>) -> SharedJournal<D, L> {
-        SharedJournal {
-            place: Mutex::new(Whereabouts::ReadOnly(left)),
-            changed: Condvar::new(),
-        }
-    }
-
     // Puts the journal back, and wakes all who wait.
     fn put_back<R: Wait>(&self, rt: &R, place: Whereabouts<D, JournaledLog<D, L>, LeftLog<D, L>>) {
         *self.place.lock(rt) = place;
@@ -156,9 +138,9 @@ impl<D: Disk + Drop, L: LogSource + Drop> SharedJournal<D, L> {
         let log = match log.append_new(rt, alloc) {
             Ok(log) => log,
             Err((error, left)) => {
-                let failed = JournalFailed { cause: Some(error) };
+                let failed = FailedAppend::of(error, &left);
                 self.put_back(rt, Whereabouts::Failed(failed, left));
-                return Err(failed);
+                return Err(JournalFailed { cause: Some(error) });
             },
         };
         let on_disk = log.on_disk();
@@ -170,7 +152,7 @@ impl<D: Disk + Drop, L: LogSource + Drop> SharedJournal<D, L> {
     }
 
     /// Waits until so many commits are on the disk, and gives the evidence; where nobody appends, it appends itself.
-    /// `Err` where the journal fails or has failed, keeps fewer and is read alone, or the log has not so many commits.
+    /// `Err` where the journal fails or has failed, or the log has not so many commits.
     pub fn reach<R: Wait>(
         &self,
         rt: &R,
@@ -192,6 +174,11 @@ impl<D: Disk + Drop, L: LogSource + Drop> SharedJournal<D, L> {
             }
         }
         unreachable!()
+    }
+
+    /// The evidence that an append has failed, where one has: from then on nothing is appended.
+    pub fn failure<R: Wait>(&self, rt: &R) -> Option<FailedAppend<D>> {
+        self.place.lock(rt).failure()
     }
 
     /// What is left of the journal and its log, when no thread shares it any more. It waits until nobody has it out.

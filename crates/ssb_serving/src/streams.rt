@@ -163,6 +163,7 @@ where
     R: Wait + Threads + Sync + Clock,
     E: Evidence + Send,
     K: Acknowledges<E> + Sync,
+    K::Failure: Send,
     S: Speaks<R, E> + Drop + Send,
     S::Left: Drop + Send,
     requires clients { All (IsQuiet service.now.server.now) clients.items }

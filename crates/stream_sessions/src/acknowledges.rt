@@ -3,6 +3,7 @@
 ghost use Rattle.std.specs.Prelude.{IfOk, ℕ};
 
 use std::alloc::Global;
+use std::convert::Infallible;
 use std::sync::Wait;
 use thiserror::Error;
 
@@ -20,6 +21,9 @@ pub trait Evidence: Drop {
 
 /// What has to be before a client is told of commits.
 pub trait Acknowledges<E: Evidence> {
+    /// What shows that there will be no more evidence.
+    type Failure: Drop;
+
     /// The evidence of so many commits, where need be after a wait.
     fn acknowledge<R: Wait>(
         &self,
@@ -29,8 +33,8 @@ pub trait Acknowledges<E: Evidence> {
     ) -> Result<E, NotAcknowledged>
         ensures { IfOk result (λ evidence. E.covers evidence commits) };
 
-    /// Whether evidence was wanted and not got.
-    fn has_failed(&self) -> bool;
+    /// What shows that there will be no more evidence, where that is so.
+    fn failure<R: Wait>(&self, rt: &R) -> Option<Self::Failure>;
 
     /// Whether refreshes are taken: else there would never be evidence of their commits.
     fn takes_refreshes(&self) -> bool;
@@ -49,6 +53,9 @@ impl Evidence for Nothing {
 }
 
 impl Acknowledges<Nothing> for AtOnce {
+    // Who tells at once never fails.
+    type Failure = Infallible;
+
     fn acknowledge<R: Wait>(
         &self,
         _rt: &R,
@@ -58,8 +65,8 @@ impl Acknowledges<Nothing> for AtOnce {
         Ok(Nothing)
     }
 
-    fn has_failed(&self) -> bool {
-        false
+    fn failure<R: Wait>(&self, _rt: &R) -> Option<Infallible> {
+        None
     }
 
     fn takes_refreshes(&self) -> bool {
