@@ -1,6 +1,6 @@
 -- A server with a journal begins where the journal ends, and is opened with quiet clients and a reader of its log.
 use Rattle.std.proofs.Common.{◌≡◌, inl, inr, ⊎_elim, ℕ, List, [], ◌∷◌, ◌++◌, length}
-use Rattle.std.proofs.Common.{◌≤◌, Some, false, refl, sym, ◌∙◌, arith}
+use Rattle.std.proofs.Common.{◌≤◌, Option, None, Some, false, refl, sym, ap, ◌∙◌, arith}
 use Rattle.std.proofs.Common.{subst}
 use Rattle.std.specs.Prelude.{All}
 use Rattle.std.specs.List.{range_with_len}
@@ -27,10 +27,11 @@ use Rattle.ssb_server.specs.declared.opening.OpenFault.TheVariants as opening
 use Rattle.ssb_serving.specs.RunFaults.{IsRunFault, fault_of}
 use Rattle.ssb_serving.specs.Members.{IsStill}
 use Rattle.ssb_serving.specs.declared.run_fault.RunFault.{RunFault}
-use Rattle.serve_command.specs.JournaledRun.{HasKept, IsBegunOn, IsFoundOrKept, IsUnservedFault}
+use Rattle.serve_command.specs.BegunFiles.{IsTornKept, IsUntouched, disk_of}
+use Rattle.serve_command.specs.declared.journaled_run.BegunFile.{BegunFile}
+use Rattle.serve_command.specs.declared.journaled_run.BegunFile.TheVariants.{ReadOnly}
+use Rattle.serve_command.specs.JournaledRun.{HasKept, IsBegunOn, IsFoundOrKept}
 use Rattle.serve_command.specs.JournaledRun.{KeepsAll, KeepsRecovered, begun_on}
-use Rattle.serve_command.specs.declared.unserved.JournaledFault.{JournaledFault}
-use Rattle.serve_command.specs.declared.unserved.JournaledFault.TheVariants as fault
 
 -- a journal keeps the first commits of the log of who has seen just those
 pub keeps_first : (marks : List TableMark) (commits seen : List CommitRecord) (count : ℕ) (file : List ℕ)
@@ -182,10 +183,6 @@ kept_since moment left_since found begun disk marks kept groups least seen first
     (λ file left. as_it_was marks kept groups has.log file first is begins left))
     (λ file keeps. (has.log, begins, keeps)))
 
--- that memory ran out tells nothing of its commits
-pub unserved_fault : (why : JournaledFault) → why ≡ fault.OutOfMemory → IsUnservedFault why
-unserved_fault why is = subst IsUnservedFault (sym is) tt
-
 -- no server was opened
 pub run_fault : (clients dispatchers : ℕ) (why : OpenFault) (told : RunFault) → told ≡ fault_of why
     → IsOpenFault clients dispatchers why → IsRunFault clients dispatchers told
@@ -222,3 +219,17 @@ opened_dispatchers table dispatchers reader new =
 pub begun_table : (table : TableRecord) (opened begun : TokenRecord) → opened.table ≡ table → IsStill opened begun
     → begun.table ≡ table
 begun_table table opened begun of still = still.table ∙ of
+
+-- a file that is read alone is as it was found to the end, where nothing shows that torn bytes are kept
+pub torn_to_the_end : {D T : Type 0} (bytes : T → List ℕ) (file : List ℕ) (found disk : D) (begun : BegunFile D)
+    (torn : Option T) → IsUntouched begun disk → IsTornKept bytes file (begun ≡ ReadOnly found) torn
+    → IsTornKept bytes file (disk ≡ found) torn
+torn_to_the_end bytes file found disk begun None same is = subst (λ b. IsUntouched b disk) is same
+torn_to_the_end bytes file found disk begun (Some kept) same is = is
+
+-- and so it is as the sessions find it
+pub torn_at_first : {D T : Type 0} (bytes : T → List ℕ) (file : List ℕ) (found : D) (begun : BegunFile D)
+    (torn : Option T) → IsTornKept bytes file (begun ≡ ReadOnly found) torn
+    → IsTornKept bytes file (disk_of begun ≡ found) torn
+torn_at_first bytes file found begun None is = ap disk_of is
+torn_at_first bytes file found begun (Some kept) is = is

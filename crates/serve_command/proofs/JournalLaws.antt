@@ -15,6 +15,9 @@ use Rattle.journal_opening.specs.declared.start.JournalStart.{JournalStart}
 use Rattle.journal_opening.specs.declared.start.JournalStart.TheVariants as start
 use Rattle.row_store.specs.History.{CommitRecord}
 use Rattle.serve_command.specs.Journals.{AreOnDisk, AreRefused, IsRefusedFile, Journal, RefusesFile}
+use Rattle.serve_command.specs.LeftFiles.{IsAsFound, IsLeftFile, KeepsFound, KeepsTornBytes}
+use Rattle.serve_command.specs.declared.left_file.LeftFile.{LeftFile}
+use Rattle.serve_command.specs.declared.left_file.LeftFile.TheVariants.{Read, Unread}
 use Rattle.serve_command.specs.declared.runs.KeptLog.{KeptLog}
 use Rattle.ssb_base.specs.Base.{Tables}
 use Rattle.ssb_files.specs.Loaded.{AreRefusedToServe, IsLoadedToServe}
@@ -179,3 +182,21 @@ pub disk_there : {D : Type 0} (end : Option (KeptLog D)) (disk : Option D) → d
     → is_some disk ≡ is_some end
 disk_there None disk same = ap is_some same
 disk_there (Some k) disk same = ap is_some same
+
+-- a file to which nothing was written keeps what was found, ..
+pub found_is_kept : {U D : Type 0} (WasUnread : U → Type 0) (seen : D → List ℕ) (moment : D → ℕ)
+    (left_since : D → ℕ → List ℕ → Type 0) (marks : List TableMark) (known : Option (List ℕ)) (file : LeftFile U D)
+    → IsLeftFile WasUnread (IsAsFound seen marks known) file
+    → IsLeftFile WasUnread (KeepsFound seen moment left_since marks known) file
+found_is_kept WasUnread seen moment left_since marks known (Unread file) is = is
+found_is_kept WasUnread seen moment left_since marks known (Read disk) is =
+    record { found = disk; commits = is.commits; is = is.is; kept = inl refl }
+
+-- .. and needs no evidence that torn bytes are kept
+pub found_has_torn : {U D T : Type 0} (WasUnread : U → Type 0) (seen : D → List ℕ) (bytes : T → List ℕ)
+    (marks : List TableMark) (known : Option (List ℕ)) (file : LeftFile U D)
+    → IsLeftFile WasUnread (IsAsFound seen marks known) file
+    → IsLeftFile WasUnread (KeepsTornBytes seen bytes marks known None) file
+found_has_torn WasUnread seen bytes marks known (Unread file) is = is
+found_has_torn WasUnread seen bytes marks known (Read disk) is =
+    record { found = disk; commits = is.commits; is = is.is; kept = refl }

@@ -18,6 +18,7 @@ use Rattle.journal_opening.specs.Opens.{TellsMissing}
 use Rattle.journal_opening.specs.Status.{file_status, kept_status, opening_status, replay_status}
 use Rattle.journal_opening.specs.declared.fault.OpeningFault.{OpeningFault}
 use Rattle.journal_opening.specs.declared.fault.OpeningFault.TheVariants as opening
+use Rattle.serve_command.specs.JournaledRun.{IsUnservedFault}
 use Rattle.serve_command.specs.declared.unserved.JournaledFault.{JournaledFault}
 use Rattle.serve_command.specs.declared.unserved.JournaledFault.TheVariants as journaled
 use Rattle.serve_command.specs.Status.{journaled_status, serving_status}
@@ -116,6 +117,14 @@ of_journaled (journaled.Replay why) = of_replay why
 of_journaled journaled.Disturbed = inr refl
 of_journaled journaled.Write = inr refl
 of_journaled journaled.OutOfMemory = inr refl
+
+-- behind commits that were made again none is refused
+pub unserved_not_refused : (why : JournaledFault) → IsUnservedFault why → journaled_status why ≢ 1
+unserved_not_refused (journaled.NotRun why) is one = absurd is
+unserved_not_refused (journaled.Replay why) is one = absurd is
+unserved_not_refused journaled.Disturbed is one = omega (arith, one)
+unserved_not_refused journaled.Write is one = omega (arith, one)
+unserved_not_refused journaled.OutOfMemory is one = omega (arith, one)
 
 no_words : (status : ℕ) → IsJournalStatus status → status ≢ 2
 no_words status (inl is) two = omega (arith, is, two)

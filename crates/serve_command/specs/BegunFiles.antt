@@ -1,5 +1,6 @@
 -- The file of a journal that was begun, as the sessions find it.
-use Rattle.std.specs.Prelude.{ℕ, List, false}
+use Rattle.std.specs.Prelude.{◌≡◌, ℕ, List, Option, None, Some, false}
+use Rattle.journal.specs.Groups.{AreTorn}
 use Rattle.row_store.specs.History.{CommitRecord}
 use Rattle.serve_command.specs.declared.journaled_run.BegunFile.{BegunFile}
 use Rattle.serve_command.specs.declared.journaled_run.BegunFile.TheVariants.{Open, ReadOnly}
@@ -16,3 +17,13 @@ abbrev pub KeepsBegun : {D : Type 0} → (D → List ℕ → Type 0) → (D → 
 KeepsBegun may_leave seen promised count log (Open journal) = KeepsFirst count log (seen journal)
 KeepsBegun may_leave seen promised count log (ReadOnly disk) =
     IsLeft (may_leave disk) (seen disk) count log false × HaveFirst count log (promised disk)
+
+-- where it is read alone, it is as it was
+abbrev pub IsUntouched : {D : Type 0} → BegunFile D → D → Type 0
+IsUntouched (Open journal) disk = Unit {0}
+IsUntouched (ReadOnly was) disk = disk ≡ was
+
+-- this is the evidence that what a crash has torn of a file is kept; where there is none, nothing was cut off
+abbrev pub IsTornKept : {T : Type 0} → (T → List ℕ) → List ℕ → Type 0 → Option T → Type 0
+IsTornKept bytes file NothingWas None = NothingWas
+IsTornKept bytes file NothingWas (Some kept) = AreTorn file (bytes kept)

@@ -3,7 +3,7 @@
 ghost use Rattle.std.specs.Prelude.{◌≡◌, ◌≢◌, ◌⊎◌, ◌≤◌, [], All, IfOk, IfErr, OnOk, vec_len};
 ghost use Rattle.journal_opening.specs.declared.start.JournalStart.TheVariants.{Begins};
 ghost use Rattle.serve_command.specs.Journals.{GoesOnFrom, KeepsNone, RefusesFile};
-ghost use Rattle.serve_command.specs.LeftFiles.{IsLeftFile, KeepsFound, KeepsLog};
+ghost use Rattle.serve_command.specs.LeftFiles.{IsLeftFile, KeepsFound, KeepsLog, KeepsTornBytes};
 ghost use Rattle.serve_command.specs.Status.{refusal_status, serving_status};
 ghost use Rattle.ssb_journal.specs.Counts.{IsLeft};
 ghost use Rattle.history_core.specs.Counts.{most_clients};
@@ -11,10 +11,11 @@ ghost use Rattle.history_core.specs.Counts.{most_clients};
 use crate::acknowledging::Durable;
 use crate::fault::{ServeFault, ServeRefusal};
 use crate::journaled_run::{BeginsJournal, JournaledRun, run_journaled};
-use crate::left_file::{LeftFile, UnservedFile};
+use crate::left_file::{LeftFile, UnservedFile, UnservedSource};
 use crate::ready::{ReadyLine, tell_ready};
 use crate::remade::remake_journal;
 use crate::unserved::UnservedSessions;
+use confirmed_commits::Confirms;
 use journal::{KeepsTorn, UnreadDisk};
 use journal_opening::{OpeningFault, OpensJournal, StartedJournal, tell_form};
 use ssb_files::TableBytes;
@@ -28,10 +29,12 @@ use std::thread::Threads;
 use std::time::Clock;
 use stream_sessions::Speaks;
 
-/// Where the journal is, and what is told of it.
+/// Where the journal is, what has to be of its commits before clients are told of them, and what is told of it.
 #[derive(Drop)]
-pub struct JournalPlace<'a, P> {
+pub struct JournalPlace<'a, P, X> {
     pub file: &'a P,
+    /// What has to be of commits that are on the disk.
+    pub confirms: &'a X,
     /// The bytes of the tables, which are counted while these are loaded.
     pub bytes: &'a TableBytes,
     /// Whether it is told how many commits the journal has.
@@ -52,7 +55,8 @@ pub struct JournalSource<'a, U: UnreadDisk + Drop> {
 // Keeps what a crash has torn beside the journal, and tells how many commits it has, and that the server is ready.
 #[derive(Drop)]
 struct TornKeeper<'a, P: KeepsTorn, E: Print> {
-    place: &'a JournalPlace<'a, P>,
+    file: &'a P,
+    tells: bool,
     commits: u64,
     ready: Option<ReadyLine>,
     screen: &'a E,
@@ -65,8 +69,8 @@ impl<'a, P: KeepsTorn, E: Print> KeepsTorn for TornKeeper<'a, P, E> {
 
     fn keep_torn(&self, torn: Vec<u8>) -> io::Result<P::Kept> {
         let bytes = torn.len();
-        let kept = self.place.file.keep_torn(torn)?;
-        if self.place.tells {
+        let kept = self.file.keep_torn(torn)?;
+        if self.tells {
             let mut screen = io::writer(self.screen);
             let commits = self.commits;
             let _ = match bytes {
@@ -98,21 +102,23 @@ impl<'a, P: KeepsTorn, E: Print> BeginsJournal for TornKeeper<'a, P, E> {
 /// Serves clients at once, one for each speaker, by 1 to 4 dispatchers over a loaded base, behind the commits of a
 /// journal's file that was just opened; where the journal begins, it has none. All of it is read before anything is
 /// written; what a crash has torn is kept at the place before it is cut off. An `Err` hands the file back.
-pub fn run_source<R, P, U, S, E>(
+pub fn run_source<R, P, X, U, S, E>(
     rt: &R,
     dispatchers: u32,
-    place: &JournalPlace<'_, P>,
+    place: &JournalPlace<'_, P, X>,
     source: JournalSource<'_, U>,
     speakers: Vec<S>,
     screen: &E,
-) -> Result<JournaledRun<U::Whole, S::Left>, UnservedFile<U, U::Whole>>
+) -> Result<JournaledRun<U::Whole, S::Left, P::Kept>, UnservedSource<U, U::Whole, P::Kept>>
 where
     R: Threads + Sync + Wait + Clock + AllocGlobal,
     P: OpensJournal + KeepsTorn,
     P::Kept: Drop,
     U: UnreadDisk + Drop,
     U::Whole: Send,
-    S: Speaks<R, Durable<U::Whole>> + Drop + Send,
+    X: Confirms<Durable<U::Whole>> + Sync,
+    X::Told: Send,
+    S: Speaks<R, X::Told> + Drop + Send,
     S::Left: Drop + Send,
     E: Print,
     requires unread { U.taken source.file ≡ [] }
@@ -137,6 +143,12 @@ where
     ensures any_moment_err { IfErr result (λ unserved. IsLeftFile (λ file. U.holds file ≡ U.holds source.entry.file)
         (KeepsFound U.Whole.seen U.Whole.moment U.Whole.left_since source.entry.marks.now (U.holds source.entry.file))
         unserved.file) }
+    // The place has kept what a crash had torn, or the file is as it was; so also where it ends with an `Err`.
+    ensures torn { IfOk result (λ run. KeepsTornBytes U.Whole.seen P.bytes source.entry.marks.now
+        (U.holds source.entry.file) run.torn run.disk) }
+    ensures torn_err { IfErr result (λ unserved. IsLeftFile (λ file. U.holds file ≡ U.holds source.entry.file)
+        (KeepsTornBytes U.Whole.seen P.bytes source.entry.marks.now (U.holds source.entry.file) unserved.torn)
+        unserved.file) }
 {
     let JournalSource {
         loaded,
@@ -148,28 +160,37 @@ where
     let started = match StartedJournal::open(rt.alloc(), marks, at.start(), at.path(), file) {
         Ok(started) => started,
         Err((fault, file)) => {
-            return Err(UnservedFile {
+            return Err(UnservedSource {
                 refusal: ServeRefusal::Journal(fault),
                 file: LeftFile::Unread(file),
+                torn: None,
             });
         },
     };
     let remade = match remake_journal(rt, rt.alloc(), loaded, dispatchers, marks, started) {
         Ok(remade) => remade,
-        Err(unserved) => return Err(unserved),
+        Err(UnservedFile { refusal, file }) => {
+            return Err(UnservedSource {
+                refusal,
+                file,
+                torn: None,
+            });
+        },
     };
     tell_form(&mut io::writer(screen), remade.opened.kept.form);
     let keeper = TornKeeper {
-        place,
+        file: at,
+        tells: place.tells,
         commits: remade.opened.kept.count,
         ready,
         screen,
     };
-    match run_journaled(rt, rt.alloc(), remade, speakers, &keeper) {
+    match run_journaled(rt, rt.alloc(), remade, speakers, &keeper, place.confirms) {
         Ok(run) => Ok(run),
-        Err(UnservedSessions { fault, disk }) => Err(UnservedFile {
+        Err(UnservedSessions { fault, disk, torn }) => Err(UnservedSource {
             refusal: ServeRefusal::NotServed(fault),
             file: LeftFile::Read(disk),
+            torn,
         }),
     }
 }

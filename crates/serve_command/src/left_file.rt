@@ -17,3 +17,12 @@ pub struct UnservedFile<U: Drop, D: Drop> {
     pub refusal: ServeRefusal,
     pub file: LeftFile<U, D>,
 }
+
+/// The same behind a journal's file, and what became of what a crash had torn of it.
+#[derive(Drop)]
+pub struct UnservedSource<U: Drop, D: Drop, T: Drop> {
+    pub refusal: ServeRefusal,
+    pub file: LeftFile<U, D>,
+    /// The evidence that what a crash had torn was kept; without it the file is as it was.
+    pub torn: Option<T>,
+}

@@ -75,7 +75,7 @@ pub use ends::{EndPaths, report_no_pipes};
 pub use fault::{ServeFault, ServeRefusal};
 pub use journal_source::{JournalPlace, JournalSource, run_source};
 pub use journaled_run::JournaledRun;
-pub use left_file::{LeftFile, UnservedFile};
+pub use left_file::{LeftFile, UnservedFile, UnservedSource};
 pub use pipe_locks::{PipeFault, PipeInUse, PipeLocks};
 pub use ready::ReadyLine;
 pub use runs::ServeSettings;

@@ -10,7 +10,7 @@ ghost use Rattle.journal_opening.specs.declared.start.JournalStart.TheVariants.{
 ghost use Rattle.ssb_clients.specs.Tickets.{IsOf, with_reader};
 ghost use Rattle.ssb_journal.specs.Opening.{IsKept};
 ghost use Rattle.ssb_serving.specs.Members.{AreStill, IsStill};
-ghost use Rattle.serve_command.specs.LeftFiles.{IsLeftFile, KeepsFound};
+ghost use Rattle.serve_command.specs.LeftFiles.{IsAsFound, IsLeftFile};
 ghost use Rattle.serve_command.specs.Remade.{AreAtLog, IsNotRemade, IsRemakeFault};
 ghost use Rattle.serve_command.specs.Seated.{AllHaveSeen};
 ghost use Rattle.serve_command.specs.declared.unserved.JournaledFault.TheVariants.{Disturbed, OutOfMemory};
@@ -220,8 +220,7 @@ fn behind_file<'a, W: Wait + Drop, U: UnreadDisk + Drop>(
     ensures known { IfOk result (λ remade. IsKnown (U.holds journal.entry.reader.unread) (U.Whole.seen remade.opened.found)) }
     ensures new { IfOk result (λ remade. journal.entry.start ≡ Begins → remade.opened.kept.commits.items ≡ []) }
     ensures fault { IfErr result (λ e. e.0 ≡ Disturbed) }
-    ensures file { IfErr result (λ e. KeepsFound U.Whole.seen U.Whole.moment U.Whole.left_since marks.now
-        (U.holds journal.entry.reader.unread) e.1) }
+    ensures file { IfErr result (λ e. IsAsFound U.Whole.seen marks.now (U.holds journal.entry.reader.unread) e.1) }
 {
     let mut seats = seats;
     let opened = journal.finish();
@@ -274,8 +273,7 @@ where
         dispatchers (U.holds journal.entry.reader.unread) unserved.refusal) }
     // Nothing was written.
     ensures file { IfErr result (λ unserved. IsLeftFile (λ file. U.holds file ≡ U.holds journal.entry.reader.unread)
-        (KeepsFound U.Whole.seen U.Whole.moment U.Whole.left_since marks.now (U.holds journal.entry.reader.unread))
-        unserved.file) }
+        (IsAsFound U.Whole.seen marks.now (U.holds journal.entry.reader.unread)) unserved.file) }
 {
     let opened = match open(alloc, rt, loaded, MOST_CLIENTS, dispatchers, Keeps::Unread) {
         Ok(opened) => opened,

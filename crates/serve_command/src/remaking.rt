@@ -7,18 +7,18 @@ ghost use Rattle.serve_command.specs.Remade.{IsNotMade, IsRemakeFault};
 ghost use Rattle.serve_command.specs.declared.unserved.JournaledFault.TheVariants.{Disturbed};
 
 use crate::unserved::JournaledFault;
-use row_store::{Commit, RefreshError};
+use row_store::{Commit, Follower, RefreshError};
+use ssb_clients::{Client, LogReader, Server};
 use ssb_journal::ReplayFault;
-use ssb_server::{Client, LogReader, Server};
 use std::sync::{Arc, Wait};
 
 // Makes the commit of this number again, by its client, behind those that the reader of the log has seen, and lets the
 // reader see it.
-fn remake_one<W: Wait + Drop, R: Wait>(
+fn remake_one<F: Follower + Drop, R: Wait>(
     rt: &R,
-    server: &Server<W>,
-    client: &mut Client<W>,
-    reader: &mut LogReader<W>,
+    server: &Server<F>,
+    client: &mut Client<F>,
+    reader: &mut LogReader<F>,
     commit: &Commit,
     number: u64,
 ) -> Result<(), JournaledFault>
@@ -56,11 +56,11 @@ fn remake_one<W: Wait + Drop, R: Wait>(
 
 /// Makes the next commits of a journal again, each by its client, behind those that the reader of the log has seen, and
 /// lets it see them and no others. The first that is refused is told.
-pub(crate) fn remake<W: Wait + Drop, R: Wait>(
+pub(crate) fn remake<F: Follower + Drop, R: Wait>(
     rt: &R,
-    server: &Server<W>,
-    clients: &mut [Client<W>],
-    reader: &mut LogReader<W>,
+    server: &Server<F>,
+    clients: &mut [Client<F>],
+    reader: &mut LogReader<F>,
     commits: &[Commit],
 ) -> Result<(), JournaledFault>
     requires reader { reader.old.table ≡ server.now }
@@ -86,10 +86,10 @@ pub(crate) fn remake<W: Wait + Drop, R: Wait>(
 }
 
 // Lets a client see all that the reader of the log has seen, so many commits.
-fn show_one<W: Wait + Drop>(
-    server: &Server<W>,
-    client: &mut Client<W>,
-    reader: &mut LogReader<W>,
+fn show_one<F: Follower + Drop>(
+    server: &Server<F>,
+    client: &mut Client<F>,
+    reader: &mut LogReader<F>,
     count: u64,
 ) -> Result<(), JournaledFault>
     requires reader { reader.old.table ≡ server.now }
@@ -109,10 +109,10 @@ fn show_one<W: Wait + Drop>(
 }
 
 /// Lets each client see all that the reader of the log has seen, so many commits: no answer is older.
-pub(crate) fn show_all<W: Wait + Drop>(
-    server: &Server<W>,
-    clients: &mut [Client<W>],
-    reader: &mut LogReader<W>,
+pub(crate) fn show_all<F: Follower + Drop>(
+    server: &Server<F>,
+    clients: &mut [Client<F>],
+    reader: &mut LogReader<F>,
     count: u64,
 ) -> Result<(), JournaledFault>
     requires reader { reader.old.table ≡ server.now }

@@ -24,6 +24,7 @@ use crate::journal_source::{JournalPlace, JournalSource, open_file, run_source};
 use crate::journaled_run::JournaledRun;
 use crate::ready::{ReadyLine, tell_ready};
 use crate::unserved::JournaledFault;
+use confirmed_commits::Confirms;
 use journal::KeepsTorn;
 use journal_opening::{OpensJournal, table_marks};
 use row_store::Log;
@@ -202,10 +203,10 @@ where
 }
 
 // Serves clients at once, one for each speaker, behind the commits of the journal at this place.
-fn run_behind<R, P, S, E>(
+fn run_behind<R, P, X, S, E>(
     rt: &R,
     dispatchers: u32,
-    place: &JournalPlace<'_, P>,
+    place: &JournalPlace<'_, P, X>,
     tables: MarkedTables,
     speakers: Vec<S>,
     screen: &E,
@@ -215,7 +216,9 @@ where
     P: OpensJournal + KeepsTorn,
     P::Disk: Send,
     P::Kept: Drop,
-    S: Speaks<R, Durable<P::Disk>> + Drop + Send,
+    X: Confirms<Durable<P::Disk>> + Sync,
+    X::Told: Send,
+    S: Speaks<R, X::Told> + Drop + Send,
     S::Left: Drop + Send,
     E: Print,
     requires few { vec_len speakers ≤ most_clients }
@@ -255,6 +258,7 @@ where
         disk,
         count,
         was_written,
+        torn: _,
     } = run;
     Ok(SessionsRun {
         left,
@@ -269,11 +273,11 @@ where
 
 /// Serves clients at once, one for each speaker, over the base that the tables spell, behind the commits of the journal
 /// where there is one.
-pub(crate) fn run_over<R, P, I, S, E>(
+pub(crate) fn run_over<R, P, X, I, S, E>(
     rt: &R,
     settings: ServeSettings,
     tables: TableFiles<I>,
-    place: Option<JournalPlace<'_, P>>,
+    place: Option<JournalPlace<'_, P, X>>,
     speakers: Vec<S>,
     screen: &E,
 ) -> Result<SessionsRun<S::Left, P::Disk>, ServeFault>
@@ -282,8 +286,10 @@ where
     P: OpensJournal + KeepsTorn,
     P::Disk: Send,
     P::Kept: Drop,
+    X: Confirms<Durable<P::Disk>> + Sync,
+    X::Told: Send,
     I: Read + Drop,
-    S: Speaks<R, Nothing> + Speaks<R, Durable<P::Disk>> + Drop + Send,
+    S: Speaks<R, Nothing> + Speaks<R, X::Told> + Drop + Send,
     S::Left: Drop + Send,
     E: Print,
     requires few { vec_len speakers ≤ most_clients }

@@ -14,12 +14,14 @@ ghost use Rattle.history_core.specs.Counts.{most_clients};
 ghost use Rattle.ssb_server.specs.Opening.{AreCounts};
 ghost use Rattle.ssb_text.specs.Layouts.{AreRows};
 
+use crate::acknowledging::Durable;
 use crate::attendant::Attendant;
 use crate::ends::EndPaths;
 use crate::fault::{ServeFault, ServeRefusal};
 use crate::journal_source::JournalPlace;
 use crate::runs::{KeptLog, ServeSettings, SessionsRun, all_took, run_over};
 use crate::speakers::{PathClient, PathLeft, StreamClient, StreamLeft};
+use confirmed_commits::Confirms;
 use journal::KeepsTorn;
 use journal_opening::OpensJournal;
 use ssb_files::Fault;
@@ -65,11 +67,11 @@ struct AloneLeft<J: Read + Drop, O: Write + Drop, D: Drop> {
 }
 
 // Serves one client alone.
-fn run_alone<R, P, I, J, O, E>(
+fn run_alone<R, P, X, I, J, O, E>(
     rt: &R,
     settings: ServeSettings,
     tables: TableFiles<I>,
-    place: Option<JournalPlace<'_, P>>,
+    place: Option<JournalPlace<'_, P, X>>,
     client: StreamClient<J, O>,
     screen: &E,
 ) -> Result<AloneLeft<J, O, P::Disk>, ServeFault>
@@ -78,6 +80,8 @@ where
     P: OpensJournal + KeepsTorn,
     P::Disk: Send,
     P::Kept: Drop,
+    X: Confirms<Durable<P::Disk>> + Sync,
+    X::Told: Send,
     I: Read + Drop,
     J: Read + Drop + Send,
     O: Write + Drop + Send,
@@ -164,11 +168,11 @@ fn tell_end<E: Write>(ended: &Result<Served, SessionError>, written: bool, err: 
 ///
 /// The exit status is 0 where all was answered, 1 where the data, a question that is to stand or the journal is refused,
 /// and else 4.
-pub fn serve_stream<R, P, I, J, O, E>(
+pub fn serve_stream<R, P, X, I, J, O, E>(
     rt: &R,
     settings: ServeSettings,
     tables: TableFiles<I>,
-    place: Option<JournalPlace<'_, P>>,
+    place: Option<JournalPlace<'_, P, X>>,
     client: StreamClient<J, O>,
     screen: &E,
 ) -> StreamEnd<O, P::Disk>
@@ -177,6 +181,8 @@ where
     P: OpensJournal + KeepsTorn,
     P::Disk: Send,
     P::Kept: Drop,
+    X: Confirms<Durable<P::Disk>> + Sync,
+    X::Told: Send,
     I: Read + Drop,
     J: Read + Drop + Send,
     O: Write + Drop + Send,
@@ -297,11 +303,11 @@ fn tell_clients<E: Write>(was_written: bool, all_served: bool, err: &mut E) -> u
 ///
 /// The exit status is 0 where all clients were served to their ends, 1 where the data, a question that is to stand or
 /// the journal is refused, 2 where there are more than 16 clients, and else 4.
-pub fn serve_clients<R, F, P, I, E>(
+pub fn serve_clients<R, F, P, X, I, E>(
     rt: &R,
     settings: ServeSettings,
     tables: TableFiles<I>,
-    place: Option<JournalPlace<'_, P>>,
+    place: Option<JournalPlace<'_, P, X>>,
     clients: PathClients<'_, F>,
     screen: &E,
 ) -> ClientsEnd<P::Disk>
@@ -313,6 +319,8 @@ where
     P: OpensJournal + KeepsTorn,
     P::Disk: Send,
     P::Kept: Drop,
+    X: Confirms<Durable<P::Disk>> + Sync,
+    X::Told: Send,
     I: Read + Drop,
     E: Print + Sync,
     ensures served { (result.status ≡ 0) ⊎ IsSome result.disk → (texts : Table → List ℕ)

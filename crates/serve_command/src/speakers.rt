@@ -1,6 +1,6 @@
 //! The clients: each opens its ends, is served its sessions, and tells what broke them.
 
-ghost use Rattle.std.specs.Prelude.{◌≡◌, ℕ, false, IsOk, IsTrue};
+ghost use Rattle.std.specs.Prelude.{◌≡◌, ◌⊎◌, ℕ, false, true, IsOk, IsTrue};
 ghost use Rattle.std.specs.Option.{is_some};
 ghost use Rattle.history.specs.Members.{number_of};
 ghost use Rattle.serve_command.specs.Sessions.{HasLeft, HasServedOnce, HasStreamed, IsBetween};
@@ -54,14 +54,11 @@ fn speak_over<
     Y: Evidence,
     K: Acknowledges<Y>,
 >(
-    rt: &R,
-    alloc: Global,
-    acknowledger: &K,
-    server: &Server<W>,
+    service: &Service<'_, W, R, K>,
     client: &mut Client<W>,
     ends: StreamClient<I, O>,
 ) -> (StreamLeft<I, O>, ToldWith<Y>)
-    requires table { client.old.table ≡ server.now }
+    requires table { client.old.table ≡ service.now.server.now }
     requires quiet { is_some client.old.asked ≡ false }
     ensures same { AreAlike client.old client.new }
     ensures streamed { HasStreamed (number_of client.old.who) client.old client.new (I.remaining ends.input)
@@ -70,8 +67,8 @@ fn speak_over<
     ensures told { result.1 ≡ result.0.told }
 {
     let StreamClient { input, output } = ends;
-    let took_refreshes = acknowledger.takes_refreshes();
-    let input = match BufReader::with_capacity(alloc, READ_AHEAD, input) {
+    let took_refreshes = service.acknowledger.takes_refreshes();
+    let input = match BufReader::with_capacity(service.alloc, READ_AHEAD, input) {
         Ok(input) => input,
         Err(_) => {
             let left = StreamLeft {
@@ -86,15 +83,9 @@ fn speak_over<
             return (left, ToldWith::nothing());
         }
     };
-    let service = Service {
-        rt,
-        alloc,
-        acknowledger,
-        server,
-    };
-    server.figures().session_begins();
-    let left: SessionLeft<I, O, Y> = serve_session(&service, client, input, output, took_refreshes);
-    server.figures().session_ends();
+    service.server.figures().session_begins();
+    let left: SessionLeft<I, O, Y> = serve_session(service, client, input, output, took_refreshes);
+    service.server.figures().session_ends();
     let SessionLeft {
         wire,
         outcome: ended,
@@ -138,7 +129,13 @@ impl<R: Wait, I: Read + Drop, O: Write + Drop, Y: Evidence> Speaks<R, Y> for Str
         server: &Server<W>,
         client: &mut Client<W>,
     ) -> (StreamLeft<I, O>, ToldWith<Y>) {
-        speak_over::<W, R, I, O, Y, K>(rt, alloc, acknowledger, server, client, self)
+        let service = Service {
+            rt,
+            alloc,
+            acknowledger,
+            server,
+        };
+        speak_over::<W, R, I, O, Y, K>(&service, client, self)
     }
 }
 
@@ -217,19 +214,21 @@ impl<'a, F: Files, E: Print> PathClient<'a, F, E> {
         let _ = writeln!(screen, "ssb_live: client {}: {fault}", self.number);
     }
 
-    // What follows a session that ended so. Its fault is told, but for that of a journal: it is told once, and not by
-    // each client. Who broke it, or sent too long a request, may still have both ends open, and has to see that they are
-    // closed: what it sends on would be read in the next session.
-    fn end_of<R: Clock>(
+    // What follows a session that ended so: none, where there is a failure. Its fault is told, but for that of a journal: it
+    // is told once, and not by each client. Who broke it, or sent too long a request, may still have both ends open, and
+    // has to see that they are closed: what it sends on would be read in the next session.
+    fn end_of<R: Clock, V>(
         &self,
         rt: &R,
         ended: Result<Served, SessionError>,
         comes_again: bool,
-        has_failed: bool,
+        failure: &Option<V>,
     ) -> SessionEnd
         ensures last { result ≡ SessionEnd.Last → IsOk ended }
         ensures again { result ≡ SessionEnd.Again → IsTrue comes_again }
+        ensures broken { result ≡ SessionEnd.Broken → (comes_again ≡ false) ⊎ is_some failure.now ≡ true }
     {
+        let has_failed = failure.is_some();
         match ended {
             Ok(_) if comes_again && has_failed => SessionEnd::Broken,
             Ok(served) if comes_again => {
@@ -262,13 +261,10 @@ impl<'a, F: Files, E: Print> PathClient<'a, F, E> {
     // Opens the ends, and serves a session over them. The end that is read is closed first.
     fn speak_once<W: Follower + Drop, R: Wait + Clock, Y: Evidence, K: Acknowledges<Y>>(
         &self,
-        rt: &R,
-        alloc: Global,
-        acknowledger: &K,
-        server: &Server<W>,
+        service: &Service<'_, W, R, K>,
         client: &mut Client<W>,
     ) -> (OnceLeft, ToldWith<Y>)
-        requires table { client.old.table ≡ server.now }
+        requires table { client.old.table ≡ service.now.server.now }
         requires quiet { is_some client.old.asked ≡ false }
         ensures same { AreAlike client.old client.new }
         ensures served { HasServedOnce (IsBetween F.File.remaining F.File.contents) (number_of client.old.who) client.old
@@ -276,14 +272,21 @@ impl<'a, F: Files, E: Print> PathClient<'a, F, E> {
         ensures told { result.1 ≡ result.0.told }
         ensures keeps { result.0.end ≡ SessionEnd.Again → IsTrue self.now.keeps }
     {
-        let ends = match open_ends(rt, self.files, &self.paths, self.attendant, self.number) {
+        let opened = open_ends(
+            service.rt,
+            self.files,
+            &self.paths,
+            self.attendant,
+            self.number,
+        );
+        let ends = match opened {
             Ok(ends) => ends,
             Err(fault) => {
                 self.tell(&ClientFault::End(fault));
                 let once = OnceLeft {
                     end: SessionEnd::Broken,
                     told: 0,
-                    took_refreshes: acknowledger.takes_refreshes(),
+                    took_refreshes: service.acknowledger.takes_refreshes(),
                 };
                 return (once, ToldWith::nothing());
             }
@@ -297,12 +300,7 @@ impl<'a, F: Files, E: Print> PathClient<'a, F, E> {
         };
         let ends = StreamClient { input, output };
         let (left, told_with) = speak_over::<W, R, AttendedInput<'a, F::File>, F::File, Y, K>(
-            rt,
-            alloc,
-            acknowledger,
-            server,
-            client,
-            ends,
+            service, client, ends,
         );
         let StreamLeft {
             wire,
@@ -311,10 +309,11 @@ impl<'a, F: Files, E: Print> PathClient<'a, F, E> {
             took_refreshes,
         } = left;
         wire.into_output().drop();
-        if acknowledger.has_failed() {
+        let failure = service.acknowledger.failure(service.rt);
+        if failure.is_some() {
             self.attendant.fail();
         }
-        let end = self.end_of(rt, ended, comes_again, acknowledger.has_failed());
+        let end = self.end_of(service.rt, ended, comes_again, &failure);
         let once = OnceLeft {
             end,
             told,
@@ -370,6 +369,36 @@ impl<'a, F: Files, E: Print> Speaker for PathClient<'a, F, E> {
     }
 }
 
+impl<'a, F: Files, E: Print> PathClient<'a, F, E> {
+    // Serves sessions, one after another, until none follows.
+    fn speak_on<W: Follower + Drop, R: Wait + Clock, Y: Evidence, K: Acknowledges<Y>>(
+        &self,
+        service: &Service<'_, W, R, K>,
+        client: &mut Client<W>,
+    ) -> (PathLeft, ToldWith<Y>)
+        requires table { client.old.table ≡ service.now.server.now }
+        requires quiet { is_some client.old.asked ≡ false }
+        ensures same { AreAlike client.old client.new }
+        ensures left { HasLeft (IsBetween F.File.remaining F.File.contents) (number_of client.old.who) client.old client.new
+            result.0 }
+        ensures told { result.1 ≡ result.0.told }
+    {
+        let mut told_with = ToldWith::nothing();
+        let mut took_refreshes = true;
+        for _ in service.rt.forever() {
+            let (once, once_told) = self.speak_once::<W, R, Y, K>(service, client);
+            told_with.add(once_told);
+            took_refreshes = took_refreshes && once.took_refreshes;
+            match once.end {
+                SessionEnd::Again => self.rest(service.rt),
+                SessionEnd::Last => return left_behind(true, told_with, took_refreshes),
+                SessionEnd::Broken => return left_behind(false, told_with, took_refreshes),
+            }
+        }
+        unreachable!()
+    }
+}
+
 impl<'a, R: Wait + Clock, F: Files, E: Print, Y: Evidence> Speaks<R, Y> for PathClient<'a, F, E> {
     fn speak<W: Follower + Drop, K: Acknowledges<Y>>(
         self,
@@ -379,18 +408,12 @@ impl<'a, R: Wait + Clock, F: Files, E: Print, Y: Evidence> Speaks<R, Y> for Path
         server: &Server<W>,
         client: &mut Client<W>,
     ) -> (PathLeft, ToldWith<Y>) {
-        let mut told_with = ToldWith::nothing();
-        let mut took_refreshes = true;
-        for _ in rt.forever() {
-            let (once, once_told) = self.speak_once(rt, alloc, acknowledger, server, client);
-            told_with.add(once_told);
-            took_refreshes = took_refreshes && once.took_refreshes;
-            match once.end {
-                SessionEnd::Again => self.rest(rt),
-                SessionEnd::Last => return left_behind(true, told_with, took_refreshes),
-                SessionEnd::Broken => return left_behind(false, told_with, took_refreshes),
-            }
-        }
-        unreachable!()
+        let service = Service {
+            rt,
+            alloc,
+            acknowledger,
+            server,
+        };
+        self.speak_on::<W, R, Y, K>(&service, client)
     }
 }

@@ -1,16 +1,17 @@
-use Rattle.std.proofs.Common.{◌≡◌, ◌∙◌, ℕ, subst}
+use Rattle.std.proofs.Common.{◌≡◌, ◌∙◌, ℕ, None, subst}
 use Rattle.journal.specs.Groups.{recovered}
 use Rattle.journal_opening.specs.Kept.{HasCommits, IsKnown}
 use Rattle.journal_opening.specs.declared.start.JournalStart.TheVariants.{Begins}
 use Rattle.serve_command.specs.JournaledRun.{IsJournaledRun}
-use Rattle.serve_command.specs.LeftFiles.{IsLeftFile, KeepsFound}
+use Rattle.serve_command.specs.LeftFiles.{IsLeftFile, KeepsFound, KeepsTornBytes}
 use Rattle.serve_command.specs.Journals.{RefusesFile}
 use Rattle.serve_command.specs.Remade.{IsNotRemade}
 use Rattle.serve_command.specs.declared.fault.ServeRefusal.TheVariants.{Journal}
 use Rattle.ssb_base.specs.Base.{Tables}
 use Rattle.ssb_journal.specs.Opening.{IsKept}
-use Rattle.serve_command.proofs.JournalLaws.{has_kept}
+use Rattle.serve_command.proofs.JournalLaws.{found_has_torn, found_is_kept, has_kept}
 use Rattle.serve_command.proofs.RemadeLaws.{refused_reading, refused_remade}
+use Rattle.serve_command.proofs.StatusLaws.{unserved_not_refused}
 use Rattle.serve_command.proofs.journal_source.run_source.Goals as goal
 
 pub returns-in-Err-clause-refused : goal.returns-in-Err-clause-refused
@@ -29,12 +30,16 @@ returns-in-Err-remake_journal-clause-refused g c = λ status.
     let source = c.args.source in
     let started = c.in-Ok.started in
     let known = g.U.UnreadDisk.holds source.file in
-    let why = c.in-Err-remake_journal.unserved.refusal in
+    let why = c.in-Err-remake_journal.field-0.refusal in
     subst (λ how. RefusesFile source.loaded source.marks.now (how ≡ Begins) known)
     (c.in-Ok.ensures.start.0 ∙ c.start.ensures)
     (refused_remade source.loaded source.marks.now started.start started.path.now c.args.dispatchers known why
     (subst (λ k. IsNotRemade source.loaded source.marks.now started.start started.path.now c.args.dispatchers k why)
     c.in-Ok.ensures.known c.in-Err-remake_journal.ensures.fault) status)
+
+pub returns-in-Err-run_journaled-clause-refused : goal.returns-in-Err-run_journaled-clause-refused
+returns-in-Err-run_journaled-clause-refused g c = λ status.
+    absurd (unserved_not_refused c.in-Err-run_journaled.field-0.fault c.in-Err-run_journaled.ensures.fault status)
 
 pub returns-in-Ok-run_journaled-clause-served : goal.returns-in-Ok-run_journaled-clause-served
 returns-in-Ok-run_journaled-clause-served g c =
@@ -79,8 +84,18 @@ returns-in-Err-remake_journal-clause-any_moment_err g c =
     let marks = c.args.source.marks.now in
     subst
     (λ known. IsLeftFile (λ file. g.U.UnreadDisk.holds file ≡ known) (KeepsFound g.U.Whole.Disk.seen g.U.Whole.Disk.moment
-    g.U.Whole.Disk.left_since marks known) c.in-Err-remake_journal.unserved.file) c.in-Ok.ensures.known
-    c.in-Err-remake_journal.ensures.file
+    g.U.Whole.Disk.left_since marks known) c.in-Err-remake_journal.field-0.file) c.in-Ok.ensures.known
+    (found_is_kept _ g.U.Whole.Disk.seen g.U.Whole.Disk.moment g.U.Whole.Disk.left_since marks _
+    c.in-Err-remake_journal.field-0.file c.in-Err-remake_journal.ensures.file)
+
+pub returns-in-Err-remake_journal-clause-torn_err : goal.returns-in-Err-remake_journal-clause-torn_err
+returns-in-Err-remake_journal-clause-torn_err g c =
+    let marks = c.args.source.marks.now in
+    subst
+    (λ known. IsLeftFile (λ file. g.U.UnreadDisk.holds file ≡ known) (KeepsTornBytes g.U.Whole.Disk.seen
+    g.P.KeepsTorn.bytes marks known None) c.in-Err-remake_journal.field-0.file) c.in-Ok.ensures.known
+    (found_has_torn _ g.U.Whole.Disk.seen g.P.KeepsTorn.bytes marks _ c.in-Err-remake_journal.field-0.file
+    c.in-Err-remake_journal.ensures.file)
 
 pub returns-in-Ok-run_journaled-clause-any_moment : goal.returns-in-Ok-run_journaled-clause-any_moment
 returns-in-Ok-run_journaled-clause-any_moment g c =
@@ -114,4 +129,38 @@ returns-in-Err-run_journaled-clause-any_moment_err g c =
             c.in-Ok-remake_journal.ensures.kept);
       };
       kept = c.in-Err-run_journaled.ensures.any_moment_err;
+    }
+
+pub returns-in-Ok-run_journaled-clause-torn : goal.returns-in-Ok-run_journaled-clause-torn
+returns-in-Ok-run_journaled-clause-torn g c =
+    let source = c.args.source in
+    let remade = c.in-Ok-remake_journal.remade in
+    let opened = remade.opened in
+    let file = g.U.Whole.Disk.seen opened.found in record {
+      found = opened.found;
+      commits = opened.kept.commits.items;
+      is = record {
+        is_file = subst (λ k. IsKnown k file) c.in-Ok.ensures.known c.in-Ok-remake_journal.ensures.known;
+        has = has_kept source.marks.now file opened.kept
+            (subst (λ m. IsKept m (recovered file) opened.kept) c.in-Ok-remake_journal.ensures.marks
+            c.in-Ok-remake_journal.ensures.kept);
+      };
+      kept = c.in-Ok-run_journaled.ensures.torn;
+    }
+
+pub returns-in-Err-run_journaled-clause-torn_err : goal.returns-in-Err-run_journaled-clause-torn_err
+returns-in-Err-run_journaled-clause-torn_err g c =
+    let source = c.args.source in
+    let remade = c.in-Ok-remake_journal.remade in
+    let opened = remade.opened in
+    let file = g.U.Whole.Disk.seen opened.found in record {
+      found = opened.found;
+      commits = opened.kept.commits.items;
+      is = record {
+        is_file = subst (λ k. IsKnown k file) c.in-Ok.ensures.known c.in-Ok-remake_journal.ensures.known;
+        has = has_kept source.marks.now file opened.kept
+            (subst (λ m. IsKept m (recovered file) opened.kept) c.in-Ok-remake_journal.ensures.marks
+            c.in-Ok-remake_journal.ensures.kept);
+      };
+      kept = c.in-Err-run_journaled.ensures.torn_err;
     }

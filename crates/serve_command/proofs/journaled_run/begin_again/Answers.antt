@@ -1,6 +1,7 @@
-use Rattle.std.proofs.Common.{subst, sym}
+use Rattle.std.proofs.Common.{Option, ap, subst, sym}
 use Rattle.journal.specs.Groups.{recovered as recovered_groups}
 use Rattle.serve_command.specs.BegunFiles.{KeepsBegun}
+use Rattle.serve_command.specs.declared.journaled_run.BegunFile.{BegunFile}
 use Rattle.serve_command.proofs.BeginningLaws.{keeps_first, kept_in_beginning, kept_unwritten}
 use Rattle.ssb_journal.proofs.CountLaws.{kept_have_first}
 use Rattle.serve_command.proofs.journaled_run.begin_again.Goals.{in-Ok, in-Err+else-kept}
@@ -18,13 +19,13 @@ returns-clause-kept g c =
     let kept = c.args.opened.kept in
     let found = c.args.opened.found in
     elim c.match-begin_file.branch [
-      | in-Ok w ↦ subst (KeepsBegun g.D.Disk.may_leave g.D.Disk.seen g.D.Disk.promised kept.count c.args.reader.seen) (sym w.file-is)
+      | in-Ok w ↦ subst (KeepsBegun g.D.Disk.may_leave g.D.Disk.seen g.D.Disk.promised kept.count c.args.reader.seen) (ap (λ (p : BegunFile g.row.D.Denot × Option g.row.T-Kept.Denot). p.0) (sym w.file-is))
           (keeps_first marks kept.commits.items c.args.reader.seen kept.count (g.D.Disk.seen w.in-Ok.journal)
           c.first_of_log.ensures c.requires.seen kept.counted
           (c.begun_journal_keeps.ensures marks kept (g.D.Disk.seen found) (g.D.Disk.seen w.in-Ok.journal) c.requires.kept
           w.in-Ok.ensures.same w.in-Ok.ensures.made))
       | in-Err+else-kept w ↦ subst (KeepsBegun g.D.Disk.may_leave g.D.Disk.seen g.D.Disk.promised kept.count c.args.reader.seen)
-          (sym w.file-is) (
+          (ap (λ (p : BegunFile g.row.D.Denot × Option g.row.T-Kept.Denot). p.0) (sym w.file-is)) (
             kept_unwritten g.D.Disk.moment g.D.Disk.left_since g.D.Disk.may_leave g.D.Disk.seen found w.in-Err.disk marks kept
                 (recovered_groups (g.D.Disk.seen found)) c.args.reader.seen kept.count (g.met.D.Disk.counts_now w.in-Err.disk)
                 c.first_of_log.ensures c.requires.kept w.if-kept.false w.in-Err.ensures.any_moment_err c.requires.seen

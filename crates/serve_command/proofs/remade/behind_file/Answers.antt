@@ -1,9 +1,10 @@
-use Rattle.std.proofs.Common.{◌≡◌, ◌∙◌, arith, inl, length, subst, sym}
+use Rattle.std.proofs.Common.{◌≡◌, ◌∙◌, arith, length, subst, sym}
 use Rattle.std.proofs.lemmas.List.{take_at}
 use Rattle.journal.specs.Groups.{recovered}
 use Rattle.ssb_journal.specs.Opening.{IsKept}
 use Rattle.serve_command.proofs.JournalLaws.{has_kept}
 use Rattle.serve_command.proofs.RemadeLaws.{reader_at, shown_at}
+use Rattle.serve_command.specs.LeftFiles.{IsFoundWith}
 use Rattle.serve_command.specs.Seated.{AllHaveSeen}
 use Rattle.serve_command.proofs.remade.behind_file.Goals as goal
 
@@ -36,12 +37,11 @@ returns-clause-file g c =
     let opened = c.finish-opened.result in
     let file = g.U.Whole.Disk.seen opened.found in
     record {
-      found = opened.found;
       commits = opened.kept.commits.items;
-      is = record {
-        is_file = c.finish-opened.ensures.known;
-        has = has_kept c.args.marks.now file opened.kept
-            (subst (λ m. IsKept m (recovered file) opened.kept) c.requires.marks c.finish-opened.ensures.kept);
-      };
-      kept = inl c.into_disk.ensures.same;
+      is = subst (IsFoundWith g.U.Whole.Disk.seen c.args.marks.now (g.U.UnreadDisk.holds c.args.journal.reader.unread)
+          opened.kept.commits.items) (sym c.into_disk.ensures.same) (record {
+            is_file = c.finish-opened.ensures.known;
+            has = has_kept c.args.marks.now file opened.kept
+                (subst (λ m. IsKept m (recovered file) opened.kept) c.requires.marks c.finish-opened.ensures.kept);
+          });
     }

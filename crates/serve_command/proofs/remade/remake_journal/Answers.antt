@@ -2,7 +2,7 @@ use Rattle.std.proofs.Common.{◌∙◌, ap, subst, sym, rules}
 use Rattle.history.specs.Tokens.{new_clients, new_dispatchers}
 use Rattle.serve_command.proofs.BeginningLaws.{run_fault}
 use Rattle.serve_command.proofs.RemadeLaws.{at_same_log, new_at_log, not_opened, tells_nothing}
-use Rattle.serve_command.specs.LeftFiles.{KeepsFound}
+use Rattle.serve_command.specs.LeftFiles.{IsAsFound}
 use Rattle.serve_command.proofs.remade.remake_journal.Goals as goal
 
 pub returns-in-Err-clause-fault : goal.returns-in-Err-clause-fault
@@ -32,5 +32,4 @@ returns-in-Err-clause-file g c = ap g.U.UnreadDisk.holds c.into_unread.ensures
 pub returns-in-Err-behind_file-clause-file : goal.returns-in-Err-behind_file-clause-file
 returns-in-Err-behind_file-clause-file g c =
     subst
-    (λ known. KeepsFound g.U.Whole.Disk.seen g.U.Whole.Disk.moment g.U.Whole.Disk.left_since c.args.marks.now known
-    c.in-Err-behind_file.disk) c.in-Ok-read_all.ensures.known c.in-Err-behind_file.ensures.file
+    (λ known. IsAsFound g.U.Whole.Disk.seen c.args.marks.now known c.in-Err-behind_file.disk) c.in-Ok-read_all.ensures.known c.in-Err-behind_file.ensures.file

@@ -1,7 +1,7 @@
 use Rattle.history.specs.Members.{number_of}
 use Rattle.serve_command.specs.Sessions.{HasHad, IsBetween}
 use Rattle.stream_sessions.specs.OneRequest.{AreAlike}
-use Rattle.serve_command.proofs.speakers.PathClientSpeaks.speak.Given as goal
+use Rattle.serve_command.proofs.speakers.PathClient.speak_on.Given as goal
 
 -- it is the same client, which has had sessions between ends that were opened; they told of so many commits at most, and
 -- took refreshes, where that is said

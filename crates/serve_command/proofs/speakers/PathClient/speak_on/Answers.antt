@@ -4,7 +4,7 @@ use Rattle.history.specs.Members.{number_of}
 use Rattle.serve_command.proofs.SessionLaws.{left_at_last, left_broken, none_had, of_number, one_more}
 use Rattle.serve_command.specs.declared.speakers.SessionEnd.TheVariants.{Last}
 use Rattle.stream_sessions.proofs.RequestLaws.{alike_itself, alike_both}
-use Rattle.serve_command.proofs.speakers.PathClientSpeaks.speak.Goals as goal
+use Rattle.serve_command.proofs.speakers.PathClient.speak_on.Goals as goal
 
 pub loop-init : goal.loop-init
 loop-init g c = (alike_itself _ c.requires.quiet, rw c.nothing-told_with.ensures (none_had _ _ _))
@@ -26,8 +26,8 @@ loop-preserved g c = (
 pub returns-in-Last-clause-same : goal.returns-in-Last-clause-same
 returns-in-Last-clause-same g c = alike_both _ _ _ c.loop.invariant.0 c.speak_once-once_told.ensures.same
 
-pub returns-in-Last-clause-spoken : goal.returns-in-Last-clause-spoken
-returns-in-Last-clause-spoken g c =
+pub returns-in-Last-clause-left : goal.returns-in-Last-clause-left
+returns-in-Last-clause-left g c =
     let is : c.speak_once-once_told.result.0.end ≡ Last = search rules in
     rw c.left_behind.ensures.left
     (left_at_last _ _ _ _ _ _ _ _ _ _ (c.add.ensures ∙ ap (max c.loop.told_with) c.speak_once-once_told.ensures.told)
@@ -40,8 +40,8 @@ returns-in-Last-clause-told g c = rw c.left_behind.ensures.left c.left_behind.en
 pub returns-in-Broken-clause-same : goal.returns-in-Broken-clause-same
 returns-in-Broken-clause-same g c = alike_both _ _ _ c.loop.invariant.0 c.speak_once-once_told.ensures.same
 
-pub returns-in-Broken-clause-spoken : goal.returns-in-Broken-clause-spoken
-returns-in-Broken-clause-spoken g c =
+pub returns-in-Broken-clause-left : goal.returns-in-Broken-clause-left
+returns-in-Broken-clause-left g c =
     rw c.left_behind-in-Broken.ensures.left
     (left_broken _ _ _ _ _ _
     (one_more _ _ _ _ _ _ _ _ _ _ (c.add.ensures ∙ ap (max c.loop.told_with) c.speak_once-once_told.ensures.told)
