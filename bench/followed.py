@@ -44,18 +44,23 @@ def mark_of(records):
 
 class Machine:
     """A server with a journal, in a folder of its own. `marks` are those of its journal's commits as they were read.
-    The link reads what `ship` writes of the journal, if it ships."""
+    The link reads what `ship` writes of the journal, if it ships; a server that is confirmed tells what the link
+    confirms."""
 
     def __init__(self, data, folder, copied=None, ships=False):
         self.data, self.folder, self.journal, self.ships = data, folder, folder / "journal", ships
+        self.by, self.is_confirmed = folder / "confirmed", False
         folder.mkdir()
+        os.mkfifo(self.by)
         if copied:
             subprocess.run(["cp", copied, self.journal], check=True)
         self.reader, self.marks, self.server = JournalReader(self.journal, data), [], None
         self.ends = [(folder / f"in-{number}", folder / f"out-{number}") for number in range(1, CLIENTS + 1)]
 
-    def start(self, prepare=None):
-        self.server = Server(self.data, self.folder, CLIENTS, *journal_words(self.journal), "--keep", quiet=False,
+    def start(self, prepare=None, is_confirmed=False):
+        self.is_confirmed = is_confirmed
+        by = ["--confirmed", self.by] if is_confirmed else []
+        self.server = Server(self.data, self.folder, CLIENTS, *journal_words(self.journal), *by, "--keep", quiet=False,
                              prepare=prepare)
         end = time.monotonic() + STARTING
         while not READY.search((self.folder / "errors").read_text()):
@@ -71,7 +76,8 @@ class Machine:
 
     def as_first(self):
         command = shlex.join(map(str, (LIVE, "ship", "--journal", self.journal)))
-        return ["--from", command] if self.ships else ["--journal", self.journal]
+        by = ["--confirm", self.by] if self.is_confirmed else []
+        return [*(["--from", command] if self.ships else ["--journal", self.journal]), *by]
 
     def as_second(self, compares):
         return ["--to", *self.ends[0], *(["--second", self.journal] if compares else [])]
@@ -438,11 +444,9 @@ class Forks:
     @shipped
     def a_link_that_confirms(self):
         second = self.begun(3)
-        pipe = second.folder / "confirmed"
-        os.mkfifo(pipe)
-        by = os.open(pipe, os.O_RDONLY | os.O_NONBLOCK)
+        by = os.open(self.first.by, os.O_RDONLY | os.O_NONBLOCK)
         try:
-            text = self.expect(self.shipping(), second, 0, "6 commits, as many", 6, "--confirm", pipe)
+            text = self.expect(self.shipping(), second, 0, "6 commits, as many", 6, "--confirm", self.first.by)
             lines = os.read(by, 1 << 16).decode().splitlines()
         finally:
             os.close(by)

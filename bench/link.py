@@ -17,7 +17,8 @@ It is one file, over the standard library of Python 3.8 or later: `link.py WORD.
   --second FILE          the second's journal, or
   --second-over COMMAND  a shell's command that writes it to its output: the commits that both have are compared
   --uncompared           goes on behind the commits that the second has, though nothing shows which these are
-  --confirm BY           writes to the pipe BY how many commits the second has, as `committed N`, or
+  --confirm BY           writes to the pipe BY how many commits the second has, as `committed N`, for a first server
+                         that tells a client only what is confirmed so (`serve --confirmed BY`), or
   --confirm-over COMMAND a shell's command that takes these lines from its input
   --once                 sends what the journal has, and ends
   --ahead N              at most so many refreshes are under way (by default 1000)

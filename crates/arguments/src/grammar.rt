@@ -373,6 +373,18 @@ fn new_journal_argument<'a>(alloc: Global) -> Result<Arg<'a>, AllocError> {
     .conflicts_with("journal")
 }
 
+// What a second server tells of its disk.
+fn confirmed_argument<'a>(alloc: Global) -> Arg<'a> {
+    Arg::new(alloc, "confirmed")
+        .long("confirmed")
+        .value_name("BY")
+        .help(
+            "Replies also wait for the line 'committed N' from BY, which a link to a second server writes; can be repeated",
+        )
+        .num_args(1)
+        .action(ArgAction::Append)
+}
+
 // The words of `serve`.
 fn serve_command<'a>(alloc: Global) -> Result<Command<'a>, AllocError> {
     let command = over_tables(
@@ -391,6 +403,7 @@ fn serve_command<'a>(alloc: Global) -> Result<Command<'a>, AllocError> {
         ))?
         .arg(journal_argument(alloc))?
         .arg(new_journal_argument(alloc)?)?
+        .arg(confirmed_argument(alloc))?
         .arg(metrics_argument(alloc))?
         .arg(standing_argument(alloc))?;
     with_telling(alloc, command)

@@ -130,6 +130,9 @@ With --new-journal a journal begins in FILE, which is created if it does not exi
 FILE does not exist, that is refused. 'committed N' is sent when commit N is on the disk; an answer is sent when all
 commits that it contains are.
 
+With --confirmed both also wait until a line 'committed M', of at least as many commits, was read from BY: a pipe or a
+file that gets what a second server tells. It can be repeated; then each BY has to have such a line.
+
 With --standing the questions of FILE stand: each keeps totals that follow the commits, and is answered from these, so
 that a report which is asked again and again takes no pass over the lines. Replies are the same without it.
 

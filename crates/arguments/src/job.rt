@@ -153,6 +153,8 @@ pub struct ServeWords<'a> {
     pub clients: Vec<&'a str>,
     pub keep: bool,
     pub journal: Option<JournalWord<'a>>,
+    /// What tells what second servers have: a pipe or a file each. There are none without a journal.
+    pub confirmed: Vec<&'a str>,
     /// The file of the server's figures.
     pub metrics: Option<&'a str>,
     pub standing: Option<StandingWord<'a>>,
@@ -397,6 +399,17 @@ fn run_words<'a>(alloc: Global, matches: &ArgMatches<'a>) -> Result<RunWords<'a>
     })
 }
 
+// What tells what second servers have: only of a journal's commits.
+fn confirmed_of<'a>(alloc: Global, matches: &ArgMatches<'a>) -> Result<Vec<&'a str>, Notice> {
+    let confirmed = words_of(alloc, matches, "confirmed")?;
+    if confirmed.is_empty() || journal_of(matches).is_some() {
+        return Ok(confirmed);
+    }
+    let told = "the argument '--confirmed <BY>' cannot be used without '--journal <FILE>'";
+    let fault = command(alloc, false)?.error(ErrorKind::MissingRequiredArgument, told)?;
+    Err(Notice::from(fault))
+}
+
 fn serve_words<'a>(alloc: Global, matches: &ArgMatches<'a>) -> Result<ServeWords<'a>, Notice> {
     Ok(ServeWords {
         data: word_of(matches, "data"),
@@ -404,6 +417,7 @@ fn serve_words<'a>(alloc: Global, matches: &ArgMatches<'a>) -> Result<ServeWords
         clients: words_of(alloc, matches, "clients")?,
         keep: matches.get_flag("keep"),
         journal: journal_of(matches),
+        confirmed: confirmed_of(alloc, matches)?,
         metrics: matches.get_str("metrics"),
         standing: standing_of(matches),
         dispatchers: matches.get_one::<u32>("dispatchers").unwrap_or(1),

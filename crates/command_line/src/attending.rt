@@ -2,6 +2,7 @@
 
 ghost use Rattle.std.specs.Thread.{IsSend};
 
+use confirmed_commits::Seconds;
 use journal_file::JournalFile;
 use journal_opening::JournalPath;
 use serve_command::{
@@ -27,7 +28,7 @@ pub(crate) fn serve_one<R, F, T, I: Read + Drop + Send, W: Write + Drop + Send, 
     rt: &R,
     settings: ServeSettings,
     tables: TableFiles<T>,
-    place: Option<JournalPlace<'_, JournalPath<'_, F>>>,
+    place: Option<JournalPlace<'_, JournalPath<'_, F>, Seconds>>,
     client: StreamClient<I, W>,
     errors: &E,
 ) -> OneServed
@@ -49,7 +50,7 @@ pub(crate) fn attend_clients<R, F, I: Read + Drop, E: Print + Sync>(
     rt: &R,
     settings: ServeSettings,
     tables: TableFiles<I>,
-    place: Option<JournalPlace<'_, JournalPath<'_, F>>>,
+    place: Option<JournalPlace<'_, JournalPath<'_, F>, Seconds>>,
     clients: PathClients<'_, F>,
     errors: &E,
 ) -> u8

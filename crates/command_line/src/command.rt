@@ -1,17 +1,19 @@
 //! What the words of a command line do.
 
 use crate::attending::{attend_clients, serve_one};
-use crate::commits_screen::serve_shown;
+use crate::confirming::serve_confirmed;
 use crate::histories::{check_trace, export_tables, write_changes};
 use crate::job_help::{tell_help, tell_notes};
 use crate::metrics::{MetricsFile, push_metrics};
-use crate::named_journal::NamedJournal;
+use crate::named_journal::{NamedJournal, PlaceParts};
 use crate::querying::{AskedWords, answer_query, explain_query, statements_on};
+use crate::seconds_view::NamedSeconds;
 use crate::shipping::ship_journal;
 use crate::streams::{Streams, tell};
 use crate::terminal_view::TerminalView;
 use crate::{job_help, named_journal, pipes};
 use arguments::{HintsWord, Job, JournalWord, RunWords, ServeWords, StandingWord, job_of};
+use confirmed_commits::Seconds;
 use journal_file::{JournalFile, torn_path};
 use journal_opening::JournalPath;
 use query_command::standard_questions;
@@ -31,15 +33,15 @@ use ssb_hints::{
 };
 use ssb_questions::Question;
 use ssb_text::{TableFiles, Tables};
-use std::alloc::Global;
+use std::alloc::{AllocError, Global};
 use std::hash::RandomState;
-use std::io;
 use std::io::{BufWriter, Print, Read, Write};
 use std::random::RandomSource;
 use std::rt::Files;
 use std::sync::{Arc, Wait};
 use std::thread::Threads;
 use std::time::Clock;
+use std::{fs, io};
 use terminal::{HelpedOutput, Prompted, TypedRequest};
 
 /// The terminal, where there is one and the words let it show the progress of a load, which begins now.
@@ -221,6 +223,8 @@ pub(crate) struct OpenedServer<O: Drop> {
     tables: Tables<O>,
     clients: Vec<EndPaths>,
     journal: Option<NamedJournal>,
+    /// The second servers that confirm the journal's commits.
+    pub(crate) seconds: Arc<Seconds>,
 }
 
 // Looks whether a live server would write over a file that it reads or writes, or that a client is answered to.
@@ -234,6 +238,9 @@ fn check_server_paths<F: Files + AllocGlobal>(
         paths.push(UsedPath::find(files, ends[0], PathUse::Input)?)?;
         paths.push(UsedPath::find(files, ends[1], PathUse::Output)?)?;
     }
+    for by in &words.confirmed {
+        paths.push(UsedPath::find(files, by, PathUse::Input)?)?;
+    }
     if let Some(word) = words.journal {
         let journal = word.path();
         let torn = torn_path(files.alloc(), journal)?;
@@ -242,6 +249,17 @@ fn check_server_paths<F: Files + AllocGlobal>(
     }
     push_metrics(files, words.metrics, &mut paths)?;
     check_paths(paths.as_slice())
+}
+
+// Looks whether what second servers tell can be heard: nobody would be told of a commit without it.
+fn check_confirmed<F: Files + AllocGlobal>(files: &F, words: &ServeWords<'_>) -> Result<(), Fault> {
+    for by in &words.confirmed {
+        match fs::metadata(files, by) {
+            Ok(metadata) if !metadata.is_dir() => {}
+            _ => return Err(Fault::CannotRead(String::from_str(files.alloc(), by)?)),
+        }
+    }
+    Ok(())
 }
 
 // Looks whether the journal is there, where one is to be gone on with.
@@ -271,6 +289,7 @@ fn open_server<R: RandomSource, F: Files + AllocGlobal>(
     let clients = clients_of(files.alloc(), words.clients.as_slice())?;
     let standing = if clients.len() <= MOST_CLIENTS {
         check_server_paths(files, words)?;
+        check_confirmed(files, words)?;
         let standing = questions_of(files.alloc(), source)?;
         check_journal(files, words)?;
         standing
@@ -278,6 +297,7 @@ fn open_server<R: RandomSource, F: Files + AllocGlobal>(
         Vec::new(files.alloc())
     };
     let journal = NamedJournal::of(files, words)?;
+    let seconds = Seconds::new(files.alloc(), words.confirmed.len())?;
     let hashing = hashing_of(rt)?;
     let settings = ServeSettings {
         hashing,
@@ -291,7 +311,24 @@ fn open_server<R: RandomSource, F: Files + AllocGlobal>(
         tables,
         clients,
         journal,
+        seconds: Arc::new(files.alloc(), seconds)?,
     })
+}
+
+// What the person at a terminal may see of a server that these words ask for.
+fn view_of<'a, 't, R, F: Files>(
+    rt: &'a R,
+    files: &'a F,
+    settings: &ServeSettings,
+    words: &ServeWords<'t>,
+    seconds: &Arc<Seconds>,
+) -> Result<TerminalView<'a, 't, R, F>, AllocError>
+where
+    R: AllocGlobal,
+{
+    let tables = Some(job_help::tables_of(words));
+    let seconds = Some(NamedSeconds::of(rt.alloc(), words, seconds)?);
+    TerminalView::of(rt, files, settings, tables, seconds, words.hints)
 }
 
 // Serves the person at a terminal over tables that are loaded now. Where hints are told, a fault has help below it.
@@ -299,8 +336,8 @@ fn serve_typed<R, F, T, I: Read + Drop + Send, W: Write + Drop + Send, E: Print 
     rt: &R,
     settings: ServeSettings,
     tables: TableFiles<T>,
-    place: Option<JournalPlace<'_, JournalPath<'_, F>>>,
-    view: &TerminalView<'_, '_, F>,
+    place: Option<JournalPlace<'_, JournalPath<'_, F>, Seconds>>,
+    view: &TerminalView<'_, '_, R, F>,
     streams: Streams<'_, I, W, E>,
 ) -> u8
 where
@@ -351,15 +388,19 @@ where
         tables,
         clients,
         journal,
+        seconds,
     } = opened;
     let errors = streams.errors;
-    let bytes = TableBytes::new();
+    let parts = PlaceParts {
+        path: named_journal::journal_path(files, journal.as_ref()),
+        seconds,
+        bytes: TableBytes::new(),
+    };
     let tables = TableFiles {
-        tables: count_tables(&bytes, tables),
+        tables: count_tables(&parts.bytes, tables),
         layout: words.layout,
     };
-    let path = named_journal::journal_path(files, journal.as_ref());
-    let place = named_journal::journal_place(path.as_ref(), &bytes, !words.quiet);
+    let place = parts.place(!words.quiet);
     if !clients.is_empty() {
         let Ok(attendant) = Attendant::<F::File>::new(rt.alloc(), clients.as_slice(), !words.quiet)
         else {
@@ -374,12 +415,7 @@ where
         return attend_clients(rt, settings, tables, place, clients, errors);
     }
     if streams.is_typed {
-        let Ok(view) = TerminalView::of(
-            files,
-            &settings,
-            Some(job_help::tables_of(words)),
-            words.hints,
-        ) else {
+        let Ok(view) = view_of(rt, files, &settings, words, &parts.seconds) else {
             return Fault::OutOfMemory.tell(&mut io::writer(errors));
         };
         return serve_typed(rt, settings, tables, place, &view, streams);
@@ -416,6 +452,7 @@ where
         tables,
         clients,
         journal,
+        seconds,
     } = match open_server(rt, files, words) {
         Ok(opened) => opened,
         Err(fault) => return fault.tell(&mut io::writer(errors)),
@@ -437,8 +474,9 @@ where
         tables: watch_tables(screen.as_ref(), tables),
         clients,
         journal,
+        seconds,
     };
-    let status = serve_shown(rt, files, words, metrics, opened, streams);
+    let status = serve_confirmed(rt, files, words, metrics, opened, streams);
     locks.drop();
     status
 }
@@ -463,10 +501,13 @@ where
         figures: Arc::new(rt.alloc(), LiveFigures::new())?,
         tells_ready: false,
     };
-    let view = TerminalView::of(files, &settings, None, hints)?;
-    let bytes = TableBytes::new();
-    let path = named_journal::journal_path(files, None);
-    let place = named_journal::journal_place(path.as_ref(), &bytes, false);
+    let view = TerminalView::of(rt, files, &settings, None, None, hints)?;
+    let parts = PlaceParts {
+        path: named_journal::journal_path(files, None),
+        seconds: Arc::new(rt.alloc(), Seconds::new(rt.alloc(), 0)?)?,
+        bytes: TableBytes::new(),
+    };
+    let place = parts.place(false);
     let tables = TableFiles::benchmark(small_data::tables());
     Ok(serve_typed(rt, settings, tables, place, &view, streams))
 }
@@ -503,43 +544,26 @@ where
     if matches!(job, Job::Script) && streams.is_typed {
         return serve_small(rt, files, job.hints(), streams);
     }
-    let Streams {
-        input,
-        is_typed,
-        mut output,
-        errors,
-        shows_progress,
-        columns,
-    } = streams;
-    let err = &mut io::writer(errors);
+    let mut streams = streams;
+    let err = &mut io::writer(streams.errors);
     pipes::report_pipes(files, job, err)?;
     match job {
-        Job::Script => report_script(rt, input, &mut output, err),
+        Job::Script => report_script(rt, streams.input, &mut streams.output, err),
         Job::Query(words) => {
-            let read = match statements_on(rt.alloc(), words, input) {
+            let read = match statements_on(rt.alloc(), words, streams.input) {
                 Ok(read) => read,
                 Err(fault) => return Ok(JobFault::Found(fault).tell(err)),
             };
             let asked = AskedWords { words, read };
-            answer_query(rt, files, asked, terminal, &mut output, err)
+            answer_query(rt, files, asked, terminal, &mut streams.output, err)
         }
-        Job::Explain(words) => explain_query(rt, files, words, terminal, &mut output, err),
-        Job::Run(words) => report_scripts(rt, files, words, terminal, &mut output, err),
-        Job::Serve(words) => {
-            let streams = Streams {
-                input,
-                is_typed,
-                output,
-                errors,
-                shows_progress,
-                columns,
-            };
-            Ok(serve_live(rt, files, words, terminal, streams))
-        }
-        Job::Audit(words) => check_trace(rt, files, words, terminal, &mut output, err),
+        Job::Explain(words) => explain_query(rt, files, words, terminal, &mut streams.output, err),
+        Job::Run(words) => report_scripts(rt, files, words, terminal, &mut streams.output, err),
+        Job::Serve(words) => Ok(serve_live(rt, files, words, terminal, streams)),
+        Job::Audit(words) => check_trace(rt, files, words, terminal, &mut streams.output, err),
         Job::Export(words) => export_tables(rt, files, words, terminal, err),
-        Job::Changes(words) => write_changes(rt, files, words, &mut output, err),
-        Job::Ship(words) => Ok(ship_journal(rt, files, words, &mut output, err)),
+        Job::Changes(words) => write_changes(rt, files, words, &mut streams.output, err),
+        Job::Ship(words) => Ok(ship_journal(rt, files, words, &mut streams.output, err)),
     }
 }
 

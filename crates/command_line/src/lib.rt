@@ -21,6 +21,7 @@
 mod attending;
 mod command;
 mod commits_screen;
+mod confirming;
 mod end_bell;
 mod histories;
 mod job_help;
@@ -30,6 +31,7 @@ mod metrics;
 mod named_journal;
 mod pipes;
 mod querying;
+mod seconds_view;
 mod shipping;
 mod streams;
 mod terminal_view;

@@ -5,10 +5,12 @@ ghost use Rattle.std.specs.Thread.{IsSend};
 use crate::command::{OpenedServer, serve_loading};
 use crate::end_bell::EndBell;
 use crate::metrics::MetricsFile;
+use crate::seconds_view::NamedSeconds;
 use crate::streams::Streams;
 use arguments::ServeWords;
 use journal_file::JournalFile;
-use std::io::{Print, Read, Write};
+use ssb_files::Fault;
+use std::io::{self, Print, Read, Write};
 use std::random::RandomSource;
 use std::rt::Files;
 use std::sync::Wait;
@@ -54,10 +56,13 @@ where
     T: Read + Drop,
 {
     let errors = streams.errors;
+    let Ok(seconds) = NamedSeconds::of(rt.alloc(), words, &opened.seconds) else {
+        return Fault::OutOfMemory.tell(&mut io::writer(errors));
+    };
     let bell = EndBell::new();
     let (_, status) = thread::join(
         rt,
-        || metrics.write_until(rt, &bell, errors),
+        || metrics.write_until(rt, &seconds, &bell, errors),
         || -> u8
             requires { IsSend I.row × IsSend W.row × IsSend F.File.row × IsSend F.Dir.row }
         { serving_to_the_end(rt, files, words, opened, streams, &bell) },

@@ -4,6 +4,7 @@ ghost use Rattle.std.specs.Prelude.{◌≡◌};
 
 use crate::end_bell::EndBell;
 use crate::memory::resident;
+use crate::seconds_view::NamedSeconds;
 use arguments::ServeWords;
 use serve_command::MOST_CLIENTS;
 use server_figures::{LiveFigures, Metrics, NotMetrics, SIGN_LENGTH, may_be_replaced};
@@ -159,26 +160,34 @@ impl<'a, F: Files + AllocGlobal> MetricsFile<'a, F> {
     }
 
     // Writes the figures as they are now into a file of another name, and renames it: so nobody reads a part of them.
-    fn write(&self) -> io::Result<()> {
+    fn write<R: Wait>(&self, rt: &R, seconds: &NamedSeconds<'_>) -> io::Result<()> {
         let metrics = Metrics {
             figures: self.figures.now(),
             journal_bytes: self.journal_bytes(),
             resident_bytes: resident(self.files),
         };
-        let text = format!(in self.files.alloc(); "{metrics}")?;
+        let mut text = Vec::new(self.files.alloc());
+        write!(text, "{metrics}")?;
+        seconds.write_metrics(rt, &mut text)?;
         let mut file = fs::create(self.files, self.new.as_str())?;
-        file.write_all(text.as_bytes())?;
+        file.write_all(text.as_slice())?;
         file.drop();
         fs::rename(self.files, self.new.as_str(), self.path.as_str())
     }
 
-    /// Writes the figures at once, every ten seconds, and when the server has ended. The first time that they cannot be
-    /// written is told, if the screen takes it.
-    pub(crate) fn write_until<R: Wait, E: Print>(&self, rt: &R, bell: &EndBell, screen: &E) {
+    /// Writes the figures at once, every ten seconds, and when the server has ended; those of second servers among them,
+    /// where there are some. The first time that they cannot be written is told, if the screen takes it.
+    pub(crate) fn write_until<R: Wait, E: Print>(
+        &self,
+        rt: &R,
+        seconds: &NamedSeconds<'_>,
+        bell: &EndBell,
+        screen: &E,
+    ) {
         let mut is_told = false;
         for _ in rt.forever() {
             let is_last = bell.has_rung();
-            if self.write().is_err() && !is_told {
+            if self.write(rt, seconds).is_err() && !is_told {
                 is_told = true;
                 let mut screen = io::writer(screen);
                 let _ = writeln!(screen, "ssb_live: metrics: cannot write {}", self.path);

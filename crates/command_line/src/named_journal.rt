@@ -3,12 +3,14 @@
 ghost use Rattle.std.specs.Prelude.{◌≡◌, IfOk, is_some};
 
 use arguments::{JournalWord, ServeWords};
+use confirmed_commits::Seconds;
 use journal_file::find_journal;
 use journal_opening::{JournalPath, JournalStart, OpeningFault};
 use serve_command::JournalPlace;
 use ssb_files::TableBytes;
 use std::alloc::AllocError;
 use std::rt::Files;
+use std::sync::Arc;
 
 /// The journal of a server: its path, and whether it is gone on with or begins.
 #[derive(Drop)]
@@ -67,17 +69,27 @@ pub(crate) fn journal_path<'a, F: Files + AllocGlobal>(
     })
 }
 
-/// The journal's place, where there is a file; whether it is told how many commits it has.
-pub(crate) fn journal_place<'a, 'f, F: Files + AllocGlobal>(
-    file: Option<&'a JournalPath<'f, F>>,
-    bytes: &'a TableBytes,
-    tells: bool,
-) -> Option<JournalPlace<'a, JournalPath<'f, F>>>
-    ensures { is_some result ≡ is_some file.entry }
-{
-    Some(JournalPlace {
-        file: file?,
-        bytes,
-        tells,
-    })
+/// What the place of a server's journal refers to.
+#[derive(Drop)]
+pub(crate) struct PlaceParts<'f, F: Files> {
+    /// The journal's file, where there is one.
+    pub(crate) path: Option<JournalPath<'f, F>>,
+    /// The second servers that confirm its commits.
+    pub(crate) seconds: Arc<Seconds>,
+    /// The bytes of the tables, which are counted while these are loaded.
+    pub(crate) bytes: TableBytes,
+}
+
+impl<'f, F: Files> PlaceParts<'f, F> {
+    /// The journal's place, where there is a file; and whether it is told how many commits it has.
+    pub(crate) fn place(&self, tells: bool) -> Option<JournalPlace<'_, JournalPath<'f, F>, Seconds>>
+        ensures { is_some result ≡ is_some self.now.path }
+    {
+        Some(JournalPlace {
+            file: self.path.as_ref()?,
+            confirms: &*self.seconds,
+            bytes: &self.bytes,
+            tells,
+        })
+    }
 }

@@ -1,6 +1,7 @@
 //! What a person at a terminal may see of a server beside the replies.
 
 use crate::memory::resident;
+use crate::seconds_view::NamedSeconds;
 use arguments::{HintsWord, REFRESH_HELP, STAR_HELP, TERMINAL_HELP};
 use serve_command::ServeSettings;
 use server_figures::{LiveFigures, ServerStatus};
@@ -8,42 +9,49 @@ use ssb_hints::{NamedTables, write_request_notes};
 use std::alloc::AllocError;
 use std::io::Write;
 use std::rt::Files;
-use std::sync::Arc;
+use std::sync::{Arc, Wait};
 use std::time::Duration;
 use terminal::ShowsOnDemand;
 
 /// What a person at a terminal may see of a server: its figures, help, and help below a fault.
 #[derive(Drop)]
-pub(crate) struct TerminalView<'a, 't, F: Files> {
+pub(crate) struct TerminalView<'a, 't, R, F: Files> {
+    rt: &'a R,
     files: &'a F,
     figures: Arc<LiveFigures>,
     // How many questions stand.
     standing: u64,
     // The tables' files; none where they are built in.
     tables: Option<NamedTables<'t>>,
+    // The second servers, where there are some.
+    seconds: Option<NamedSeconds<'t>>,
     /// What the words say of help below a fault.
     pub(crate) hints: HintsWord,
 }
 
-impl<'a, 't, F: Files> TerminalView<'a, 't, F> {
+impl<'a, 't, R, F: Files> TerminalView<'a, 't, R, F> {
     /// That of a server which is served so.
     pub(crate) fn of(
+        rt: &'a R,
         files: &'a F,
         settings: &ServeSettings,
         tables: Option<NamedTables<'t>>,
+        seconds: Option<NamedSeconds<'t>>,
         hints: HintsWord,
-    ) -> Result<TerminalView<'a, 't, F>, AllocError> {
+    ) -> Result<TerminalView<'a, 't, R, F>, AllocError> {
         Ok(TerminalView {
+            rt,
             files,
             figures: Arc::try_clone(&settings.figures)?,
             standing: settings.standing.len() as u64,
             tables,
+            seconds,
             hints,
         })
     }
 }
 
-impl<'a, 't, F: Files + AllocGlobal> ShowsOnDemand for TerminalView<'a, 't, F> {
+impl<'a, 't, R: Wait, F: Files + AllocGlobal> ShowsOnDemand for TerminalView<'a, 't, R, F> {
     fn help(&self) -> &str {
         TERMINAL_HELP
     }
@@ -70,5 +78,8 @@ impl<'a, 't, F: Files + AllocGlobal> ShowsOnDemand for TerminalView<'a, 't, F> {
             since_reply: since_reply.map(|time| time.as_secs()),
         };
         let _ = write!(screen, "{status}");
+        if let Some(seconds) = &self.seconds {
+            seconds.write_status(self.rt, screen);
+        }
     }
 }
