@@ -1,4 +1,10 @@
+mod BareLaws
+mod EndLaws
+mod CutLaws
+mod PartLaws
 mod OneLaws
 mod SaidLaws
+mod QuotedLaws
 mod ReadLaws
+mod MeaningLaws
 mod SayLaws

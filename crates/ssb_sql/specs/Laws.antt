@@ -1,8 +1,10 @@
 -- What is true of reading.
-use Rattle.std.specs.Prelude.{◌≡◌, Ok}
+use Rattle.std.specs.Prelude.{◌≡◌, ℕ, List, Ok}
+use Rattle.ssb_sql.specs.Meaning.{Means}
 use Rattle.ssb_sql.specs.Reading.{read}
 use Rattle.ssb_sql.specs.Said.{groups_said, limit_said}
 use Rattle.ssb_sql.specs.Select.{Select, tokens_of, pieces_of}
+use Rattle.ssb_sql.specs.declared.statement.Statement.{Statement}
 
 -- each statement of the shape is read, as what it says
 abbrev pub StatementsAreRead : Type 0
@@ -17,3 +19,9 @@ StatementsSayTheirGroups =
 -- tokens mean one thing
 abbrev pub TokensMeanOneThing : Type 0
 TokensMeanOneThing = (a b : Select) → tokens_of a ≡ tokens_of b → pieces_of a ≡ pieces_of b
+
+-- two statements that one text means have the same group columns and the same limit
+abbrev pub ReadingsOfATextAgree : Type 0
+ReadingsOfATextAgree =
+    (text : List ℕ) (a b : Statement) → Means text a → Means text b
+    → (a.groups.items ≡ b.groups.items) × (a.limit ≡ b.limit)

@@ -1,7 +1,8 @@
 //! What is true of reading, over the definitions in `specs/`.
 //!
 //! Each is the contract of a function that does nothing.
-ghost use Rattle.ssb_sql.specs.Laws.{StatementsAreRead, StatementsSayTheirGroups, TokensMeanOneThing};
+ghost use Rattle.ssb_sql.specs.Laws.{ReadingsOfATextAgree, StatementsAreRead, StatementsSayTheirGroups};
+ghost use Rattle.ssb_sql.specs.Laws.{TokensMeanOneThing};
 
 /// Each statement of the shape is read, as what it says.
 pub fn statements_are_read()
@@ -16,4 +17,9 @@ pub fn statements_say_their_groups()
 /// Statements of the same tokens say the same.
 pub fn tokens_mean_one_thing()
     ensures { TokensMeanOneThing }
+{}
+
+/// Statements that one text means have the same group columns and the same limit.
+pub fn readings_of_a_text_agree()
+    ensures { ReadingsOfATextAgree }
 {}

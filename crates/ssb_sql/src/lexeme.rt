@@ -1,4 +1,6 @@
 //! What stands at the front of a text.
+ghost use Rattle.std.specs.Prelude.{◌≡◌, true, false, length, ◌≤◌, IfSome};
+ghost use Rattle.ssb_sql.specs.Lexemes as spec;
 
 use crate::token::Mark;
 
@@ -17,146 +19,241 @@ pub(crate) enum Lexeme {
     Mark(Mark),
     /// `.`, between a table and its column.
     Point,
-    /// Nothing that a statement has.
-    Bad,
 }
 
-/// What stands at the front of a text: what it is, its bytes, and what stands behind it.
+/// What stands at the front of a text: what it is, and how many bytes it has.
 #[derive(Clone, Copy)]
-pub(crate) struct Front<'a> {
+pub(crate) struct Front {
     pub lexeme: Lexeme,
-    pub piece: &'a str,
-    pub rest: &'a str,
+    pub size: usize,
 }
 
-fn is_blank(c: char) -> bool {
-    c == ' ' || ('\t' <= c && c <= '\r')
+/// A class of bytes.
+#[derive(Clone, Copy)]
+enum Class {
+    /// Blanks and ends of lines.
+    Blank,
+    Digit,
+    /// What words are made of.
+    Word,
+    /// All but the end of a line.
+    Line,
 }
 
-fn is_word(c: char) -> bool {
-    c.is_ascii_alphanumeric() || c == '_'
-}
-
-fn is_digit(c: char) -> bool {
-    c.is_ascii_digit()
-}
-
-// The first so many bytes of a text; all of it where there are not so many, or a character is cut.
-fn cut(lexeme: Lexeme, text: &str, length: usize) -> Front<'_> {
-    let (piece, rest) = text.split_at_checked(length).unwrap_or((text, ""));
-    Front {
-        lexeme,
-        piece,
-        rest,
+fn is_in(class: Class, b: u8) -> bool
+    ensures { result ≡ spec.is_in class b }
+{
+    match class {
+        Class::Blank => b == b' ' || (b'\t' <= b && b <= b'\r'),
+        Class::Digit => b.is_ascii_digit(),
+        Class::Word => b.is_ascii_alphanumeric() || b == b'_',
+        Class::Line => b != b'\n',
     }
 }
 
-// The length of a quoted text with its quotes; none where it does not end.
-fn quoted_len(text: &str) -> Option<usize> {
-    let mut is_open = false;
-    for (at, c) in text.char_indices() {
-        if c == '\'' {
-            is_open = !is_open;
-        } else if !is_open {
+// How many bytes of a class a text begins with.
+fn run_len(class: Class, bytes: &[u8]) -> usize
+    ensures len { result ≡ spec.run_len class bytes.now }
+    ensures within { result ≤ length bytes.now }
+{
+    for (at, b) in bytes.iter().enumerate() {
+        if !is_in(class, *b) {
+            return at;
+        }
+    }
+    bytes.len()
+}
+
+fn begins(byte: u8, bytes: &[u8]) -> bool
+    ensures { result ≡ spec.begins byte bytes.now }
+{
+    match bytes {
+        [] => false,
+        [first, ..] => *first == byte,
+    }
+}
+
+// The length of what stands behind `/*` in a comment; none where it does not end.
+fn comment_len(bytes: &[u8]) -> Option<usize>
+    ensures len { result ≡ spec.comment_len false bytes.now }
+    ensures within { IfSome result (λ len. len ≤ length bytes.now) }
+{
+    let mut is_behind_star = false;
+    for (at, b) in bytes.iter().enumerate() {
+        if is_behind_star && *b == b'/' {
+            return Some(at + 1);
+        }
+        is_behind_star = *b == b'*';
+    }
+    None
+}
+
+// Whether a text has ended before a byte: behind a quote, which another one does not double.
+fn has_ended(is_within: bool, b: u8) -> bool
+    ensures { result ≡ spec.has_ended is_within b }
+{
+    !is_within && b != b'\''
+}
+
+fn is_within_behind(is_within: bool, b: u8) -> bool
+    ensures { result ≡ spec.is_within_behind is_within b }
+{
+    !(is_within && b == b'\'')
+}
+
+// The length of what stands behind the first quote of a text, with the last one; none where it does not end.
+fn quoted_len(bytes: &[u8]) -> Option<usize>
+    ensures len { result ≡ spec.quoted_len true bytes.now }
+    ensures within { IfSome result (λ len. len ≤ length bytes.now) }
+{
+    let mut is_within = true;
+    for (at, b) in bytes.iter().enumerate() {
+        if has_ended(is_within, *b) {
             return Some(at);
         }
+        is_within = is_within_behind(is_within, *b);
     }
-    if is_open { None } else { Some(text.len()) }
+    if is_within { None } else { Some(bytes.len()) }
 }
 
-fn number<'a>(text: &'a str) -> Front<'a> {
-    let length = text.find(|c: char| !is_digit(c)).unwrap_or(text.len());
-    let front = cut(Lexeme::Number, text, length);
-    match front.rest.chars().next() {
-        Some(c) if is_word(c) || c == '.' => cut(Lexeme::Bad, text, length),
-        _ => front,
+fn sized(lexeme: Lexeme, size: usize) -> Option<Front>
+    ensures { result ≡ spec.sized lexeme size }
+{
+    Some(Front { lexeme, size })
+}
+
+fn mark(own: Mark, size: usize) -> Option<Front>
+    ensures { result ≡ spec.mark own size }
+{
+    sized(Lexeme::Mark(own), size)
+}
+
+fn may_follow_number(bytes: &[u8]) -> bool
+    ensures { result ≡ spec.may_follow_number bytes.now }
+{
+    match bytes {
+        [] => true,
+        [first, ..] => !(is_in(Class::Word, *first) || *first == b'.'),
     }
 }
 
-// A comment to its line's end, or `-`.
-fn minus<'a>(text: &'a str) -> Front<'a> {
-    if text.starts_with("--") {
-        cut(Lexeme::Gap, text, text.find('\n').unwrap_or(text.len()))
+fn number_at(bytes: &[u8]) -> Option<Front>
+    ensures { result ≡ spec.number_at bytes.now }
+{
+    let size = run_len(Class::Digit, bytes);
+    if may_follow_number(&bytes[size..]) {
+        sized(Lexeme::Number, size)
     } else {
-        cut(Lexeme::Mark(Mark::Minus), text, 1)
+        None
     }
 }
 
-// A comment up to its `*/`, or nothing that a statement has.
-fn slash<'a>(text: &'a str) -> Front<'a> {
-    match text.strip_prefix("/*").and_then(|behind| behind.find("*/")) {
-        Some(at) => cut(Lexeme::Gap, text, at.saturating_add(4)),
-        None => cut(Lexeme::Bad, text, 1),
-    }
-}
-
-fn less<'a>(text: &'a str) -> Front<'a> {
-    if text.starts_with("<=") {
-        cut(Lexeme::Mark(Mark::LessOrEqual), text, 2)
-    } else if text.starts_with("<>") {
-        cut(Lexeme::Mark(Mark::NotEqual), text, 2)
+// A comment to its line's end, or `-`, by what stands behind the first byte.
+fn minus_at(bytes: &[u8]) -> Option<Front>
+    ensures { result ≡ spec.minus_at bytes.now }
+{
+    if begins(b'-', bytes) {
+        sized(Lexeme::Gap, run_len(Class::Line, bytes) + 1)
     } else {
-        cut(Lexeme::Mark(Mark::Less), text, 1)
+        mark(Mark::Minus, 1)
     }
 }
 
-fn greater<'a>(text: &'a str) -> Front<'a> {
-    if text.starts_with(">=") {
-        cut(Lexeme::Mark(Mark::GreaterOrEqual), text, 2)
+// A comment up to its `*/`.
+fn slash_at(bytes: &[u8]) -> Option<Front>
+    ensures { result ≡ spec.slash_at bytes.now }
+{
+    match bytes {
+        [b'*', behind @ ..] => sized(Lexeme::Gap, comment_len(behind)? + 2),
+        _ => None,
+    }
+}
+
+fn less_at(bytes: &[u8]) -> Option<Front>
+    ensures { result ≡ spec.less_at bytes.now }
+{
+    if begins(b'=', bytes) {
+        mark(Mark::LessOrEqual, 2)
+    } else if begins(b'>', bytes) {
+        mark(Mark::NotEqual, 2)
     } else {
-        cut(Lexeme::Mark(Mark::Greater), text, 1)
+        mark(Mark::Less, 1)
     }
 }
 
-// `!=`, or nothing that a statement has.
-fn exclamation<'a>(text: &'a str) -> Front<'a> {
-    if text.starts_with("!=") {
-        cut(Lexeme::Mark(Mark::NotEqual), text, 2)
+fn greater_at(bytes: &[u8]) -> Option<Front>
+    ensures { result ≡ spec.greater_at bytes.now }
+{
+    if begins(b'=', bytes) {
+        mark(Mark::GreaterOrEqual, 2)
     } else {
-        cut(Lexeme::Bad, text, 1)
+        mark(Mark::Greater, 1)
     }
 }
 
-fn quoted<'a>(text: &'a str) -> Front<'a> {
-    match quoted_len(text) {
-        Some(length) => cut(Lexeme::Text, text, length),
-        None => cut(Lexeme::Bad, text, 1),
+fn not_at(bytes: &[u8]) -> Option<Front>
+    ensures { result ≡ spec.not_at bytes.now }
+{
+    if begins(b'=', bytes) {
+        mark(Mark::NotEqual, 2)
+    } else {
+        None
     }
 }
 
-// A mark of one character.
-fn single(c: char) -> Lexeme {
-    match c {
-        '(' => Lexeme::Mark(Mark::Open),
-        ')' => Lexeme::Mark(Mark::Close),
-        ',' => Lexeme::Mark(Mark::Comma),
-        ';' => Lexeme::Mark(Mark::Semicolon),
-        '*' => Lexeme::Mark(Mark::Star),
-        '=' => Lexeme::Mark(Mark::Equal),
-        '.' => Lexeme::Point,
-        _ => Lexeme::Bad,
+fn text_at(bytes: &[u8]) -> Option<Front>
+    ensures { result ≡ spec.text_at bytes.now }
+{
+    sized(Lexeme::Text, quoted_len(bytes)? + 1)
+}
+
+// A mark of one byte.
+fn single(b: u8) -> Option<Front>
+    ensures { result ≡ spec.single b }
+{
+    match b {
+        b'(' => mark(Mark::Open, 1),
+        b')' => mark(Mark::Close, 1),
+        b',' => mark(Mark::Comma, 1),
+        b';' => mark(Mark::Semicolon, 1),
+        b'*' => mark(Mark::Star, 1),
+        b'=' => mark(Mark::Equal, 1),
+        b'.' => sized(Lexeme::Point, 1),
+        _ => None,
     }
 }
 
-/// What stands at the front of a text; nothing where it is empty.
-pub(crate) fn front_of(text: &str) -> Option<Front<'_>> {
-    let c = text.chars().next()?;
-    Some(match c {
-        '-' => minus(text),
-        '/' => slash(text),
-        '<' => less(text),
-        '>' => greater(text),
-        '!' => exclamation(text),
-        '\'' => quoted(text),
-        c if is_blank(c) => {
-            let length = text.find(|c: char| !is_blank(c)).unwrap_or(text.len());
-            cut(Lexeme::Gap, text, length)
+// What a byte of no class begins, by what stands behind it.
+fn mark_at(b: u8, behind: &[u8]) -> Option<Front>
+    ensures { result ≡ spec.mark_at b behind.now }
+{
+    match b {
+        b'-' => minus_at(behind),
+        b'/' => slash_at(behind),
+        b'<' => less_at(behind),
+        b'>' => greater_at(behind),
+        b'!' => not_at(behind),
+        b'\'' => text_at(behind),
+        b => single(b),
+    }
+}
+
+/// What stands at the front of a text; none where it is empty, or begins with nothing that a statement has.
+pub(crate) fn front_of(bytes: &[u8]) -> Option<Front>
+    ensures { result ≡ spec.front_of bytes.now }
+{
+    match bytes {
+        [] => None,
+        [b, behind @ ..] => {
+            if is_in(Class::Blank, *b) {
+                sized(Lexeme::Gap, run_len(Class::Blank, bytes))
+            } else if is_in(Class::Digit, *b) {
+                number_at(bytes)
+            } else if is_in(Class::Word, *b) {
+                sized(Lexeme::Word, run_len(Class::Word, bytes))
+            } else {
+                mark_at(*b, behind)
+            }
         }
-        c if is_digit(c) => number(text),
-        c if is_word(c) => {
-            let length = text.find(|c: char| !is_word(c)).unwrap_or(text.len());
-            cut(Lexeme::Word, text, length)
-        }
-        c => cut(single(c), text, c.len_utf8()),
-    })
+    }
 }

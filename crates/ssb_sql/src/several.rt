@@ -1,26 +1,26 @@
 //! Several statements, parted by semicolons.
 
+use crate::cutting::{behind_gaps, cut_off};
 use crate::fault::{SqlFault, place_at};
-use crate::lexeme::{Lexeme, front_of};
+use crate::lexeme::Lexeme;
 use crate::sql_text::statement_of;
 use crate::statement::Statement;
 use crate::token::Mark;
-use crate::tokens::behind_gaps;
 use std::alloc::Global;
 
-// How many bytes stand up to the first semicolon, that included; all where there is none.
+// How many bytes stand up to the first semicolon, that included; all where there is none, or something wrong before it.
 fn first_len(text: &str) -> usize {
     let mut rest = text;
     for _ in 0..text.len() {
-        let Some(front) = front_of(rest) else {
+        let Some(own) = cut_off(rest) else {
             break;
         };
-        rest = front.rest;
-        if matches!(front.lexeme, Lexeme::Mark(Mark::Semicolon)) {
-            break;
+        rest = own.rest;
+        if matches!(own.lexeme, Lexeme::Mark(Mark::Semicolon)) {
+            return text.len().saturating_sub(rest.len());
         }
     }
-    text.len().saturating_sub(rest.len())
+    text.len()
 }
 
 /// The statements that a text spells, one or more. The place of a fault is one of the whole text.

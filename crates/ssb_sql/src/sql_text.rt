@@ -1,8 +1,10 @@
 //! The statement that a text spells.
 
-ghost use Rattle.std.specs.Prelude.{◌≡◌, IfOk, Ok};
+ghost use Rattle.std.specs.Prelude.{◌≡◌, Some, IfOk, Ok, map};
+ghost use Rattle.ssb_sql.specs.Meaning.{Means, pieces_in};
 ghost use Rattle.ssb_sql.specs.Reading.{read};
 ghost use Rattle.ssb_sql.specs.Said.{IsRead, Says, limit_said};
+ghost use Rattle.ssb_sql.specs.Texts.{bare_piece};
 
 use crate::asking::questions_of;
 use crate::building::{Printed, groups_in, limit_in};
@@ -31,7 +33,8 @@ struct TextReading<'a> {
 
 impl<'a> TextReading<'a> {
     fn of(alloc: Global, text: &'a str) -> Result<TextReading<'a>, SqlFault>
-        ensures { IfOk result (λ reading. read reading.tokens.tokens.items ≡ Ok reading.pieces.items) }
+        ensures read { IfOk result (λ reading. read reading.tokens.tokens.items ≡ Ok reading.pieces.items) }
+        ensures pieces { IfOk result (λ reading. pieces_in text.now ≡ Some (map bare_piece reading.pieces.items)) }
     {
         let tokens = Tokens::of(alloc, text)?;
         match pieces(alloc, tokens.tokens.as_slice()) {
@@ -143,9 +146,10 @@ fn statement_in(alloc: Global, pieces: &[SqlPiece<'_>]) -> Result<Statement, Pie
     parts_of(alloc, pieces, groups, tests.as_slice())
 }
 
-/// The statement that a text spells.
+/// The statement that a text means.
 pub fn statement_of(alloc: Global, text: &str) -> Result<Statement, SqlFault>
-    ensures { IfOk result IsRead }
+    ensures means { IfOk result (Means text.now) }
+    ensures read { IfOk result IsRead }
 {
     let reading = TextReading::of(alloc, text)?;
     match statement_in(alloc, reading.pieces.as_slice()) {

@@ -73,7 +73,7 @@ fn table_code(table: Table) -> u8
     }
 }
 
-fn same_table(a: Table, b: Table) -> bool
+pub(crate) fn same_table(a: Table, b: Table) -> bool
     ensures { result ≡ spec.same_table a b }
 {
     table_code(a) == table_code(b)

@@ -1,0 +1,4 @@
+use Rattle.ssb_sql.proofs.words.key_named.Goals as goal
+
+pub returns : goal.returns
+returns c = c.named.ensures
