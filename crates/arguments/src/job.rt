@@ -3,6 +3,9 @@
 use crate::grammar::{command, width_of};
 use crate::notice::Notice;
 use crate::ship::{ShipWords, ship_words};
+use crate::store::{
+    CheckpointWords, StoreWord, StoreWords, checkpoint_words, store_of, store_words,
+};
 use clap::ArgMatches;
 use clap::error::ErrorKind;
 use ssb_explain::{ReadLines, SqlTarget, System};
@@ -33,6 +36,10 @@ pub enum Job<'a> {
     Changes(ChangesWords<'a>),
     /// A journal's groups, as they come.
     Ship(ShipWords<'a>),
+    /// A new store of tables.
+    Store(StoreWords<'a>),
+    /// Newer tables of a store.
+    Checkpoint(CheckpointWords<'a>),
 }
 
 /// How answers are written.
@@ -147,8 +154,10 @@ pub struct RunWords<'a> {
 /// The words of `serve`.
 #[derive(Drop)]
 pub struct ServeWords<'a> {
+    /// Empty where a store is served.
     pub data: &'a str,
     pub layout: TableLayout,
+    pub store: Option<StoreWord<'a>>,
     /// IN and OUT of each client in turn; none where standard input and output are served.
     pub clients: Vec<&'a str>,
     pub keep: bool,
@@ -176,8 +185,10 @@ pub struct AuditWords<'a> {
 /// The words of `export`.
 #[derive(Drop)]
 pub struct ExportWords<'a> {
+    /// Empty where a store is exported, as the journal.
     pub data: &'a str,
     pub layout: TableLayout,
+    pub store: Option<&'a str>,
     pub journal: &'a str,
     pub folder: &'a str,
     pub quiet: bool,
@@ -217,6 +228,8 @@ impl<'a> Job<'a> {
             Job::Export(words) => words.hints,
             Job::Changes(words) => words.hints,
             Job::Ship(words) => words.hints,
+            Job::Store(words) => words.hints,
+            Job::Checkpoint(words) => words.hints,
         }
     }
 }
@@ -314,8 +327,8 @@ fn delimiter_of(alloc: Global, matches: &ArgMatches<'_>) -> Result<Delimiter, No
     }
 }
 
-// How the tables are laid out.
-fn layout_of(alloc: Global, matches: &ArgMatches<'_>) -> Result<TableLayout, Notice> {
+/// How the tables are laid out.
+pub(crate) fn layout_of(alloc: Global, matches: &ArgMatches<'_>) -> Result<TableLayout, Notice> {
     Ok(TableLayout {
         delimiter: delimiter_of(alloc, matches)?,
         has_heads: matches.get_flag("heads"),
@@ -414,6 +427,7 @@ fn serve_words<'a>(alloc: Global, matches: &ArgMatches<'a>) -> Result<ServeWords
     Ok(ServeWords {
         data: word_of(matches, "data"),
         layout: layout_of(alloc, matches)?,
+        store: store_of(matches),
         clients: words_of(alloc, matches, "clients")?,
         keep: matches.get_flag("keep"),
         journal: journal_of(matches),
@@ -440,6 +454,7 @@ fn export_words<'a>(alloc: Global, matches: &ArgMatches<'a>) -> Result<ExportWor
     Ok(ExportWords {
         data: word_of(matches, "data"),
         layout: layout_of(alloc, matches)?,
+        store: matches.get_str("store"),
         journal: word_of(matches, "journal"),
         folder: word_of(matches, "to"),
         quiet: matches.get_flag("quiet"),
@@ -482,6 +497,8 @@ pub fn job_of<'a>(
         Some(("export", words)) => Job::Export(export_words(alloc, words)?),
         Some(("changes", words)) => Job::Changes(changes_words(alloc, words)?),
         Some(("ship", words)) => Job::Ship(ship_words(words)),
+        Some(("store", words)) => Job::Store(store_words(alloc, words)?),
+        Some(("checkpoint", words)) => Job::Checkpoint(checkpoint_words(words)),
         Some((_, words)) => query_job(alloc, words, columns)?,
         None => Job::Script,
     })

@@ -9,13 +9,13 @@ use crate::named_journal::{NamedJournal, PlaceParts};
 use crate::querying::{AskedWords, answer_query, explain_query, statements_on};
 use crate::seconds_view::NamedSeconds;
 use crate::shipping::ship_journal;
+use crate::stores::{ServedStore, export_store, fold_store, make_store, serve_store};
 use crate::streams::{Streams, tell};
 use crate::terminal_view::TerminalView;
 use crate::{job_help, named_journal, pipes};
 use arguments::{HintsWord, Job, JournalWord, RunWords, ServeWords, StandingWord, job_of};
 use confirmed_commits::Seconds;
 use journal_file::{JournalFile, torn_path};
-use journal_opening::JournalPath;
 use query_command::standard_questions;
 use run_command::{RunInput, RunSettings, demo, open_trace, run_scripts};
 use serve_command::{
@@ -42,6 +42,7 @@ use std::sync::{Arc, Wait};
 use std::thread::Threads;
 use std::time::Clock;
 use std::{fs, io};
+use store_folder::ServedJournal;
 use terminal::{HelpedOutput, Prompted, TypedRequest};
 
 /// The terminal, where there is one and the words let it show the progress of a load, which begins now.
@@ -283,6 +284,7 @@ fn open_server<R: RandomSource, F: Files + AllocGlobal>(
     rt: &R,
     files: &F,
     words: &ServeWords<'_>,
+    store: Option<Arc<ServedStore>>,
 ) -> Result<OpenedServer<F::File>, ServeFault> {
     let tables = open_tables(files, words.data)?;
     let source = open_standing(files, words.standing)?;
@@ -296,7 +298,7 @@ fn open_server<R: RandomSource, F: Files + AllocGlobal>(
     } else {
         Vec::new(files.alloc())
     };
-    let journal = NamedJournal::of(files, words)?;
+    let journal = NamedJournal::of(files, words, store)?;
     let seconds = Seconds::new(files.alloc(), words.confirmed.len())?;
     let hashing = hashing_of(rt)?;
     let settings = ServeSettings {
@@ -336,7 +338,7 @@ fn serve_typed<R, F, T, I: Read + Drop + Send, W: Write + Drop + Send, E: Print 
     rt: &R,
     settings: ServeSettings,
     tables: TableFiles<T>,
-    place: Option<JournalPlace<'_, JournalPath<'_, F>, Seconds>>,
+    place: Option<JournalPlace<'_, ServedJournal<'_, F>, Seconds>>,
     view: &TerminalView<'_, '_, R, F>,
     streams: Streams<'_, I, W, E>,
 ) -> u8
@@ -391,8 +393,11 @@ where
         seconds,
     } = opened;
     let errors = streams.errors;
+    let Ok(path) = named_journal::served_journal(files, journal.as_ref()) else {
+        return Fault::OutOfMemory.tell(&mut io::writer(errors));
+    };
     let parts = PlaceParts {
-        path: named_journal::journal_path(files, journal.as_ref()),
+        path,
         seconds,
         bytes: TableBytes::new(),
     };
@@ -433,10 +438,18 @@ where
 }
 
 // Serves clients over the files of a folder.
-fn serve_live<R, F, I: Read + Drop + Send, W: Write + Drop + Send, E: Print + Sync, P: Print>(
+pub(crate) fn serve_live<
+    R,
+    F,
+    I: Read + Drop + Send,
+    W: Write + Drop + Send,
+    E: Print + Sync,
+    P: Print,
+>(
     rt: &R,
     files: &F,
     words: &ServeWords<'_>,
+    store: Option<Arc<ServedStore>>,
     terminal: Option<&P>,
     streams: Streams<'_, I, W, E>,
 ) -> u8
@@ -453,7 +466,7 @@ where
         clients,
         journal,
         seconds,
-    } = match open_server(rt, files, words) {
+    } = match open_server(rt, files, words, store) {
         Ok(opened) => opened,
         Err(fault) => return fault.tell(&mut io::writer(errors)),
     };
@@ -503,7 +516,7 @@ where
     };
     let view = TerminalView::of(rt, files, &settings, None, None, hints)?;
     let parts = PlaceParts {
-        path: named_journal::journal_path(files, None),
+        path: named_journal::served_journal(files, None)?,
         seconds: Arc::new(rt.alloc(), Seconds::new(rt.alloc(), 0)?)?,
         bytes: TableBytes::new(),
     };
@@ -528,7 +541,7 @@ where
 
 // Does a job, and gives the exit status; or a fault that nobody has told. Its errors go to `streams.errors`, but for
 // the progress of a load, which goes to the terminal.
-fn do_job<R, F, I: Read + Drop + Send, W: Write + Drop + Send, E: Print + Sync, P: Print>(
+fn do_job<R, F, I: Read + Drop + Send, W: Write + Drop + Send, E: Print + Sync, P: Print + Sync>(
     rt: &R,
     files: &F,
     job: &Job<'_>,
@@ -559,11 +572,19 @@ where
         }
         Job::Explain(words) => explain_query(rt, files, words, terminal, &mut streams.output, err),
         Job::Run(words) => report_scripts(rt, files, words, terminal, &mut streams.output, err),
-        Job::Serve(words) => Ok(serve_live(rt, files, words, terminal, streams)),
+        Job::Serve(words) => match words.store {
+            Some(store) => serve_store(rt, files, words, store, terminal, streams),
+            None => Ok(serve_live(rt, files, words, None, terminal, streams)),
+        },
         Job::Audit(words) => check_trace(rt, files, words, terminal, &mut streams.output, err),
-        Job::Export(words) => export_tables(rt, files, words, terminal, err),
+        Job::Export(words) => match words.store {
+            Some(folder) => export_store(rt, files, words, folder, terminal, err),
+            None => export_tables(rt, files, words, terminal, err),
+        },
         Job::Changes(words) => write_changes(rt, files, words, &mut streams.output, err),
         Job::Ship(words) => Ok(ship_journal(rt, files, words, &mut streams.output, err)),
+        Job::Store(words) => make_store(rt, files, words, terminal, err),
+        Job::Checkpoint(words) => fold_store(rt, files, words, err),
     }
 }
 

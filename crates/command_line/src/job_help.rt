@@ -15,6 +15,16 @@ pub(crate) fn tables_of<'a>(words: &ServeWords<'a>) -> NamedTables<'a> {
     tables_named(words.data, words.layout)
 }
 
+// A path, unless a store stands in its place.
+fn path_if_named(path: &str) -> Option<&str> {
+    if path.is_empty() { None } else { Some(path) }
+}
+
+// The tables of this folder, unless a store stands in their place.
+fn tables_if_named(folder: &str, layout: TableLayout) -> Option<NamedTables<'_>> {
+    Some(tables_named(path_if_named(folder)?, layout))
+}
+
 // The query of a question; none where all are asked, those of a board, or a statement.
 fn query_named<'a>(words: &QueryWords<'a>) -> Option<&'a str> {
     if words.name.is_empty() {
@@ -59,7 +69,7 @@ fn named_by<'a>(job: &'a Job<'_>) -> Named<'a> {
             ..nothing
         },
         Job::Serve(words) => Named {
-            data: Some(tables_named(words.data, words.layout)),
+            data: tables_if_named(words.data, words.layout),
             standing: standing_path(words.standing),
             journal: words.journal.map(|word| word.path()),
             clients: words.clients.as_slice(),
@@ -71,8 +81,8 @@ fn named_by<'a>(job: &'a Job<'_>) -> Named<'a> {
             ..nothing
         },
         Job::Export(words) => Named {
-            data: Some(tables_named(words.data, words.layout)),
-            journal: Some(words.journal),
+            data: tables_if_named(words.data, words.layout),
+            journal: path_if_named(words.journal),
             folder: Some(words.folder),
             ..nothing
         },
@@ -85,6 +95,12 @@ fn named_by<'a>(job: &'a Job<'_>) -> Named<'a> {
             journal: Some(words.journal),
             ..nothing
         },
+        Job::Store(words) => Named {
+            data: Some(tables_named(words.data, words.layout)),
+            folder: Some(words.folder),
+            ..nothing
+        },
+        Job::Checkpoint(_) => nothing,
     }
 }
 

@@ -101,7 +101,7 @@ fn append_given<D: Disk + Drop, L: LogSource + Drop>(
     ensures full { IfErr result (λ e. e.0 ≡ DiskError.Full → HasNoRoom (D.seen journal) commits.items) }
 {
     let more = commits.len() as u64;
-    match append_commits(alloc, journal, commits) {
+    match append_commits(alloc, journal, commits, count + more) {
         Ok(journal) => Ok(JournaledLog {
             journal,
             source,

@@ -1,0 +1,23 @@
+//! `store` and `checkpoint`: a new store of five tables, and newer tables of a store's closed segments.
+//!
+//! ```text
+//! store        tables ── export, of no commits ─▶ tables.0, journal.0, and sizes
+//! checkpoint   tables.N and the closed segments ── export ─▶ tables.M, and its sizes; older tables and segments go
+//! ```
+//!
+//! The tables of a store are written as an export is (`export_command`): all five, or no `lineorder`, whatever crashes.
+//! `sizes` is named when they are on the disk, and by it alone they are there. So a crash at any moment leaves the
+//! store that was there, or that with the newer tables. A checkpoint needs no lock of a server: it never touches the
+//! last segment, and takes away only what lies before newer tables that are on the disk.
+#![tactic(auto)]
+
+mod checkpoint;
+mod fault;
+mod making;
+mod no_commits;
+mod putting;
+mod tables;
+
+pub use checkpoint::run_checkpoint;
+pub use fault::{StoreJobFault, StoreRefusal};
+pub use making::run_store;
