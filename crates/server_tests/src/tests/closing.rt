@@ -1,4 +1,4 @@
-//! Servers that are closed, one that is not, and what the log of a closed one still has.
+//! Servers that are closed, and what the log of a closed one still has.
 ghost use Rattle.std.specs.Prelude.{◌≡◌, All, IfOk};
 ghost use Rattle.ssb_clients.specs.Tickets.{IsOf, IsQuiet};
 
@@ -48,45 +48,6 @@ pub fn closes<W: EndsCopies + Drop>(
             Err("not closed")?
         }
     }
-}
-
-// Closes a server with a client missing: what it is told.
-fn told_without_a_client<W: EndsCopies + Drop>(
-    alloc: Global,
-    made: Opened<W>,
-) -> Result<String, Fail>
-    requires clients { All (IsQuiet made.server) made.clients.items }
-    requires dispatchers { All (IsOf made.server) made.dispatchers.items }
-{
-    let Opened {
-        server,
-        mut clients,
-        dispatchers,
-        reader: _,
-    } = made;
-    let _missing = next_client(&server, &mut clients).ok_or("no client")?;
-    let closing = Opened {
-        server,
-        clients,
-        dispatchers,
-        reader: None,
-    };
-    match closing.close() {
-        Ok(_) => Err("closed with one missing")?,
-        Err(error) => {
-            let told = format!(in alloc; "{error}");
-            let_go(error.opened);
-            Ok(told?)
-        }
-    }
-}
-
-#[test]
-fn a_client_that_is_missing_is_told(rt: HostRuntime) -> Result<(), Fail> {
-    let made = opened(&rt, 3, 2)?;
-    let told = told_without_a_client(rt.alloc(), made)?;
-    assert_eq!(rt; told.as_str(), "63 TokenMissing");
-    Ok(())
 }
 
 // A client adds the order of this key, and the copies follow.
