@@ -62,8 +62,9 @@ pub trait Disk {
     /// How often the disk has failed.
     ghost faults: { Self → ℕ };
 
-    /// Promises the groups that a read stands for. It does nothing.
-    fn promise(&mut self)
+    /// Promises the groups that a read stands for, in which there are so many things by their owner's count. It does
+    /// nothing to the file; whoever keeps that in parts may begin the next one.
+    fn promise(&mut self, count: u64)
         requires { AreLeft (recovered (seen self.old)) (may_leave self.old) }
         ensures promised { promised self.new ≡ recovered (seen self.old) }
         ensures seen { seen self.new ≡ seen self.old }
@@ -114,8 +115,8 @@ pub trait Disk {
     ghost keeps: { (file : Self) → AreLeft (promised file) (may_leave file) };
 }
 
-/// Promises all groups of a file that a crash leaves as it reads.
-pub(crate) fn promise_all<D: Disk>(disk: &mut D)
+/// Promises all groups of a file that a crash leaves as it reads. Their owner counts so many things in them.
+pub(crate) fn promise_all<D: Disk>(disk: &mut D, count: u64)
     requires durable { Only (D.seen disk.old) (D.may_leave disk.old) }
     ensures promised { D.promised disk.new ≡ recovered (D.seen disk.old) }
     ensures seen { D.seen disk.new ≡ D.seen disk.old }
@@ -123,7 +124,7 @@ pub(crate) fn promise_all<D: Disk>(disk: &mut D)
     ensures any_moment { LeavesOnly D.moment D.left_since disk.old disk.new (λ c. c ≡ D.seen disk.old) }
     ensures faults { D.faults disk.new ≡ D.faults disk.old }
 {
-    disk.promise();
+    disk.promise(count);
 }
 
 /// Writes, and waits until that is on the disk.

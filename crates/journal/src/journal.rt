@@ -51,7 +51,8 @@ impl<D: Disk> Found<D> {
         ensures { D.seen result ≡ D.seen disk }
     {
         let mut disk = disk;
-        promise_all(&mut disk);
+        // Whoever reads it has not counted yet.
+        promise_all(&mut disk, 0);
         Found { disk, end }
     }
 
@@ -96,9 +97,15 @@ impl<D: Disk> Found<D> {
 }
 
 impl<D: Disk> Journal<D> {
-    /// Adds a group. With the journal that comes back it is acknowledged: it is on the disk and promised, and from then
-    /// on each crash leaves a file that has it. At `Err`, which hands the disk back, read the file again.
-    pub fn append(self, alloc: Global, group: &[u8]) -> Result<Journal<D>, (DiskError, D)>
+    /// Adds a group, with which there are so many things by their owner's count. With the journal that comes back it is
+    /// acknowledged: it is on the disk and promised, and from then on each crash leaves a file that has it. At `Err`,
+    /// which hands the disk back, read the file again.
+    pub fn append(
+        self,
+        alloc: Global,
+        group: &[u8],
+        count: u64,
+    ) -> Result<Journal<D>, (DiskError, D)>
         requires { length group.now ≤ 2 ^ 49 }
         ensures acknowledged { IfOk result (λ journal.
             recovered (D.seen journal) ≡ recovered (D.seen self) ++ group.now ∷ []) }
@@ -120,7 +127,7 @@ impl<D: Disk> Journal<D> {
         let Journal { mut file } = self;
         match file.append(alloc, group) {
             Ok(()) => {
-                promise_all(&mut file.disk);
+                promise_all(&mut file.disk, count);
                 Ok(Journal { file })
             }
             Err(error) => {

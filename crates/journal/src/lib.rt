@@ -35,7 +35,7 @@
 //! let (found, torn) = unread.into_found();
 //! let kept = keeper.keep_torn(torn)?;
 //! let mut journal = found.mend::<Keeper>(&kept)?;
-//! journal = journal.append(alloc, b"insert 1\n")?;        // on the disk
+//! journal = journal.append(alloc, b"insert 1\n", 1)?;     // on the disk
 //! ```
 #![tactic(auto)]
 

@@ -2,7 +2,8 @@
 ghost use Rattle.std.specs.Prelude.{◌≡◌, ◌+◌, length, true, None, IfOk, IfErr};
 ghost use Rattle.journal.specs.Calls.{seen_after, left_after, left_during, promised_after, failures, counts, only};
 ghost use Rattle.journal.proofs.CallLaws.{may_be_read, still_left};
-ghost use Rattle.journal_file.specs.Missing.{NamesMissing};
+ghost use Rattle.journal_file.specs.FileDisk.{IsFresh};
+ghost use Rattle.journal_file.specs.Missing.{NamesMissing, IsOfAFile};
 ghost use Rattle.journal_file.specs.Parts.{bytes_of, calls_on, KeepsPromises};
 ghost use Rattle.journal_file.specs.declared.file_disk.OpenError.TheVariants.{Io};
 
@@ -75,6 +76,10 @@ pub trait JournalFile: FileExt {
     /// Locks the file, until it is dropped, against other processes and other handles of this one.
     fn lock_alone(&self) -> Result<(), OpenError>
         ensures { IfErr result IsOfAFile };
+
+    /// All that the file has is on the disk, so many things by their owner's count: a file of several parts may go on in
+    /// the next one.
+    fn rest(&mut self, _count: u64) {}
 }
 
 impl JournalFile for File {
@@ -119,9 +124,59 @@ pub fn sync_name<R: Files>(files: &R, path: &str) -> io::Result<()> {
     fs::open(files, folder)?.sync_all()
 }
 
+// Locks a file that was just opened, and syncs it, so that what is read of it is on the disk.
+fn locked<R: Files>(files: &R, path: &str, mut file: R::File) -> Result<R::File, OpenError>
+where
+    R::File: JournalFile,
+    ensures there { IfErr result IsOfAFile }
+{
+    // The system opens a folder to be read, and tells only of a read what it is.
+    file.read(&mut [])?;
+    file.lock_alone()?;
+    file.sync_all()?;
+    sync_name(files, path)?;
+    Ok(file)
+}
+
+/// Opens a journal's file, and makes it where there is none. It is locked until it is dropped, and on the disk.
+pub fn make_locked<R: Files>(files: &R, path: &str) -> Result<R::File, OpenError>
+where
+    R::File: JournalFile,
+    ensures made { IfErr result IsOfAFile }
+{
+    let file = OpenOptions::new()
+        .read(true)
+        .write(true)
+        .create(true)
+        .open(files, path)?;
+    locked(files, path, file)
+}
+
+/// Opens a journal's file that is there; where there is none, none is made. It is locked likewise.
+pub fn open_locked<R: Files>(files: &R, alloc: Global, path: &str) -> Result<R::File, OpenError>
+where
+    R::File: JournalFile,
+    ensures missing { IfErr result (NamesMissing path.now) }
+{
+    match OpenOptions::new().read(true).write(true).open(files, path) {
+        Ok(file) => locked(files, path, file),
+        Err(error) => Err(OpenError::of_path(alloc, path, error)),
+    }
+}
+
 impl<O: Read + OpenFile + JournalFile + Drop> UnreadFile<O> {
-    ghost use Rattle.journal_file.specs.FileDisk.{IsFresh};
-    ghost use Rattle.journal_file.specs.Missing.{IsOfAFile};
+    /// A file of which nothing was read, which is locked and on the disk.
+    pub fn of(file: O) -> UnreadFile<O>
+        ensures { IsFresh result }
+    {
+        UnreadFile {
+            file,
+            is_failed: false,
+            is_ended: false,
+            parts: GhostList::new(),
+            faults: GhostList::new(),
+        }
+    }
 
     /// Opens a journal's file, and makes it where there is none. It is locked until the result is dropped, or what is
     /// made of it.
@@ -129,12 +184,7 @@ impl<O: Read + OpenFile + JournalFile + Drop> UnreadFile<O> {
         ensures fresh { IfOk result IsFresh }
         ensures made { IfErr result IsOfAFile }
     {
-        let file = OpenOptions::new()
-            .read(true)
-            .write(true)
-            .create(true)
-            .open(files, path)?;
-        Self::locked(files, path, file)
+        Ok(Self::of(make_locked(files, path)?))
     }
 
     /// Opens a journal's file that is there; where there is none, none is made. It is locked likewise.
@@ -146,10 +196,7 @@ impl<O: Read + OpenFile + JournalFile + Drop> UnreadFile<O> {
         ensures fresh { IfOk result IsFresh }
         ensures missing { IfErr result (NamesMissing path.now) }
     {
-        match OpenOptions::new().read(true).write(true).open(files, path) {
-            Ok(file) => Self::locked(files, path, file),
-            Err(error) => Err(OpenError::of_path(alloc, path, error)),
-        }
+        Ok(Self::of(open_locked(files, alloc, path)?))
     }
 
     /// Opens a journal's file that is there, to be read alone: no write to it succeeds. It is locked likewise.
@@ -162,32 +209,9 @@ impl<O: Read + OpenFile + JournalFile + Drop> UnreadFile<O> {
         ensures missing { IfErr result (NamesMissing path.now) }
     {
         match fs::open(files, path) {
-            Ok(file) => Self::locked(files, path, file),
+            Ok(file) => Ok(Self::of(locked(files, path, file)?)),
             Err(error) => Err(OpenError::of_path(alloc, path, error)),
         }
-    }
-
-    // Locks a file that was just opened, and syncs it, so that what is read of it is on the disk.
-    fn locked<R: Files<File = O>>(
-        files: &R,
-        path: &str,
-        mut file: O,
-    ) -> Result<UnreadFile<O>, OpenError>
-        ensures fresh { IfOk result IsFresh }
-        ensures there { IfErr result IsOfAFile }
-    {
-        // The system opens a folder to be read, and tells only of a read what it is.
-        file.read(&mut [])?;
-        file.lock_alone()?;
-        file.sync_all()?;
-        sync_name(files, path)?;
-        Ok(UnreadFile {
-            file,
-            is_failed: false,
-            is_ended: false,
-            parts: GhostList::new(),
-            faults: GhostList::new(),
-        })
     }
 
     // Notes that a read has failed.
@@ -273,7 +297,8 @@ impl<O: OpenFile + JournalFile + Drop> Disk for FileDisk<O> {
     ghost keeps = { λ f. still_left (calls_on f.first.items f.transcript.calls)
         (promised_after (calls_on f.first.items f.transcript.calls)) f.kept };
 
-    fn promise(&mut self) {
+    fn promise(&mut self, count: u64) {
+        self.file.rest(count);
         self.transcript.promised();
     }
 

@@ -37,7 +37,9 @@ mod torn;
 mod transcript;
 mod watched_file;
 
-pub use file_disk::{FileDisk, JournalFile, OpenError, UnreadFile, find_journal, sync_name};
+pub use file_disk::{
+    FileDisk, JournalFile, OpenError, UnreadFile, find_journal, make_locked, open_locked, sync_name,
+};
 pub use no_journal::NoJournal;
 pub use torn::{TornFile, keep_torn, torn_path};
 pub use watched_file::{ReadPart, WatchedFile};

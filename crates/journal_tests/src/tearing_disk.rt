@@ -151,7 +151,7 @@ impl Disk for TearingDisk {
 
     ghost keeps = { λ d. still_left (calls_of d.first.items d.calls) (promised_in d.promised.items) d.kept };
 
-    fn promise(&mut self) {
+    fn promise(&mut self, _count: u64) {
         let mut promised = GhostList::new();
         promised.push(&self.bytes);
         self.promised = promised;

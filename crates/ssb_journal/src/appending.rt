@@ -32,12 +32,14 @@ fn group_of(alloc: Global, commits: Vec<Commit>) -> Result<Vec<u8>, DiskError>
     Ok(group)
 }
 
-/// Appends commits as one group. With the journal that comes back they are acknowledged: they are on the disk and
-/// promised, and from then on each crash leaves a file that keeps them. At `Err`, which hands the disk back, open the file again.
+/// Appends commits as one group, with which the journal keeps so many. With the journal that comes back they are
+/// acknowledged: they are on the disk and promised, and from then on each crash leaves a file that keeps them. At
+/// `Err`, which hands the disk back, open the file again.
 pub fn append_commits<D: Disk>(
     alloc: Global,
     journal: Journal<D>,
     commits: Vec<Commit>,
+    count: u64,
 ) -> Result<Journal<D>, (DiskError, D)>
     requires { AllByRecursion (λ commit. IsClient commit.client) commits.items }
     ensures acknowledged { IfOk result (λ after. (marks : List TableMark) (before : List CommitRecord)
@@ -55,7 +57,7 @@ pub fn append_commits<D: Disk>(
     ensures full { IfErr result (λ e. e.0 ≡ DiskError.Full → HasNoRoom (D.seen journal) commits.items) }
 {
     match group_of(alloc, commits) {
-        Ok(group) => journal.append(alloc, &group),
+        Ok(group) => journal.append(alloc, &group, count),
         Err(error) => Err((error, journal.into_disk())),
     }
 }

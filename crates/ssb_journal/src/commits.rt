@@ -81,7 +81,7 @@ fn push_all(commits: &mut Vec<Commit>, batch: Vec<Commit>) -> Result<(), AllocEr
 }
 
 /// How many bytes of texts are read before their commits are handed on: so many that threads are worth beginning.
-pub(crate) const MOST_TOGETHER: usize = 1_048_576;
+pub const MOST_TOGETHER: usize = 1_048_576;
 
 // The commits of each text, read by as many threads as there are processors.
 fn batches_of(

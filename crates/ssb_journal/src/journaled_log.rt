@@ -101,11 +101,12 @@ fn append_given<D: Disk + Drop, L: LogSource + Drop>(
     ensures full { IfErr result (λ e. e.0 ≡ DiskError.Full → HasNoRoom (D.seen journal) commits.items) }
 {
     let more = commits.len() as u64;
-    match append_commits(alloc, journal, commits) {
+    let kept = count + more;
+    match append_commits(alloc, journal, commits, kept) {
         Ok(journal) => Ok(JournaledLog {
             journal,
             source,
-            count: count + more,
+            count: kept,
         }),
         Err((error, disk)) => Err((
             error,

@@ -64,6 +64,7 @@ mod texts;
 
 pub use appending::append_commits;
 pub use checksum::{CHECKSUM_LINE, seal};
+pub use commits::MOST_TOGETHER;
 pub use failed_append::FailedAppend;
 pub use fault::JournalFault;
 pub use head::{HeadForm, TableMark, head_of};

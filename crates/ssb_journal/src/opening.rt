@@ -68,7 +68,7 @@ pub fn begin<D: Disk, T: KeepsTorn>(
         return Ok(journal);
     }
     match head_group(alloc, HeadForm::Checksums, marks) {
-        Ok(group) if group.len() <= MAX_GROUP => journal.append(alloc, &group),
+        Ok(group) if group.len() <= MAX_GROUP => journal.append(alloc, &group, 0),
         Ok(_) => Err((DiskError::Full, journal.into_disk())),
         Err(_) => Err((DiskError::OutOfMemory, journal.into_disk())),
     }

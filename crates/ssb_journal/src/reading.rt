@@ -63,6 +63,7 @@ impl<'a, U: UnreadDisk> Model for JournalReader<'a, U> {
 fn next_groups<U: UnreadDisk>(
     alloc: Global,
     groups: &mut UnreadJournal<U>,
+    together: usize,
 ) -> Result<Vec<Vec<u8>>, DiskError>
     ensures next { IfOk result (λ next. groups.new.groups ≡ groups.old.groups ++ lists next.items) }
     ensures end { IfOk result (λ next. next.items ≡ [] → groups.new.is_done ≡ true) }
@@ -80,7 +81,7 @@ fn next_groups<U: UnreadDisk>(
         groups.soundness();
         bytes = bytes.saturating_add(group.len());
         next.push(group)?;
-        if bytes >= MOST_TOGETHER {
+        if bytes >= together {
             return Ok(next);
         }
     }
@@ -144,6 +145,7 @@ fn next_texts<U: UnreadDisk>(
     rt: &(impl Threads + Sync),
     alloc: Global,
     groups: &mut UnreadJournal<U>,
+    together: usize,
 ) -> Result<NextTexts, DiskError>
     ensures texts { IfOk result (λ next. AreNext (lists next.texts.items) next.is_damaged groups.old.groups
         groups.new.groups) }
@@ -153,7 +155,7 @@ fn next_texts<U: UnreadDisk>(
     ensures failed { IsErrOf result DiskError.Failed → U.faults groups.old.unread < U.faults groups.new.unread }
     ensures full { IsErrOf result DiskError.Full → 2 ^ 60 ≤ length (U.taken groups.new.unread) }
 {
-    let next = next_groups(alloc, groups)?;
+    let next = next_groups(alloc, groups, together)?;
     let texts = texts_of(rt, alloc, &next)?;
     Ok(texts)
 }
@@ -377,6 +379,41 @@ impl<'a, U: UnreadDisk> JournalReader<'a, U> {
         ensures full { IfErr result (λ e. e.0 ≡ JournalOpenFault.Disk DiskError.Full
             → 2 ^ 60 ≤ length (U.taken e.1)) }
     {
+        self.next_within(rt, alloc, MOST_TOGETHER)
+    }
+
+    /// The same, of groups that are read together until they have so many bytes. Of a stream with 1 each group is handed
+    /// on as it comes.
+    pub fn next_within(
+        self,
+        rt: &(impl Threads + Sync),
+        alloc: Global,
+        together: usize,
+    ) -> Result<(JournalReader<'a, U>, Option<Vec<Commit>>), (JournalOpenFault, U)>
+        ensures commits { IfOk result (λ next. MatchOption next.1
+            ((next.0.commits ≡ self.entry.commits) × (next.0.is_done ≡ true))
+            (λ batch. next.0.commits ≡ self.entry.commits ++ batch.items)) }
+        ensures same { IfOk result (λ next. (next.0.marks ≡ self.entry.marks) × (next.0.form ≡ self.entry.form)
+            × (next.0.is_new ≡ self.entry.is_new)) }
+        ensures more { IfOk result (λ next. IsSome next.1
+            → (self.entry.texts < next.0.texts) × (next.0.texts < 2 ^ 60)) }
+        // Each file that begins with what was read begins with a journal of the commits so far.
+        ensures kept { IfOk result (λ next. IsSome next.1 → (file : List ℕ)
+            → BeginsAsRead (U.taken next.0.unread) (U.is_ended next.0.unread) file
+            → BeginsWithCommits self.entry.marks next.0.commits file) }
+        ensures known { IfOk result (λ next. U.holds next.0.unread ≡ U.holds self.entry.unread) }
+        // The fault is one of each such file.
+        ensures fault { IfErr result (λ e. (file : List ℕ)
+            → BeginsAsRead (U.taken e.1) (U.is_ended e.1) file → TellsOpenFault self.entry.marks file e.0) }
+        // A fault is one of the group behind those whose commits were handed on.
+        ensures first { IfErr result (λ e. IsOfNext self.entry.texts e.0) }
+        ensures known_err { IfErr result (λ e. U.holds e.1 ≡ U.holds self.entry.unread) }
+        // It does not give up by itself.
+        ensures failed { IfErr result (λ e. e.0 ≡ JournalOpenFault.Disk DiskError.Failed
+            → U.faults self.entry.unread < U.faults e.1) }
+        ensures full { IfErr result (λ e. e.0 ≡ JournalOpenFault.Disk DiskError.Full
+            → 2 ^ 60 ≤ length (U.taken e.1)) }
+    {
         if let Some(fault) = self.fault {
             return Err((JournalOpenFault::Journal(fault), self.into_unread()));
         }
@@ -390,7 +427,7 @@ impl<'a, U: UnreadDisk> JournalReader<'a, U> {
             kept,
             fault: _,
         } = self;
-        let next = match next_texts(rt, alloc, &mut groups) {
+        let next = match next_texts(rt, alloc, &mut groups, together) {
             Ok(next) => next,
             Err(error) => return Err((JournalOpenFault::Disk(error), groups.into_unread())),
         };

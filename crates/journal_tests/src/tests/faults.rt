@@ -26,7 +26,7 @@ fn fault_of(
         if group.len() > MAX_GROUP {
             return Err(Fail::from("too long"));
         }
-        journal = match journal.append(alloc, group) {
+        journal = match journal.append(alloc, group, 0) {
             Ok(journal) => journal,
             Err((error, _)) => return Err(Fail::from(error)),
         };

@@ -196,7 +196,7 @@ pub(crate) fn gone_on(
     more: &[Arc<Refresh>],
 ) -> Result<TearingDisk, Fail> {
     let journal = mended(rt, alloc, bytes)?;
-    match append_commits(alloc, journal, own_commits(alloc, more)?) {
+    match append_commits(alloc, journal, own_commits(alloc, more)?, 0) {
         Ok(journal) => Ok(journal.into_disk()),
         Err((error, _)) => Err(Fail::from(error)),
     }

@@ -2,7 +2,7 @@ use Rattle.std.proofs.Common.{◌≡◌, ⊎_elim, None, arith, false, inl, inr,
 use Rattle.std.proofs.lemmas.Option.{MatchOption-at_none}
 use Rattle.journal.specs.Groups.{lists}
 use Rattle.ssb_journal.proofs.ReadingLaws.{fault_told, few_texts, file_groups, more_begins_with, nothing_more, reading_more}
-use Rattle.ssb_journal.proofs.reading.JournalReader.next.Goals as goal
+use Rattle.ssb_journal.proofs.reading.JournalReader.next_within.Goals as goal
 
 pub returns-in-Err-commits_more-clause-fault : goal.returns-in-Err-commits_more-clause-fault
 returns-in-Err-commits_more-clause-fault g c =
