@@ -19,7 +19,7 @@ use journal_opening::JournalPath;
 use query_command::standard_questions;
 use run_command::{RunInput, RunSettings, demo, open_trace, run_scripts};
 use serve_command::{
-    Attendant, EndPaths, JournalPlace, MOST_CLIENTS, PathClients, ServeFault, ServeRefusal,
+    Attendant, EndPaths, JournalPlace, MOST_CLIENTS, Past, PathClients, ServeFault, ServeRefusal,
     ServeSettings, StreamClient, report_no_pipes,
 };
 use server_figures::LiveFigures;
@@ -302,6 +302,7 @@ fn open_server<R: RandomSource, F: Files + AllocGlobal>(
     let settings = ServeSettings {
         hashing,
         dispatchers: words.dispatchers,
+        past: Past::none(),
         standing,
         tells_ready: !words.quiet && !words.clients.is_empty(),
         figures: Arc::new(files.alloc(), LiveFigures::new())?,
@@ -497,6 +498,7 @@ where
     let settings = ServeSettings {
         hashing: hashing_of(rt)?,
         dispatchers: 1,
+        past: Past::none(),
         standing: Vec::new(rt.alloc()),
         figures: Arc::new(rt.alloc(), LiveFigures::new())?,
         tells_ready: false,

@@ -26,8 +26,11 @@ use Rattle.ssb_schema.specs.declared.table.Table.{Table}
 use Rattle.ssb_serving.proofs.PlaceLaws.{all_at, get_below}
 use Rattle.ssb_serving.specs.Streams.{IsStreamRun}
 use Rattle.stream_sessions.specs.Events.{Event}
+use Rattle.stream_sessions.specs.Speaking.{terms_of}
+use Rattle.stream_sessions.specs.declared.manner.Terms.{Terms}
 use Rattle.stream_sessions.specs.declared.outcome.Served.{Served}
 use Rattle.stream_sessions.specs.declared.outcome.SessionError.{SessionError}
+use Rattle.stream_sessions.specs.declared.past.Past.{Past}
 
 -- what is pushed to an empty list, and what is popped from a list of one, is all of it
 pub first_pushed : {X : Type 0} (before after : List X) (x : X) → before ≡ [] → after ≡ before ++ x ∷ []
@@ -192,16 +195,17 @@ is_alone {L = L} Spoken journal texts speakers speaker dispatchers left one log 
 
 -- its session, by its number
 pub ended_alone : {S L : Type 0} (Spoken : S → TokenRecord → TokenRecord → L → Type 0)
-    (outcome : Result Served SessionError) (takes : Bool) (journal : Journal) (texts : Table → List ℕ) (dispatchers told : ℕ)
-    (unread before after : Option (List ℕ)) (AreKept : List CommitRecord → ℕ → Type 0) (log : List CommitRecord)
+    (outcome : Result Served SessionError) (terms : Terms) (journal : Journal) (texts : Table → List ℕ)
+    (dispatchers told : ℕ) (unread before after : Option (List ℕ)) (AreKept : List CommitRecord → ℕ → Type 0)
+    (log : List CommitRecord)
     (speaker : S) (one : L) (events : List Event) (alone : IsAlone Spoken journal texts dispatchers log speaker one)
-    → HasStreamed (number_of alone.by.client.who) alone.by.client alone.closed unread before after outcome events told takes
-    → AreKept log told → HasEndedAlone outcome takes journal texts dispatchers unread before after AreKept
-ended_alone Spoken outcome takes journal texts dispatchers told unread before after AreKept log speaker one events alone had
+    → HasStreamed (number_of alone.by.client.who) alone.by.client alone.closed unread before after outcome events told terms
+    → AreKept log told → HasEndedAlone outcome terms journal texts dispatchers unread before after AreKept
+ended_alone Spoken outcome terms journal texts dispatchers told unread before after AreKept log speaker one events alone had
     kept =
     let by = alone.by in
     let streamed = subst
-    (λ (w : Who). HasStreamed (number_of w) by.client alone.closed unread before after outcome events told takes)
+    (λ (w : Who). HasStreamed (number_of w) by.client alone.closed unread before after outcome events told terms)
     (met_number journal alone.server.table alone.server.kept 1 by.client by.met) had in record {
       server = alone.server;
       client = by.client;
@@ -218,13 +222,14 @@ ended_alone Spoken outcome takes journal texts dispatchers told unread before af
     }
 
 -- with an exit status
-pub ends_alone : (outcome : Result Served SessionError) (takes : Bool) (status : ℕ) (journal : Journal) (texts : Table → List ℕ)
-    (dispatchers : ℕ) (unread before after : Option (List ℕ)) (AreKept AreThen : List CommitRecord → ℕ → Type 0)
-    → HasEndedAlone outcome takes journal texts dispatchers unread before after AreKept
+pub ends_alone : (outcome : Result Served SessionError) (takes : Bool) (past : Past) (status : ℕ) (journal : Journal)
+    (texts : Table → List ℕ) (dispatchers : ℕ) (unread before after : Option (List ℕ))
+    (AreKept AreThen : List CommitRecord → ℕ → Type 0)
+    → HasEndedAlone outcome (terms_of takes past) journal texts dispatchers unread before after AreKept
     → ((log : List CommitRecord) (told : ℕ) → AreKept log told → AreThen log told) → (status ≡ 0 → IsOk outcome)
     → (status ≢ 0 → IsErr outcome ⊎ IsSome journal) → ((status ≡ 0) ⊎ IsNone journal → takes ≡ true)
-    → EndsAlone status journal texts dispatchers unread before after AreThen
-ends_alone outcome takes status journal texts dispatchers unread before after AreKept AreThen is still well broke took = record {
+    → EndsAlone status past journal texts dispatchers unread before after AreThen
+ends_alone outcome takes past status journal texts dispatchers unread before after AreKept AreThen is still well broke took = record {
   outcome = outcome;
   takes = takes;
   took = took;
@@ -253,15 +258,19 @@ all_served shown all result is well same =
     (AllPass-from_list_all (λ (left : PathLeft). left.was_served) shown (sym is ∙ well))
 
 -- one of the clients of a run, by its place
-had_at : {S : Type 0} (Was : SessionRecord → Type 0) (status : ℕ) (journal : Journal) (table : TableRecord) (kept log : List CommitRecord)
+had_at : {S : Type 0} (past_of : S → Past) (Was : Past → SessionRecord → Type 0) (past : Past) (status : ℕ)
+    (journal : Journal) (table : TableRecord) (kept log : List CommitRecord)
     (AreKept : List CommitRecord → ℕ → Type 0) (place : ℕ) (speaker : S) (closed : TokenRecord) (left : PathLeft)
-    → IsServedBy (λ (s : S) old new one. HasLeft Was (number_of old.who) old new one) journal table kept log (place + 1)
-    speaker closed left
+    → past_of speaker ≡ past
+    → IsServedBy (λ (s : S) old new one. HasLeft (Was (past_of s)) (number_of old.who) old new one) journal table kept log
+    (place + 1) speaker closed left
     → AreKept log left.told → (status ≡ 0 → IsTrue left.was_served)
-    → ((status ≡ 0) ⊎ IsNone journal → left.took_refreshes ≡ true) → HasHadSessions status journal table kept log Was AreKept (place + 1) closed
-had_at Was status journal table kept log AreKept place speaker closed left by told well took =
-    let had = subst (λ (w : Who). HasLeft Was (number_of w) by.client closed left)
-    (met_number journal table kept (place + 1) by.client by.met) by.spoken in record {
+    → ((status ≡ 0) ⊎ IsNone journal → left.took_refreshes ≡ true)
+    → HasHadSessions status journal table kept log (Was past) AreKept (place + 1) closed
+had_at past_of Was past status journal table kept log AreKept place speaker closed left same by told well took =
+    let had = subst (λ (p : Past). HasLeft (Was p) (place + 1) by.client closed left) same
+    (subst (λ (w : Who). HasLeft (Was (past_of speaker)) (number_of w) by.client closed left)
+    (met_number journal table kept (place + 1) by.client by.met) by.spoken) in record {
       client = by.client;
       met = by.met;
       sessions = had.sessions;
@@ -274,20 +283,22 @@ had_at Was status journal table kept log AreKept place speaker closed left by to
       told = subst (AreKept log) had.told_is told;
     }
 
-serves_all : {S : Type 0} (Was : SessionRecord → Type 0) (status : ℕ) (journal : Journal) (texts : Table → List ℕ) (speakers : List S)
-    (dispatchers : ℕ) (left : List PathLeft) (log : List CommitRecord) (AreKept : List CommitRecord → ℕ → Type 0)
-    → IsRunOver (λ (s : S) old new one. HasLeft Was (number_of old.who) old new one) journal texts speakers dispatchers left
-    log
+serves_all : {S : Type 0} (past_of : S → Past) (Was : Past → SessionRecord → Type 0) (past : Past) (status : ℕ)
+    (journal : Journal) (texts : Table → List ℕ) (speakers : List S) (dispatchers : ℕ) (left : List PathLeft)
+    (log : List CommitRecord) (AreKept : List CommitRecord → ℕ → Type 0) → All (λ s. past_of s ≡ past) speakers
+    → IsRunOver (λ (s : S) old new one. HasLeft (Was (past_of s)) (number_of old.who) old new one) journal texts speakers
+    dispatchers left log
     → ((place : ℕ) (one : PathLeft) → slice_get left place ≡ Some one → AreKept log one.told)
     → (status ≡ 0 → All (λ one. IsTrue one.was_served) left)
     → ((status ≡ 0) ⊎ IsNone journal → All (λ one. one.took_refreshes ≡ true) left)
-    → ServesClients status journal texts (length speakers) dispatchers Was AreKept
-serves_all Was status journal texts speakers dispatchers left log AreKept over told well took = record {
+    → ServesClients status journal texts (length speakers) dispatchers (Was past) AreKept
+serves_all past_of Was past status journal texts speakers dispatchers left log AreKept same over told well took = record {
   server = over.server;
   served = λ i client within here.
       let speaker = get_below speakers i within in
       let one = get_below left i (omega (arith, within, over.one_left)) in
-      had_at Was status journal over.server.table over.server.kept over.server.log AreKept i speaker.0 client one.0
+      had_at past_of Was past status journal over.server.table over.server.kept over.server.log AreKept i speaker.0 client
+      one.0 (all_at (λ s. past_of s ≡ past) speakers i speaker.0 same speaker.1)
       (over.served i speaker.0 client one.0 speaker.1 here one.1)
       (subst (λ (l : List CommitRecord). AreKept l one.0.told) (sym over.log_is) (told i one.0 one.1))
       (λ zero. all_at (λ (l : PathLeft). IsTrue l.was_served) left i one.0 (well zero) one.1)
@@ -295,15 +306,16 @@ serves_all Was status journal texts speakers dispatchers left log AreKept over t
 }
 
 -- all clients of a run
-pub serves_clients : {S : Type 0} (Was : SessionRecord → Type 0) (status : ℕ) (journal : Journal) (texts : Table → List ℕ) (speakers : List S)
-    (clients dispatchers : ℕ) (left : List PathLeft) (log : List CommitRecord)
-    (AreKept : List CommitRecord → ℕ → Type 0)
-    → IsRunOver (λ (s : S) old new one. HasLeft Was (number_of old.who) old new one) journal texts speakers dispatchers left
-    log → length speakers ≡ clients
+pub serves_clients : {S : Type 0} (past_of : S → Past) (Was : Past → SessionRecord → Type 0) (past : Past) (status : ℕ)
+    (journal : Journal) (texts : Table → List ℕ) (speakers : List S) (clients dispatchers : ℕ) (left : List PathLeft)
+    (log : List CommitRecord) (AreKept : List CommitRecord → ℕ → Type 0) → All (λ s. past_of s ≡ past) speakers
+    → IsRunOver (λ (s : S) old new one. HasLeft (Was (past_of s)) (number_of old.who) old new one) journal texts speakers
+    dispatchers left log → length speakers ≡ clients
     → ((place : ℕ) (one : PathLeft) → slice_get left place ≡ Some one → AreKept log one.told)
     → (status ≡ 0 → All (λ one. IsTrue one.was_served) left)
     → ((status ≡ 0) ⊎ IsNone journal → All (λ one. one.took_refreshes ≡ true) left)
-    → ServesClients status journal texts clients dispatchers Was AreKept
-serves_clients Was status journal texts speakers clients dispatchers left log AreKept over many told well took =
-    subst (λ (n : ℕ). ServesClients status journal texts n dispatchers Was AreKept) many
-    (serves_all Was status journal texts speakers dispatchers left log AreKept over told well took)
+    → ServesClients status journal texts clients dispatchers (Was past) AreKept
+serves_clients past_of Was past status journal texts speakers clients dispatchers left log AreKept same over many told well
+    took =
+    subst (λ (n : ℕ). ServesClients status journal texts n dispatchers (Was past) AreKept) many
+    (serves_all past_of Was past status journal texts speakers dispatchers left log AreKept same over told well took)

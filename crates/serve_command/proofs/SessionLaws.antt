@@ -16,10 +16,12 @@ use Rattle.ssb_text.proofs.WrittenLaws.{appends_none}
 use Rattle.stream_sessions.specs.Conversation.{ConversesTo}
 use Rattle.stream_sessions.specs.Events.{Event, most_covered}
 use Rattle.stream_sessions.specs.Session.{Serves, Breaks}
-use Rattle.stream_sessions.specs.Speaking.{InSession, first_format, manner_of, speaking}
+use Rattle.stream_sessions.specs.Speaking.{InSession, first_format, manner_of, speaking, terms_of}
+use Rattle.stream_sessions.specs.declared.manner.Terms.{Terms}
 use Rattle.stream_sessions.specs.declared.outcome.Served.{Served}
 use Rattle.stream_sessions.specs.declared.outcome.SessionError.{SessionError}
 use Rattle.stream_sessions.specs.declared.outcome.SessionFault.TheVariants as fault
+use Rattle.stream_sessions.specs.declared.past.Past.{Past}
 
 nothing_before : (known : Option (List ℕ)) → prepend_known [] known ≡ known
 nothing_before None = refl
@@ -36,9 +38,9 @@ nothing_read : (unread : Option (List ℕ)) → Consumes unread unread []
 nothing_read None = tt
 nothing_read (Some bytes) = refl
 
-not_begun : (takes : Bool) (number : ℕ) (client : TokenRecord) (unread before : Option (List ℕ))
-    → HasEnded (Err (record { answered = 0; fault = fault.OutOfMemory })) takes number client client unread before before
-not_begun takes number client unread before = (
+not_begun : (terms : Terms) (number : ℕ) (client : TokenRecord) (unread before : Option (List ℕ))
+    → HasEnded (Err (record { answered = 0; fault = fault.OutOfMemory })) terms number client client unread before before
+not_begun terms number client unread before = (
   unread,
   (
     first_format,
@@ -50,7 +52,7 @@ not_begun takes number client unread before = (
         requests = [];
         rest = [];
         cut = record { joined = refl; each = tt; unfinished = nothing_is_unfinished };
-        between = speaking client (manner_of takes first_format);
+        between = speaking client (manner_of terms first_format);
         replies = [];
         answered = refl;
         count = refl;
@@ -67,54 +69,54 @@ not_begun takes number client unread before = (
 )
 
 -- nothing was read, written or done
-pub nothing_streamed : (takes : Bool) (number : ℕ) (client : TokenRecord) (unread before : Option (List ℕ))
+pub nothing_streamed : (terms : Terms) (number : ℕ) (client : TokenRecord) (unread before : Option (List ℕ))
     → HasStreamed number client client unread before before
-    (Err (record { answered = 0; fault = fault.OutOfMemory })) [] 0 takes
-nothing_streamed takes number client unread before = record {
-  ended = not_begun takes number client unread before;
+    (Err (record { answered = 0; fault = fault.OutOfMemory })) [] 0 terms
+nothing_streamed terms number client unread before = record {
+  ended = not_begun terms number client unread before;
   conversed = (first_format, (false, [], (refl, refl, refl), λ other. refl));
   told_is = refl;
 }
 
 -- how a session ended over a wire, of which the other bytes are known
-has_ended : (outcome : Result Served SessionError) (takes : Bool) (number : ℕ) (old new : TokenRecord)
+has_ended : (outcome : Result Served SessionError) (terms : Terms) (number : ℕ) (old new : TokenRecord)
     (unread was rest before began after now : Option (List ℕ)) → was ≡ unread → began ≡ before → now ≡ after
-    → IfOk outcome (λ served. InSession takes old new (λ first last. Serves served number first last was rest began now))
-    → IfErr outcome (λ error. InSession takes old new (λ first last. Breaks error number first last was rest began now))
-    → HasEnded outcome takes number old new unread before after
-has_ended (Ok served) takes number old new unread was rest before began after now same same_too same_then serves breaks = (
+    → IfOk outcome (λ served. InSession terms old new (λ first last. Serves served number first last was rest began now))
+    → IfErr outcome (λ error. InSession terms old new (λ first last. Breaks error number first last was rest began now))
+    → HasEnded outcome terms number old new unread before after
+has_ended (Ok served) terms number old new unread was rest before began after now same same_too same_then serves breaks = (
   rest,
-  subst (λ (w : Option (List ℕ)). InSession takes old new (λ first last. Serves served number first last w rest before after))
+  subst (λ (w : Option (List ℕ)). InSession terms old new (λ first last. Serves served number first last w rest before after))
       same
       (subst
-      (λ (w : Option (List ℕ)). InSession takes old new (λ first last. Serves served number first last was rest w after))
+      (λ (w : Option (List ℕ)). InSession terms old new (λ first last. Serves served number first last was rest w after))
       same_too
       (subst
-      (λ (w : Option (List ℕ)). InSession takes old new (λ first last. Serves served number first last was rest began w))
+      (λ (w : Option (List ℕ)). InSession terms old new (λ first last. Serves served number first last was rest began w))
       same_then serves)),
 )
-has_ended (Err error) takes number old new unread was rest before began after now same same_too same_then serves breaks = (
+has_ended (Err error) terms number old new unread was rest before began after now same same_too same_then serves breaks = (
   rest,
-  subst (λ (w : Option (List ℕ)). InSession takes old new (λ first last. Breaks error number first last w rest before after))
+  subst (λ (w : Option (List ℕ)). InSession terms old new (λ first last. Breaks error number first last w rest before after))
       same
       (subst
-      (λ (w : Option (List ℕ)). InSession takes old new (λ first last. Breaks error number first last was rest w after))
+      (λ (w : Option (List ℕ)). InSession terms old new (λ first last. Breaks error number first last was rest w after))
       same_too
       (subst
-      (λ (w : Option (List ℕ)). InSession takes old new (λ first last. Breaks error number first last was rest began w))
+      (λ (w : Option (List ℕ)). InSession terms old new (λ first last. Breaks error number first last was rest began w))
       same_then breaks)),
 )
 
 -- a session over a reader and a writer
-pub has_streamed : (outcome : Result Served SessionError) (takes : Bool) (number told : ℕ) (old new : TokenRecord)
+pub has_streamed : (outcome : Result Served SessionError) (terms : Terms) (number told : ℕ) (old new : TokenRecord)
     (unread before after was rest now : Option (List ℕ)) (events : List Event) → was ≡ unread → after ≡ now
-    → IfOk outcome (λ served. InSession takes old new (λ first last. Serves served number first last was rest before now))
-    → IfErr outcome (λ error. InSession takes old new (λ first last. Breaks error number first last was rest before now))
-    → InSession takes old new (λ first last. ConversesTo outcome number first last events)
-    → told ≡ most_covered events → HasStreamed number old new unread before after outcome events told takes
-has_streamed outcome takes number told old new unread before after was rest now events same same_then serves breaks
+    → IfOk outcome (λ served. InSession terms old new (λ first last. Serves served number first last was rest before now))
+    → IfErr outcome (λ error. InSession terms old new (λ first last. Breaks error number first last was rest before now))
+    → InSession terms old new (λ first last. ConversesTo outcome number first last events)
+    → told ≡ most_covered events → HasStreamed number old new unread before after outcome events told terms
+has_streamed outcome terms number told old new unread before after was rest now events same same_then serves breaks
     conversed told_is = record {
-      ended = has_ended outcome takes number old new unread was rest before before after now same refl (sym same_then)
+      ended = has_ended outcome terms number old new unread was rest before before after now same refl (sym same_then)
           serves breaks;
       conversed = conversed;
       told_is = told_is;
@@ -123,13 +125,14 @@ has_streamed outcome takes number told old new unread before after was rest now 
 -- and what follows it
 pub served_once : {F : Type 0} (remaining contents : F → Option (List ℕ)) (input output : F)
     (outcome : Result Served SessionError) (number : ℕ) (old new : TokenRecord) (after : Option (List ℕ))
-    (events : List Event) (once : OnceLeft)
-    → HasStreamed number old new (remaining input) (contents output) after outcome events once.told once.took_refreshes
-    → (once.end ≡ Last → IsOk outcome) → HasServedOnce (IsBetween remaining contents) number old new once
-served_once remaining contents input output outcome number old new after events once streamed last = inl (
+    (events : List Event) (past : Past) (once : OnceLeft)
+    → HasStreamed number old new (remaining input) (contents output) after outcome events once.told
+    (terms_of once.took_refreshes past) → (once.end ≡ Last → IsOk outcome)
+    → HasServedOnce (IsBetween remaining contents past) number old new once
+served_once remaining contents input output outcome number old new after events past once streamed last = inl (
   record {
     outcome = outcome;
-    takes_refreshes = once.took_refreshes;
+    terms = terms_of once.took_refreshes past;
     unread = remaining input;
     before = contents output;
     after = after;
@@ -139,7 +142,7 @@ served_once remaining contents input output outcome number old new after events 
   last,
   streamed.told_is,
   refl,
-  record { input = input; output = output; unread_is = refl; before_is = refl },
+  record { past_is = refl; input = input; output = output; unread_is = refl; before_is = refl },
 )
 
 both_true : (a b : Bool) → (a && b) ≡ true → (a ≡ true) × (b ≡ true)

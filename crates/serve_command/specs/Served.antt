@@ -14,8 +14,11 @@ use Rattle.serve_command.specs.Sessions.{most_told}
 use Rattle.ssb_files.specs.Loaded.{IsLoadedToServe}
 use Rattle.ssb_schema.specs.declared.table.Table.{Table}
 use Rattle.stream_sessions.specs.Events.{Event, most_covered}
+use Rattle.stream_sessions.specs.Speaking.{terms_of}
+use Rattle.stream_sessions.specs.declared.manner.Terms.{Terms}
 use Rattle.stream_sessions.specs.declared.outcome.Served.{Served}
 use Rattle.stream_sessions.specs.declared.outcome.SessionError.{SessionError}
+use Rattle.stream_sessions.specs.declared.past.Past.{Past}
 
 -- a server over the base that the five texts spell went on from what its journal kept, or from nothing, and was closed
 -- when all had ended, of whom the first so many had sessions and the others rested: the log begins with what was kept,
@@ -60,32 +63,33 @@ pub record IsRunOver {S L : Type 0} (Spoken : S → TokenRecord → TokenRecord 
         → slice_get server.closed i ≡ Some client → slice_get left i ≡ Some one
         → IsServedBy Spoken journal server.table server.kept server.log (i + 1) speaker client one
 
--- of such a server client 1 had the only session, which took refreshes or did not, and ended so; what went over its wire
--- is a conversation. What it sees at the end is a beginning of the log, and its commits are those of its number in the
+-- of such a server client 1 had the only session, of these terms, which ended so; what went over its wire is a
+-- conversation. What it sees at the end is a beginning of the log, and its commits are those of its number in the
 -- log. As many commits as it was told of at most are kept
-pub record HasEndedAlone (outcome : Result Served SessionError) (takes : Bool) (journal : Journal) (texts : Table → List ℕ)
-    (dispatchers : ℕ) (unread before after : Option (List ℕ)) (AreKept : List CommitRecord → ℕ → Type 0) : Type 0 where
+pub record HasEndedAlone (outcome : Result Served SessionError) (terms : Terms) (journal : Journal)
+    (texts : Table → List ℕ) (dispatchers : ℕ) (unread before after : Option (List ℕ))
+    (AreKept : List CommitRecord → ℕ → Type 0) : Type 0 where
   pub server : IsServer journal texts 1 dispatchers
   pub client : TokenRecord
   pub closed : TokenRecord
   pub is_closed : slice_get server.closed 0 ≡ Some closed
   pub met : IsMet journal server.table server.kept 1 client
-  pub ended : HasEnded outcome takes 1 client closed unread before after
+  pub ended : HasEnded outcome terms 1 client closed unread before after
   pub events : List Event
-  pub conversed : HasConversed outcome takes 1 client closed events
+  pub conversed : HasConversed outcome terms 1 client closed events
   pub begins : IsPrefix closed.seen server.log
   pub made : closed.mine ≡ commits_of 1 server.log
   pub kept : AreKept server.log (most_covered events)
 
--- the same with an exit status: with 0 its session took refreshes and was served to its end, so that known bytes grow by
--- all that was told. Else it broke, and they grow by what was told before; or the journal could not be written to its
--- end. Without a journal it took refreshes
-pub record EndsAlone (status : ℕ) (journal : Journal) (texts : Table → List ℕ) (dispatchers : ℕ)
+-- the same with an exit status, where this came before the log: with 0 its session took refreshes and was served to its
+-- end, so that known bytes grow by all that was told. Else it broke, and they grow by what was told before; or the
+-- journal could not be written to its end. Without a journal it took refreshes
+pub record EndsAlone (status : ℕ) (past : Past) (journal : Journal) (texts : Table → List ℕ) (dispatchers : ℕ)
     (unread before after : Option (List ℕ)) (AreKept : List CommitRecord → ℕ → Type 0) : Type 0 where
   pub outcome : Result Served SessionError
   pub takes : Bool
   pub took : (status ≡ 0) ⊎ IsNone journal → takes ≡ true
-  pub alone : HasEndedAlone outcome takes journal texts dispatchers unread before after AreKept
+  pub alone : HasEndedAlone outcome (terms_of takes past) journal texts dispatchers unread before after AreKept
   pub well : status ≡ 0 → IsOk outcome
   pub broke : status ≢ 0 → IsErr outcome ⊎ IsSome journal
 

@@ -9,32 +9,33 @@ use Rattle.stream_sessions.specs.Conversation.{ConversesTo}
 use Rattle.stream_sessions.specs.Events.{Event, most_covered}
 use Rattle.stream_sessions.specs.Session.{Serves, Breaks}
 use Rattle.stream_sessions.specs.Speaking.{InSession}
+use Rattle.stream_sessions.specs.declared.manner.Terms.{Terms}
 use Rattle.stream_sessions.specs.declared.outcome.Served.{Served}
 use Rattle.stream_sessions.specs.declared.outcome.SessionError.{SessionError}
+use Rattle.stream_sessions.specs.declared.past.Past.{Past}
 
--- of what the client's input had left, the session, which took refreshes or did not, read the beginning, and left
--- something; it was served to its end, or
--- it broke, and the client and the known bytes of its output are as that says
-abbrev pub HasEnded : Result Served SessionError → Bool → ℕ → TokenRecord → TokenRecord → Option (List ℕ) → Option (List ℕ)
-    → Option (List ℕ) → Type 0
-HasEnded (Ok served) takes number old new unread before after =
+-- of what the client's input had left, the session of these terms read the beginning, and left something; it was served
+-- to its end, or it broke, and the client and the known bytes of its output are as that says
+abbrev pub HasEnded : Result Served SessionError → Terms → ℕ → TokenRecord → TokenRecord → Option (List ℕ)
+    → Option (List ℕ) → Option (List ℕ) → Type 0
+HasEnded (Ok served) terms number old new unread before after =
     (left : Option (List ℕ))
-    × InSession takes old new (λ first last. Serves served number first last unread left before after)
-HasEnded (Err error) takes number old new unread before after =
+    × InSession terms old new (λ first last. Serves served number first last unread left before after)
+HasEnded (Err error) terms number old new unread before after =
     (left : Option (List ℕ))
-    × InSession takes old new (λ first last. Breaks error number first last unread left before after)
+    × InSession terms old new (λ first last. Breaks error number first last unread left before after)
 
 -- what went over its wire is a conversation, to its end or until it broke; no reply is held any more, but where writing
 -- failed
-abbrev pub HasConversed : Result Served SessionError → Bool → ℕ → TokenRecord → TokenRecord → List Event → Type 0
-HasConversed outcome takes number old new events =
-    InSession takes old new (λ first last. ConversesTo outcome number first last events)
+abbrev pub HasConversed : Result Served SessionError → Terms → ℕ → TokenRecord → TokenRecord → List Event → Type 0
+HasConversed outcome terms number old new events =
+    InSession terms old new (λ first last. ConversesTo outcome number first last events)
 
--- a session over ends that were opened for it: how it ended, whether it took refreshes, what its input had, the known
--- bytes of its output before and after, and what went over its wire, the newest first
+-- a session over ends that were opened for it: how it ended, its terms, what its input had, the known bytes of its
+-- output before and after, and what went over its wire, the newest first
 pub record SessionRecord : Type 0 where
   pub outcome : Result Served SessionError
-  pub takes_refreshes : Bool
+  pub terms : Terms
   pub unread : Option (List ℕ)
   pub before : Option (List ℕ)
   pub after : Option (List ℕ)
@@ -42,8 +43,8 @@ pub record SessionRecord : Type 0 where
 
 -- it took the client of this number from old to new
 pub record IsSession (number : ℕ) (old new : TokenRecord) (session : SessionRecord) : Type 0 where
-  pub ended : HasEnded session.outcome session.takes_refreshes number old new session.unread session.before session.after
-  pub conversed : HasConversed session.outcome session.takes_refreshes number old new session.events
+  pub ended : HasEnded session.outcome session.terms number old new session.unread session.before session.after
+  pub conversed : HasConversed session.outcome session.terms number old new session.events
 
 -- sessions of one client, the newest first: each found the client as the one before it left it
 abbrev pub AreSessions : ℕ → TokenRecord → List SessionRecord → TokenRecord → Type 0
@@ -51,8 +52,10 @@ AreSessions number old [] new = new ≡ old
 AreSessions number old (session ∷ earlier) new =
     (between : TokenRecord) × AreSessions number old earlier between × IsSession number between new session
 
--- it was between two such ends, as they were opened: one was read, and the other written
-pub record IsBetween {F : Type 0} (remaining contents : F → Option (List ℕ)) (session : SessionRecord) : Type 0 where
+-- it was between two such ends, as they were opened: one was read, and the other written; and this came before the log
+pub record IsBetween {F : Type 0} (remaining contents : F → Option (List ℕ)) (past : Past) (session : SessionRecord)
+    : Type 0 where
+  pub past_is : session.terms.past ≡ past
   pub input : F
   pub output : F
   pub unread_is : session.unread ≡ remaining input
@@ -66,7 +69,7 @@ EndWell (session ∷ earlier) = IsOk session.outcome
 -- each of them took refreshes
 abbrev pub TookRefreshes : List SessionRecord → Type 0
 TookRefreshes [] = Unit {0}
-TookRefreshes (session ∷ earlier) = (session.takes_refreshes ≡ true) × TookRefreshes earlier
+TookRefreshes (session ∷ earlier) = (session.terms.takes_refreshes ≡ true) × TookRefreshes earlier
 
 -- of how many commits there was evidence at most when something was passed on
 abbrev pub most_told : List SessionRecord → ℕ
@@ -93,12 +96,12 @@ pub record HasLeft (Was : SessionRecord → Type 0) (number : ℕ) (old new : To
   pub took_are : left.took_refreshes ≡ true → TookRefreshes sessions
   pub ended : left.was_served ≡ true → EndWell sessions
 
--- a client was served over a reader and a writer: its session ended so, what went over the wire between them is a
--- conversation, it told of so many commits at most, and took refreshes or did not
+-- a client was served over a reader and a writer: its session, of these terms, ended so, what went over the wire
+-- between them is a conversation, and it told of so many commits at most
 pub record HasStreamed (number : ℕ) (old new : TokenRecord) (unread before after : Option (List ℕ))
-    (outcome : Result Served SessionError) (events : List Event) (told : ℕ) (takes : Bool) : Type 0 where
-  pub ended : HasEnded outcome takes number old new unread before after
-  pub conversed : HasConversed outcome takes number old new events
+    (outcome : Result Served SessionError) (events : List Event) (told : ℕ) (terms : Terms) : Type 0 where
+  pub ended : HasEnded outcome terms number old new unread before after
+  pub conversed : HasConversed outcome terms number old new events
   pub told_is : told ≡ most_covered events
 
 -- a session was such a one, told of so many commits at most, took refreshes or did not, and what follows it: nothing does
@@ -107,5 +110,5 @@ pub record HasStreamed (number : ℕ) (old new : TokenRecord) (unread before aft
 abbrev pub HasServedOnce : (SessionRecord → Type 0) → ℕ → TokenRecord → TokenRecord → OnceLeft → Type 0
 HasServedOnce Was number old new once =
     ((session : SessionRecord) × IsSession number old new session × (once.end ≡ Last → IsOk session.outcome)
-    × (once.told ≡ most_covered session.events) × (session.takes_refreshes ≡ once.took_refreshes) × Was session)
+    × (once.told ≡ most_covered session.events) × (session.terms.takes_refreshes ≡ once.took_refreshes) × Was session)
     ⊎ ((once.end ≢ Last) × (new ≡ old) × (once.told ≡ 0))

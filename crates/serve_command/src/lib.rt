@@ -21,7 +21,8 @@
 //! history is legal, and all its commits are of its clients. That of [`serve_clients`]: with status 0 there was such a
 //! server, each of whose clients had sessions, one after another, the last of which was served to its end. 1 tells of
 //! refused data, a refused journal, or a question that may not stand, 2 of too many clients alone. Which questions stand
-//! changes nothing else of it.
+//! changes nothing else of it. Where commits came before the first of the log, as those that the tables of a store are
+//! after, clients are told numbers that count these too ([`ServeSettings::past`]).
 //!
 //! With a journal (`specs/Journals.antt`) the history begins with the commits that the journal's file keeps, and each
 //! client has seen them before its first session; and whatever crashes after the run leaves at least as many commits as
@@ -81,4 +82,5 @@ pub use ready::ReadyLine;
 pub use runs::ServeSettings;
 pub use serving::{ClientsEnd, MOST_CLIENTS, PathClients, StreamEnd, serve_clients, serve_stream};
 pub use speakers::StreamClient;
+pub use stream_sessions::{MOST_PAST, Past};
 pub use unserved::JournaledFault;

@@ -40,7 +40,7 @@ use std::io::{Print, Read};
 use std::sync::{Arc, Wait};
 use std::thread::Threads;
 use std::time::Clock;
-use stream_sessions::{Nothing, Speaker, Speaks};
+use stream_sessions::{Nothing, Past, Speaker, Speaks};
 
 /// How clients are served, whoever they are.
 #[derive(Drop)]
@@ -49,6 +49,8 @@ pub struct ServeSettings {
     pub hashing: RandomState,
     /// 1 to 4, else no server is opened.
     pub dispatchers: u32,
+    /// How many commits came before the first of the server's log. Clients are told numbers that count these too.
+    pub past: Past,
     /// The questions that stand: their totals follow the commits. Which they are changes no reply.
     pub standing: Vec<Question>,
     /// Whether it is told when the server is ready.
@@ -314,6 +316,7 @@ where
     let ServeSettings {
         hashing,
         dispatchers,
+        past: _,
         standing,
         tells_ready,
         figures,

@@ -1,7 +1,7 @@
 //! The word `serve`: clients over the base of five table files, with a journal or without one.
 
 ghost use Rattle.std.specs.Prelude.{◌≡◌, ◌≢◌, ◌⊎◌, ◌↔◌, ◌<◌, ℕ, List, true, false, IfOk, IfErr, IfSome, IsErr, IsNone};
-ghost use Rattle.std.specs.Prelude.{IsOk, IsSome, IsTrue, MatchOption, None, is_some, vec_len};
+ghost use Rattle.std.specs.Prelude.{All, IsOk, IsSome, IsTrue, MatchOption, None, is_some, vec_len};
 ghost use Rattle.std.specs.List.{list_all};
 ghost use Rattle.std.specs.Option.{option_map};
 ghost use Rattle.journal_opening.specs.declared.start.JournalStart.TheVariants.{Begins};
@@ -12,6 +12,7 @@ ghost use Rattle.serve_command.specs.Status.{serving_status};
 ghost use Rattle.ssb_schema.specs.declared.table.Table.{Table};
 ghost use Rattle.history_core.specs.Counts.{most_clients};
 ghost use Rattle.ssb_server.specs.Opening.{AreCounts};
+ghost use Rattle.stream_sessions.specs.Speaking.{terms_of};
 ghost use Rattle.ssb_text.specs.Layouts.{AreRows};
 
 use crate::acknowledging::Durable;
@@ -20,7 +21,7 @@ use crate::ends::EndPaths;
 use crate::fault::{ServeFault, ServeRefusal};
 use crate::journal_source::JournalPlace;
 use crate::runs::{KeptLog, ServeSettings, SessionsRun, all_took, run_over};
-use crate::speakers::{PathClient, PathLeft, StreamClient, StreamLeft};
+use crate::speakers::{PathClient, PathLeft, StreamClient, StreamLeft, StreamSpeaker};
 use confirmed_commits::Confirms;
 use journal::KeepsTorn;
 use journal_opening::OpensJournal;
@@ -33,7 +34,7 @@ use std::rt::Files;
 use std::sync::Wait;
 use std::thread::Threads;
 use std::time::Clock;
-use stream_sessions::{Served, SessionError};
+use stream_sessions::{Past, Served, SessionError};
 
 /// How many clients a server has at most.
 pub const MOST_CLIENTS: usize = ssb_server::MOST_CLIENTS as usize;
@@ -87,8 +88,9 @@ where
     O: Write + Drop + Send,
     E: Print,
     ensures ended { IfOk result (λ left. (texts : Table → List ℕ) → AreRows I.remaining tables texts
-        → HasEndedAlone left.one.ended left.one.took_refreshes (option_map (λ place. P.holds place.file.now) place.entry) texts
-        settings.dispatchers (J.remaining client.input) (O.contents client.output) (O.contents left.one.wire.output)
+        → HasEndedAlone left.one.ended (terms_of left.one.took_refreshes settings.past)
+        (option_map (λ place. P.holds place.file.now) place.entry) texts settings.dispatchers
+        (J.remaining client.input) (O.contents client.output) (O.contents left.one.wire.output)
         (λ log told. IfSome left.kept (λ kept. AreOnDisk (P.Disk.may_leave kept.disk)
         (P.Disk.seen kept.disk) (IsTrue kept.was_written) log told))) }
     ensures journal { IfOk result (λ left. is_some left.kept ≡ is_some place.entry) }
@@ -101,7 +103,10 @@ where
     ensures words { IfErr result (λ fault. serving_status fault ≢ 2) }
 {
     let mut speakers = Vec::new(rt.alloc());
-    speakers.push(client)?;
+    speakers.push(StreamSpeaker {
+        ends: client,
+        past: settings.past,
+    })?;
     let run = run_over(rt, settings, tables, place, speakers, screen)?;
     let SessionsRun {
         mut left,
@@ -188,8 +193,8 @@ where
     O: Write + Drop + Send,
     E: Print,
     ensures ended { IfSome result.output (λ output. (texts : Table → List ℕ) → AreRows I.remaining tables texts
-        → EndsAlone result.status (option_map (λ place. P.holds place.file.now) place.entry) texts settings.dispatchers
-        (J.remaining client.input) (O.contents client.output) (O.contents output)
+        → EndsAlone result.status settings.past (option_map (λ place. P.holds place.file.now) place.entry) texts
+        settings.dispatchers (J.remaining client.input) (O.contents client.output) (O.contents output)
         (λ log told. IfSome result.disk (λ disk. AreOnDisk (P.Disk.may_leave disk)
         (P.Disk.seen disk) (result.status ≡ 0) log told))) }
     ensures closed { result.status ≡ 0 → IsSome result.output }
@@ -239,12 +244,14 @@ pub struct PathClients<'a, F: Files> {
     pub attendant: &'a Attendant<F::File>,
 }
 
-// The clients of these ends, numbered from 1.
+// The clients of these ends, numbered from 1, who are told of this past too.
 fn speakers_of<'a, F: Files + AllocGlobal, E: Print>(
     clients: PathClients<'a, F>,
+    past: Past,
     screen: &'a E,
 ) -> Result<Vec<PathClient<'a, F, E>>, AllocError>
-    ensures { IfOk result (λ speakers. vec_len speakers ≡ vec_len clients.entry.ends) }
+    ensures each { IfOk result (λ speakers. vec_len speakers ≡ vec_len clients.entry.ends) }
+    ensures past { IfOk result (λ speakers. All (λ speaker. speaker.past ≡ past) speakers.items) }
 {
     let PathClients {
         files,
@@ -261,6 +268,7 @@ fn speakers_of<'a, F: Files + AllocGlobal, E: Print>(
             number,
             paths,
             keeps,
+            past,
             attendant,
         })?;
     }
@@ -326,7 +334,7 @@ where
     ensures served { (result.status ≡ 0) ⊎ IsSome result.disk → (texts : Table → List ℕ)
         → AreRows I.remaining tables texts
         → ServesClients result.status (option_map (λ place. P.holds place.file.now) place.entry) texts
-        (vec_len clients.entry.ends) settings.dispatchers (IsBetween F.File.remaining F.File.contents)
+        (vec_len clients.entry.ends) settings.dispatchers (IsBetween F.File.remaining F.File.contents settings.past)
         (λ log told. IfSome result.disk (λ disk. AreOnDisk (P.Disk.may_leave disk)
         (P.Disk.seen disk) (result.status ≡ 0) log told)) }
     ensures disk { result.status ≡ 0 → is_some result.disk ≡ is_some place.entry }
@@ -346,7 +354,7 @@ where
             disk: None,
         };
     }
-    let Ok(speakers) = speakers_of(clients, screen) else {
+    let Ok(speakers) = speakers_of(clients, settings.past, screen) else {
         return ClientsEnd {
             status: Fault::OutOfMemory.tell(&mut err),
             disk: None,

@@ -5,6 +5,7 @@ ghost use Rattle.std.specs.Option.{is_some};
 ghost use Rattle.history.specs.Members.{number_of};
 ghost use Rattle.serve_command.specs.Sessions.{HasLeft, HasServedOnce, HasStreamed, IsBetween};
 ghost use Rattle.stream_sessions.specs.OneRequest.{AreAlike};
+ghost use Rattle.stream_sessions.specs.Speaking.{terms_of};
 
 use crate::attendant::Attendant;
 use crate::ends::{EndFault, EndPaths, Ends};
@@ -18,8 +19,8 @@ use std::sync::Wait;
 use std::time::{Clock, Duration};
 use std::{fmt, io, thread};
 use stream_sessions::{
-    Acknowledges, ClosedWire, Ending, Evidence, Served, Service, SessionError, SessionFault,
-    SessionLeft, Speaker, Speaks, ToldWith, serve_session,
+    Acknowledges, ClosedWire, Ending, Evidence, Past, Served, Service, SessionError, SessionFault,
+    SessionLeft, Speaker, Speaks, Terms, ToldWith, serve_session,
 };
 
 // How many bytes of a client's requests are read at once.
@@ -45,7 +46,7 @@ pub struct StreamLeft<I: Read + Drop, O: Write + Drop> {
     pub took_refreshes: bool,
 }
 
-// Serves a session to a client whose ends are open, and closes the one that is read.
+// Serves a session to a client whose ends are open, who is told of this past too, and closes the one that is read.
 fn speak_over<
     W: Follower + Drop,
     R: Wait,
@@ -57,13 +58,14 @@ fn speak_over<
     service: &Service<'_, W, R, K>,
     client: &mut Client<W>,
     ends: StreamClient<I, O>,
+    past: Past,
 ) -> (StreamLeft<I, O>, ToldWith<Y>)
     requires table { client.old.table ≡ service.now.server.now }
     requires quiet { is_some client.old.asked ≡ false }
     ensures same { AreAlike client.old client.new }
     ensures streamed { HasStreamed (number_of client.old.who) client.old client.new (I.remaining ends.input)
         (O.contents ends.output) (O.contents result.0.wire.output) result.0.ended result.0.wire.events.list result.0.told
-        result.0.took_refreshes }
+        (terms_of result.0.took_refreshes past) }
     ensures told { result.1 ≡ result.0.told }
 {
     let StreamClient { input, output } = ends;
@@ -83,8 +85,12 @@ fn speak_over<
             return (left, ToldWith::nothing());
         }
     };
+    let terms = Terms {
+        takes_refreshes: took_refreshes,
+        past,
+    };
     service.server.figures().session_begins();
-    let left: SessionLeft<I, O, Y> = serve_session(service, client, input, output, took_refreshes);
+    let left: SessionLeft<I, O, Y> = serve_session(service, client, input, output, terms);
     service.server.figures().session_ends();
     let SessionLeft {
         wire,
@@ -100,12 +106,19 @@ fn speak_over<
     (left, told_with)
 }
 
-impl<I: Read + Drop, O: Write + Drop> Speaker for StreamClient<I, O> {
+/// A client whose ends are open, and what it is told of besides the log.
+#[derive(Drop)]
+pub(crate) struct StreamSpeaker<I: Read + Drop, O: Write + Drop> {
+    pub(crate) ends: StreamClient<I, O>,
+    pub(crate) past: Past,
+}
+
+impl<I: Read + Drop, O: Write + Drop> Speaker for StreamSpeaker<I, O> {
     type Left = StreamLeft<I, O>;
 
-    ghost spoken = { λ speaker old new left. HasStreamed (number_of old.who) old new (I.remaining speaker.input)
-        (O.contents speaker.output) (O.contents left.wire.output) left.ended left.wire.events.list left.told
-        left.took_refreshes };
+    ghost spoken = { λ speaker old new left. HasStreamed (number_of old.who) old new (I.remaining speaker.ends.input)
+        (O.contents speaker.ends.output) (O.contents left.wire.output) left.ended left.wire.events.list left.told
+        (terms_of left.took_refreshes speaker.past) };
 
     ghost told = { λ left. left.told };
 
@@ -120,7 +133,7 @@ impl<I: Read + Drop, O: Write + Drop> Speaker for StreamClient<I, O> {
     }
 }
 
-impl<R: Wait, I: Read + Drop, O: Write + Drop, Y: Evidence> Speaks<R, Y> for StreamClient<I, O> {
+impl<R: Wait, I: Read + Drop, O: Write + Drop, Y: Evidence> Speaks<R, Y> for StreamSpeaker<I, O> {
     fn speak<W: Follower + Drop, K: Acknowledges<Y>>(
         self,
         rt: &R,
@@ -135,7 +148,8 @@ impl<R: Wait, I: Read + Drop, O: Write + Drop, Y: Evidence> Speaks<R, Y> for Str
             acknowledger,
             server,
         };
-        speak_over::<W, R, I, O, Y, K>(&service, client, self)
+        let StreamSpeaker { ends, past } = self;
+        speak_over::<W, R, I, O, Y, K>(&service, client, ends, past)
     }
 }
 
@@ -149,6 +163,7 @@ pub struct PathClient<'a, F: Files, E: Print> {
     pub paths: EndPaths,
     /// Whether named pipes are opened again for another session.
     pub keeps: bool,
+    pub past: Past,
     pub attendant: &'a Attendant<F::File>,
 }
 
@@ -267,8 +282,8 @@ impl<'a, F: Files, E: Print> PathClient<'a, F, E> {
         requires table { client.old.table ≡ service.now.server.now }
         requires quiet { is_some client.old.asked ≡ false }
         ensures same { AreAlike client.old client.new }
-        ensures served { HasServedOnce (IsBetween F.File.remaining F.File.contents) (number_of client.old.who) client.old
-            client.new result.0 }
+        ensures served { HasServedOnce (IsBetween F.File.remaining F.File.contents self.now.past)
+            (number_of client.old.who) client.old client.new result.0 }
         ensures told { result.1 ≡ result.0.told }
         ensures keeps { result.0.end ≡ SessionEnd.Again → IsTrue self.now.keeps }
     {
@@ -300,7 +315,7 @@ impl<'a, F: Files, E: Print> PathClient<'a, F, E> {
         };
         let ends = StreamClient { input, output };
         let (left, told_with) = speak_over::<W, R, AttendedInput<'a, F::File>, F::File, Y, K>(
-            service, client, ends,
+            service, client, ends, self.past,
         );
         let StreamLeft {
             wire,
@@ -354,7 +369,8 @@ impl<'a, F: Files, E: Print> Speaker for PathClient<'a, F, E> {
     type Left = PathLeft;
 
     // The sessions that the client had, each between two ends that the system opened.
-    ghost spoken = { λ _ old new left. HasLeft (IsBetween F.File.remaining F.File.contents) (number_of old.who) old new left };
+    ghost spoken = { λ speaker old new left. HasLeft (IsBetween F.File.remaining F.File.contents speaker.past)
+        (number_of old.who) old new left };
 
     ghost told = { λ left. left.told };
 
@@ -379,8 +395,8 @@ impl<'a, F: Files, E: Print> PathClient<'a, F, E> {
         requires table { client.old.table ≡ service.now.server.now }
         requires quiet { is_some client.old.asked ≡ false }
         ensures same { AreAlike client.old client.new }
-        ensures left { HasLeft (IsBetween F.File.remaining F.File.contents) (number_of client.old.who) client.old client.new
-            result.0 }
+        ensures left { HasLeft (IsBetween F.File.remaining F.File.contents self.now.past) (number_of client.old.who)
+            client.old client.new result.0 }
         ensures told { result.1 ≡ result.0.told }
     {
         let mut told_with = ToldWith::nothing();

@@ -1,5 +1,5 @@
 -- What a session tells its client, in each of its formats.
-use Rattle.std.specs.Prelude.{ℕ, List, ◌++◌, codes, flat_map}
+use Rattle.std.specs.Prelude.{ℕ, List, ◌++◌, codes}
 use Rattle.ssb_report.specs.Replies.{Reply, Refreshed, Answered, Aborted, reply_text}
 use Rattle.ssb_text.specs.Numbers.{line_feed}
 use Rattle.ssb_formats.specs.Formats.{answers_parted}
@@ -28,10 +28,6 @@ reply_shown Table reply = parted_reply (answer_format Table) reply
 reply_shown Csv reply = parted_reply (answer_format Csv) reply
 reply_shown Markdown reply = parted_reply (answer_format Markdown) reply
 reply_shown Bars reply = parted_reply (answer_format Bars) reply
-
--- replies one after another
-abbrev pub replies_shown : ReplyFormat → List Reply → List ℕ
-replies_shown format replies = flat_map (reply_shown format) replies
 
 -- a text behind a label on a line of its own; in JSON it is the member of this name
 abbrev pub label_line : List ℕ → List ℕ → List ℕ

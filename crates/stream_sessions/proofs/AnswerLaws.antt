@@ -6,7 +6,6 @@ use Rattle.std.proofs.Math.Seq.{take-append_seam}
 use Rattle.std.proofs.lemmas.List.Concat.{flat_map-append}
 use Rattle.history.specs.Members.{number_of}
 use Rattle.history.specs.Tokens.{TokenRecord}
-use Rattle.ssb_formats.specs.ReplyTexts.{replies_shown, reply_shown}
 use Rattle.ssb_formats.specs.declared.reply_format.ReplyFormat.{ReplyFormat}
 use Rattle.ssb_report.specs.Replies.{Reply}
 use Rattle.ssb_script.specs.Requests.{RequestRecord, request_of}
@@ -17,7 +16,9 @@ use Rattle.stream_sessions.specs.FaultLine.{read_only_line}
 use Rattle.stream_sessions.specs.Replying.{LacksReply}
 use Rattle.stream_sessions.specs.Served.{AreServed, IsServed}
 use Rattle.stream_sessions.specs.Speaking.{IsTaken, SpeakingRecord, has_refresh, is_refresh, speaking}
+use Rattle.stream_sessions.specs.WithPast.{replies_told, reply_told}
 use Rattle.stream_sessions.specs.declared.manner.Manner.{Manner}
+use Rattle.stream_sessions.specs.declared.past.Past.{Past}
 use Rattle.stream_sessions.proofs.RequestLaws.{served_more}
 
 no_is : false ≡ true → ⊥
@@ -34,23 +35,23 @@ served_next old mid new front given one reply are same next =
     (subst (λ who. IsServed (number_of who) mid one reply new) same next)
 
 -- and one reply more is shown
-pub shown_next : (format : ReplyFormat) (given : List Reply) (reply : Reply) (start before after : List ℕ)
-    → before ≡ start ++ replies_shown format given → after ≡ before ++ reply_shown format reply
-    → after ≡ start ++ replies_shown format (given ++ reply ∷ [])
-shown_next format given reply start before after so_far added =
-    added ∙ ap (λ t. t ++ reply_shown format reply) so_far
-    ∙ append_assoc start (replies_shown format given) (reply_shown format reply)
-    ∙ ap (λ t. start ++ t) (sym (flat_map-append (reply_shown format) given (reply ∷ [])
-    ∙ ap (λ t. replies_shown format given ++ t) (append-nil (reply_shown format reply))))
+pub shown_next : (format : ReplyFormat) (past : Past) (given : List Reply) (reply : Reply) (start before after : List ℕ)
+    → before ≡ start ++ replies_told format past given → after ≡ before ++ reply_told format past reply
+    → after ≡ start ++ replies_told format past (given ++ reply ∷ [])
+shown_next format past given reply start before after so_far added =
+    added ∙ ap (λ t. t ++ reply_told format past reply) so_far
+    ∙ append_assoc start (replies_told format past given) (reply_told format past reply)
+    ∙ ap (λ t. start ++ t) (sym (flat_map-append (reply_told format past) given (reply ∷ [])
+    ∙ ap (λ t. replies_told format past given ++ t) (append-nil (reply_told format past reply))))
 
 -- all that was asked was served, and is a request that was answered
 pub adds_replies : (number : ℕ) (request : List ℕ) (old new : TokenRecord) (manner : Manner)
     (asked front : List RequestRecord) (given : List Reply) (before after : List ℕ)
     → SpellsScript most_records request asked → IsTaken (speaking old manner) asked → asked ≡ front
-    → AreServed number old front given new → after ≡ before ++ replies_shown manner.format given
+    → AreServed number old front given new → after ≡ before ++ replies_told manner.format manner.terms.past given
     → AddsAnswer number request (speaking old manner) (speaking new manner) before after
 adds_replies number request old new manner asked front given before after spelled taken whole are added = record {
-  text = replies_shown manner.format given;
+  text = replies_told manner.format manner.terms.past given;
   answered = inl (record {
     asked = front;
     spelled = subst (SpellsScript most_records request) whole spelled;
@@ -107,20 +108,20 @@ pub adds_nothing : (request : List ℕ) (old mid new : TokenRecord) (manner : Ma
     (start so_far written after : List ℕ)
     → SpellsScript most_records request asked → IsTaken (speaking old manner) asked → asked ≡ front ++ one ∷ rest
     → AreServed (number_of old.who) old front given mid → mid.who ≡ old.who
-    → so_far ≡ start ++ replies_shown manner.format given → LacksReply (number_of mid.who) mid new one so_far written
+    → so_far ≡ start ++ replies_told manner.format manner.terms.past given → LacksReply (number_of mid.who) mid new one so_far written
     → after ≡ take (length start) written
     → AddsNothing (number_of old.who) request (speaking old manner) (speaking new manner) start after
 adds_nothing request old mid new manner asked front rest one given start so_far written after spelled taken whole are
     same
     is lacks cut = record {
       broken = in_part request old mid new manner asked front rest one given spelled taken whole are same lacks.done;
-      added = cut_off start (replies_shown manner.format given) so_far written after lacks.part is lacks.added cut;
+      added = cut_off start (replies_told manner.format manner.terms.past given) so_far written after lacks.part is lacks.added cut;
     }
 
 -- that the session takes no refreshes was told
 pub adds_read_only : (number : ℕ) (request : List ℕ) (asked : List RequestRecord) (client : TokenRecord)
     (manner : Manner) (before after : List ℕ)
-    → SpellsScript most_records request asked → has_refresh asked ≡ true → manner.takes_refreshes ≡ false
+    → SpellsScript most_records request asked → has_refresh asked ≡ true → manner.terms.takes_refreshes ≡ false
     → after ≡ before ++ read_only_line manner.format
     → AddsAnswer number request (speaking client manner) (speaking client manner) before after
 adds_read_only number request asked client manner before after spelled has none added = record {

@@ -3,6 +3,7 @@ pub mod MomentLaws
 mod FormatLaws
 mod FaultTextLaws
 mod AnswerLaws
+mod PastLaws
 mod SessionLaws
 mod SpeakingLaws
 mod CourseLaws

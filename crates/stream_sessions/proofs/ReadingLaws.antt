@@ -1,4 +1,4 @@
--- Whether a session takes refreshes stays, and one that takes none commits nothing.
+-- The terms of a session stay, and one that takes no refreshes commits nothing.
 use Rattle.std.proofs.Common.{◌≡◌, ◌∙◌, ◌||◌, ℕ, Bool, true, false, List, [], ◌∷◌, ◌++◌, inl, inr, refl, sym, ap, Result, Ok, Err}
 use Rattle.std.proofs.lemmas.List.Folds.{list_any-append}
 use Rattle.history.specs.Tokens.{TokenRecord}
@@ -9,6 +9,7 @@ use Rattle.stream_sessions.specs.Conversation.{AddsReply, ConversesTo, IsConvers
 use Rattle.stream_sessions.specs.Events.{Event, Looks, Takes, Passes}
 use Rattle.stream_sessions.specs.ReadingOnly.{CommitsNothing}
 use Rattle.stream_sessions.specs.Served.{AreServed, IsServed}
+use Rattle.stream_sessions.specs.declared.manner.Terms.{Terms}
 use Rattle.stream_sessions.specs.declared.outcome.Served.{Served}
 use Rattle.stream_sessions.specs.declared.outcome.SessionError.{SessionError}
 use Rattle.stream_sessions.specs.Speaking.{IsTaken, SpeakingRecord, has_refresh, is_refresh}
@@ -27,7 +28,7 @@ parts_have_none first more none =
     neither (has_refresh first) (has_refresh more) (sym (list_any-append is_refresh first more) ∙ none)
 
 -- where no refreshes are taken, what is taken has none
-pub has_none : (old : SpeakingRecord) (asked : List RequestRecord) → old.takes_refreshes ≡ false → IsTaken old asked
+pub has_none : (old : SpeakingRecord) (asked : List RequestRecord) → old.terms.takes_refreshes ≡ false → IsTaken old asked
     → has_refresh asked ≡ false
 has_none old asked none (inl some) = absurd (not_both (sym some ∙ none))
 has_none old asked none (inr is) = is
@@ -53,33 +54,33 @@ all_mine number old new (request ∷ asked) (reply ∷ replies) none are =
     let both = neither (is_refresh request) (has_refresh asked) none in
     all_mine number are.0 new asked replies both.1 are.2 ∙ served_mine number old are.0 request reply both.0 are.1
 
--- a session goes on to take refreshes or not, and where it does not, nothing was committed
+-- the terms of a session stay, and where it takes no refreshes, nothing was committed
 record Stays (old new : SpeakingRecord) : Type 0 where
-  takes : new.takes_refreshes ≡ old.takes_refreshes
-  mine : old.takes_refreshes ≡ false → new.token.mine ≡ old.token.mine
+  terms : new.terms ≡ old.terms
+  mine : old.terms.takes_refreshes ≡ false → new.token.mine ≡ old.token.mine
 
 same_stays : (old new : SpeakingRecord) → new ≡ old → Stays old new
 same_stays old new same = record {
-  takes = ap (λ (s : SpeakingRecord). s.takes_refreshes) same;
+  terms = ap (λ (s : SpeakingRecord). s.terms) same;
   mine = λ none. ap (λ (s : SpeakingRecord). s.token.mine) same;
 }
 
 both_stay : (old mid new : SpeakingRecord) → Stays old mid → Stays mid new → Stays old new
 both_stay old mid new one two = record {
-  takes = two.takes ∙ one.takes;
-  mine = λ none. two.mine (one.takes ∙ none) ∙ one.mine none;
+  terms = two.terms ∙ one.terms;
+  mine = λ none. two.mine (ap (λ (t : Terms). t.takes_refreshes) one.terms ∙ none) ∙ one.mine none;
 }
 
 answered_stays : (number : ℕ) (request : List ℕ) (old new : SpeakingRecord) (text : List ℕ)
     → IsAnswered number request old new text → Stays old new
 answered_stays number request old new text (inl reported) = record {
-  takes = reported.keeps;
+  terms = reported.keeps;
   mine = λ none. all_mine number old.token new.token reported.asked reported.replies
       (has_none old reported.asked none reported.taken) reported.served;
 }
 answered_stays number request old new text (inr (inl refused)) = same_stays old new refused.unchanged
 answered_stays number request old new text (inr (inr (inl given))) = record {
-  takes = given.keeps;
+  terms = given.keeps;
   mine = λ none. ap (λ (t : TokenRecord). t.mine) given.unchanged;
 }
 answered_stays number request old new text (inr (inr (inr not_taken))) = same_stays old new not_taken.unchanged
@@ -88,7 +89,7 @@ broken_stays : (number : ℕ) (request : List ℕ) (old new : SpeakingRecord) �
     → Stays old new
 broken_stays number request old new (inl same) = same_stays old new same
 broken_stays number request old new (inr part) = record {
-  takes = part.keeps;
+  terms = part.keeps;
   mine = λ none. all_mine number old.token new.token part.asked part.replies
       (parts_have_none part.asked part.left (has_none old (part.asked ++ part.left) none part.taken)).0 part.served;
 }
@@ -119,11 +120,11 @@ converses_stays : (result : Result Served SessionError) (number : ℕ) (old now 
 converses_stays (Ok served) number old now events c = conversation_stays events true number old now [] c
 converses_stays (Err error) number old now events c = conversation_stays events c.0 number old now c.1 c.2
 
--- it takes refreshes to its end as it did when it began
-pub takes_stays : (result : Result Served SessionError) (number : ℕ) (old now : SpeakingRecord) (events : List Event)
-    → ConversesTo result number old now events → now.takes_refreshes ≡ old.takes_refreshes
-takes_stays result number old now events c = (converses_stays result number old now events c).takes
+-- its terms are to its end as they were when it began
+pub terms_stay : (result : Result Served SessionError) (number : ℕ) (old now : SpeakingRecord) (events : List Event)
+    → ConversesTo result number old now events → now.terms ≡ old.terms
+terms_stay result number old now events c = (converses_stays result number old now events c).terms
 
 pub commits_nothing : (events : List Event) → CommitsNothing events
-commits_nothing events result number old new session =
-    (converses_stays result number _ _ events session.1).mine refl
+commits_nothing events result number terms old new none session =
+    (converses_stays result number _ _ events session.1).mine none

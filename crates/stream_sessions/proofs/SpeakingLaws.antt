@@ -1,5 +1,5 @@
 -- A session that took a client from one token to another, whatever its last format is.
-use Rattle.std.proofs.Common.{◌≡◌, ◌∙◌, ℕ, Bool, List, [], Result, Ok, Err, ap, subst, sym}
+use Rattle.std.proofs.Common.{◌≡◌, ◌∙◌, ℕ, List, [], Result, Ok, Err, ap, subst, sym}
 use Rattle.std.specs.Prelude.{IfErr, IfOk}
 use Rattle.history.specs.Members.{number_of}
 use Rattle.history.specs.Tokens.{TokenRecord}
@@ -10,18 +10,19 @@ use Rattle.stream_sessions.specs.OneRequest.{AreAlike}
 use Rattle.stream_sessions.specs.Session.{Breaks, Serves}
 use Rattle.stream_sessions.specs.Speaking.{InSession, first_format, manner_of, speaking}
 use Rattle.stream_sessions.specs.declared.manner.Manner.{Manner}
+use Rattle.stream_sessions.specs.declared.manner.Terms.{Terms}
 use Rattle.stream_sessions.specs.declared.outcome.Served.{Served}
 use Rattle.stream_sessions.specs.declared.outcome.SessionError.{SessionError}
-use Rattle.stream_sessions.proofs.ReadingLaws.{takes_stays}
+use Rattle.stream_sessions.proofs.ReadingLaws.{terms_stay}
 
 -- what is said of a session that was left
-pub record IsLeftSession (result : Result Served SessionError) (takes : Bool) (old new : TokenRecord) (wire after : WireRecord) :
+pub record IsLeftSession (result : Result Served SessionError) (terms : Terms) (old new : TokenRecord) (wire after : WireRecord) :
     Type 0 where
-  pub served : IfOk result (λ served. InSession takes old new (λ first last. Serves served (number_of old.who) first last
+  pub served : IfOk result (λ served. InSession terms old new (λ first last. Serves served (number_of old.who) first last
       wire.unread after.unread wire.written after.written))
-  pub broken : IfErr result (λ error. InSession takes old new (λ first last. Breaks error (number_of old.who) first last
+  pub broken : IfErr result (λ error. InSession terms old new (λ first last. Breaks error (number_of old.who) first last
       wire.unread after.unread wire.written after.written))
-  pub conversed : InSession takes old new (λ first last. ConversesTo result (number_of old.who) first last after.events)
+  pub conversed : InSession terms old new (λ first last. ConversesTo result (number_of old.who) first last after.events)
   pub same : AreAlike old new
 
 -- a course with these parts
@@ -30,31 +31,31 @@ at client manner wire held = record { client = speaking client manner; wire = wi
 
 left_session : (result : Result Served SessionError) (old new : TokenRecord) (wire after : WireRecord) (manner : Manner)
     (held : List ℕ)
-    → IsLeft result (at old (manner_of manner.takes_refreshes first_format) wire []) (at new manner after held)
-    → IsLeftSession result manner.takes_refreshes old new wire after
+    → IsLeft result (at old (manner_of manner.terms first_format) wire []) (at new manner after held)
+    → IsLeftSession result manner.terms old new wire after
 left_session (Ok served) old new wire after manner held left =
     record { served = (manner.format, left.1); broken = tt; conversed = (manner.format, left.2); same = left.0 }
 left_session (Err error) old new wire after manner held left =
     record { served = tt; broken = (manner.format, left.1); conversed = (manner.format, left.2); same = left.0 }
 
--- it takes refreshes to its end as it did when it began
+-- its terms are to its end as they were when it began
 left_stays : (result : Result Served SessionError) (first last : CourseRecord) → IsLeft result first last
-    → last.client.takes_refreshes ≡ first.client.takes_refreshes
-left_stays (Ok served) first last left = takes_stays (Ok served) (number_in first) first.client last.client _ left.2
-left_stays (Err error) first last left = takes_stays (Err error) (number_in first) first.client last.client _ left.2
+    → last.client.terms ≡ first.client.terms
+left_stays (Ok served) first last left = terms_stay (Ok served) (number_in first) first.client last.client _ left.2
+left_stays (Err error) first last left = terms_stay (Err error) (number_in first) first.client last.client _ left.2
 
 -- the same of a session as it was made
-pub begun_session : (result : Result Served SessionError) (takes : Bool) (old new : TokenRecord)
+pub begun_session : (result : Result Served SessionError) (terms : Terms) (old new : TokenRecord)
     (was wire after : WireRecord) (first manner : Manner) (none held : List ℕ)
-    → was ≡ wire → first ≡ manner_of takes first_format → none ≡ []
-    → IsLeft result (at old first was none) (at new manner after held) → IsLeftSession result takes old new wire after
-begun_session result takes old new was wire after first manner none held same begins empty left =
+    → was ≡ wire → first ≡ manner_of terms first_format → none ≡ []
+    → IsLeft result (at old first was none) (at new manner after held) → IsLeftSession result terms old new wire after
+begun_session result terms old new was wire after first manner none held same begins empty left =
     let last = at new manner after held in
-    let stays = left_stays result (at old first was none) last left ∙ ap (λ (m : Manner). m.takes_refreshes) begins in
-    let is : at old first was none ≡ at old (manner_of manner.takes_refreshes first_format) wire [] =
+    let stays = left_stays result (at old first was none) last left ∙ ap (λ (m : Manner). m.terms) begins in
+    let is : at old first was none ≡ at old (manner_of manner.terms first_format) wire [] =
     ap (λ m. at old m was none) (begins ∙ ap (λ t. manner_of t first_format) (sym stays))
-    ∙ ap (λ w. at old (manner_of manner.takes_refreshes first_format) w none) same
-    ∙ ap (at old (manner_of manner.takes_refreshes first_format) wire) empty in
-    subst (λ (t : Bool). IsLeftSession result t old new wire after) stays
+    ∙ ap (λ w. at old (manner_of manner.terms first_format) w none) same
+    ∙ ap (at old (manner_of manner.terms first_format) wire) empty in
+    subst (λ (t : Terms). IsLeftSession result t old new wire after) stays
     (left_session result old new wire after manner held
     (subst (λ (course : CourseRecord). IsLeft result course last) is left))

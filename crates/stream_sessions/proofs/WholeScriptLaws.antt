@@ -4,7 +4,6 @@ use Rattle.std.specs.List.{AllZip, concat, flat_map}
 use Rattle.std.proofs.lemmas.Grind.{flat_map-append}
 use Rattle.history.specs.Tokens.{TokenRecord}
 use Rattle.ssb_script.proofs.ScriptLaws.{script_of_requests_of}
-use Rattle.ssb_formats.specs.ReplyTexts.{replies_shown, reply_shown}
 use Rattle.ssb_formats.specs.declared.reply_format.ReplyFormat.{ReplyFormat}
 use Rattle.ssb_report.specs.Replies.{Reply}
 use Rattle.ssb_script.specs.Requests.{RequestRecord}
@@ -17,16 +16,18 @@ use Rattle.stream_sessions.specs.Answers.{AreAnswered, HasFault, IsAnswered}
 use Rattle.stream_sessions.specs.Session.{all_of}
 use Rattle.stream_sessions.specs.Speaking.{IsTaken, SpeakingRecord, has_refresh}
 use Rattle.stream_sessions.specs.WholeScripts.{HasRepliesOfScript}
+use Rattle.stream_sessions.specs.WithPast.{replies_told, reply_told}
+use Rattle.stream_sessions.specs.declared.manner.Terms.{Terms}
 use Rattle.stream_sessions.proofs.FormatLaws.{spelled_names_none}
 use Rattle.stream_sessions.proofs.ReadingLaws.{has_none, parts_have_none}
 
--- a client was served all this, these are the replies in its format, and its manner stays
+-- a client was served all this, these are the replies in its manner, which stays
 record IsToldAll (number : ℕ) (old new : SpeakingRecord) (wanted : List RequestRecord) (text : List ℕ) : Type 0 where
   replies : List Reply
   served : AreServed number old.token wanted replies new.token
-  told : text ≡ replies_shown old.format replies
+  told : text ≡ replies_told old.format old.terms.past replies
   stays : new.format ≡ old.format
-  keeps : new.takes_refreshes ≡ old.takes_refreshes
+  keeps : new.terms ≡ old.terms
 
 -- what is served in turn is served as one
 served_both : (number : ℕ) (old mid new : TokenRecord) (first more : List RequestRecord) (one two : List Reply)
@@ -45,9 +46,12 @@ told_both number old mid new first more text texts a b = record {
   replies = a.replies ++ b.replies;
   served = served_both number old.token mid.token new.token first more a.replies b.replies a.served b.served;
   told = ap (λ t. t ++ texts) a.told
-      ∙ (ap (λ t. replies_shown old.format a.replies ++ t) b.told
-      ∙ (ap (λ (format : ReplyFormat). replies_shown old.format a.replies ++ replies_shown format b.replies) a.stays
-      ∙ sym (flat_map-append (reply_shown old.format) a.replies b.replies)));
+      ∙ (ap (λ t. replies_told old.format old.terms.past a.replies ++ t) b.told
+      ∙ (ap (λ (format : ReplyFormat). replies_told old.format old.terms.past a.replies
+      ++ replies_told format mid.terms.past b.replies) a.stays
+      ∙ (ap (λ (terms : Terms). replies_told old.format old.terms.past a.replies
+      ++ replies_told old.format terms.past b.replies) a.keeps
+      ∙ sym (flat_map-append (reply_told old.format old.terms.past) a.replies b.replies))));
   stays = b.stays ∙ a.stays;
   keeps = b.keeps ∙ a.keeps;
 }
@@ -66,9 +70,9 @@ taken_first : (old : SpeakingRecord) (first more : List RequestRecord) → IsTak
 taken_first old first more (inl all) = inl all
 taken_first old first more (inr none) = inr (parts_have_none first more none).0
 
-taken_more : (old mid : SpeakingRecord) (first more : List RequestRecord) → mid.takes_refreshes ≡ old.takes_refreshes
+taken_more : (old mid : SpeakingRecord) (first more : List RequestRecord) → mid.terms ≡ old.terms
     → IsTaken old (first ++ more) → IsTaken mid more
-taken_more old mid first more same (inl all) = inl (same ∙ all)
+taken_more old mid first more same (inl all) = inl (ap (λ (t : Terms). t.takes_refreshes) same ∙ all)
 taken_more old mid first more same (inr none) = inr (parts_have_none first more none).1
 
 -- a request that is taken is not refused for a refresh
@@ -106,7 +110,7 @@ requests_told number old new [] [] [] spells taken are = record {
   served = ap (λ (client : SpeakingRecord). client.token) are;
   told = refl;
   stays = ap (λ (client : SpeakingRecord). client.format) are;
-  keeps = ap (λ (client : SpeakingRecord). client.takes_refreshes) are;
+  keeps = ap (λ (client : SpeakingRecord). client.terms) are;
 }
 requests_told number old new [] (text ∷ texts) each spells taken are = absurd are
 requests_told number old new [] [] (asked ∷ each) spells taken are = absurd spells

@@ -1,6 +1,6 @@
 -- What a request of a live session is answered.
 use Rattle.std.specs.Prelude.{◌≡◌, ℕ, List, [], ◌∷◌, ◌++◌, ◌⊎◌, Bool, true, false}
-use Rattle.ssb_formats.specs.ReplyTexts.{format_shown, replies_shown}
+use Rattle.ssb_formats.specs.ReplyTexts.{format_shown}
 use Rattle.ssb_report.specs.Replies.{Reply}
 use Rattle.ssb_script.specs.Requests.{RequestRecord}
 use Rattle.ssb_script.specs.Scripts.{SpellsScript, IsFirstFault, EndsOpen, most_records}
@@ -10,6 +10,7 @@ use Rattle.stream_sessions.specs.FaultLine.{fault_line, read_only_line}
 use Rattle.stream_sessions.specs.FormatRequest.{NamesFormat, NamesNone}
 use Rattle.stream_sessions.specs.Served.{AreServed}
 use Rattle.stream_sessions.specs.Speaking.{IsTaken, SpeakingRecord, has_refresh}
+use Rattle.stream_sessions.specs.WithPast.{replies_told}
 
 -- whether a fault is one of a text, and not of what kept it from being read
 abbrev pub is_of_text : ScriptError → Bool
@@ -22,16 +23,16 @@ abbrev pub HasFault : List ℕ → ScriptError → Type 0
 HasFault text fault = IsFirstFault most_records text fault ⊎ EndsOpen most_records text fault
 
 -- the session takes a request, the client was served all that it asks, as the loop of scripts serves it, and these are
--- the replies in its format
+-- the replies in its format; the numbers in them count the commits that came before
 pub record IsReported (number : ℕ) (request : List ℕ) (old new : SpeakingRecord) (text : List ℕ) : Type 0 where
   pub asked : List RequestRecord
   pub spelled : SpellsScript most_records request asked
   pub taken : IsTaken old asked
   pub replies : List Reply
   pub served : AreServed number old.token asked replies new.token
-  pub report : text ≡ replies_shown old.format replies
+  pub report : text ≡ replies_told old.format old.terms.past replies
   pub stays : new.format ≡ old.format
-  pub keeps : new.takes_refreshes ≡ old.takes_refreshes
+  pub keeps : new.terms ≡ old.terms
 
 -- a request has a fault, names no format, and is told that in the client's format; nothing was done
 pub record IsRefused (request : List ℕ) (old new : SpeakingRecord) (text : List ℕ) : Type 0 where
@@ -46,7 +47,7 @@ pub record IsGivenFormat (request : List ℕ) (old new : SpeakingRecord) (text :
   pub names : NamesFormat request new.format
   pub told : text ≡ format_shown new.format
   pub unchanged : new.token ≡ old.token
-  pub keeps : new.takes_refreshes ≡ old.takes_refreshes
+  pub keeps : new.terms ≡ old.terms
 
 -- a request has no fault, but a refresh, and the session takes none: the client is told that, whatever else the
 -- request asks; nothing was done
@@ -54,7 +55,7 @@ pub record IsNotTaken (request : List ℕ) (old new : SpeakingRecord) (text : Li
   pub asked : List RequestRecord
   pub spelled : SpellsScript most_records request asked
   pub has : has_refresh asked ≡ true
-  pub takes_none : old.takes_refreshes ≡ false
+  pub takes_none : old.terms.takes_refreshes ≡ false
   pub line : text ≡ read_only_line old.format
   pub unchanged : new ≡ old
 
@@ -83,7 +84,7 @@ pub record IsServedInPart (number : ℕ) (request : List ℕ) (old new : Speakin
   pub replies : List Reply
   pub served : AreServed number old.token asked replies new.token
   pub stays : new.format ≡ old.format
-  pub keeps : new.takes_refreshes ≡ old.takes_refreshes
+  pub keeps : new.terms ≡ old.terms
 
 abbrev pub BreaksOff : ℕ → List ℕ → SpeakingRecord → SpeakingRecord → Type 0
 BreaksOff number request old new = (new ≡ old) ⊎ IsServedInPart number request old new

@@ -1,5 +1,6 @@
 pub mod Served
 pub mod Replies
+pub mod WithPast
 pub mod Keeping
 pub mod OneRequest
 pub mod Moment

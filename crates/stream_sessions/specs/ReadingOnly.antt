@@ -4,6 +4,7 @@ use Rattle.history.specs.Tokens.{TokenRecord}
 use Rattle.stream_sessions.specs.Conversation.{ConversesTo}
 use Rattle.stream_sessions.specs.Events.{Event}
 use Rattle.stream_sessions.specs.Speaking.{InSession}
+use Rattle.stream_sessions.specs.declared.manner.Terms.{Terms}
 use Rattle.stream_sessions.specs.declared.outcome.Served.{Served}
 use Rattle.stream_sessions.specs.declared.outcome.SessionError.{SessionError}
 
@@ -11,5 +12,6 @@ use Rattle.stream_sessions.specs.declared.outcome.SessionError.{SessionError}
 -- the commits that it had made before, and no more
 abbrev pub CommitsNothing : List Event → Type 0
 CommitsNothing events =
-    (result : Result Served SessionError) (number : ℕ) (old new : TokenRecord)
-    → InSession false old new (λ first last. ConversesTo result number first last events) → new.mine ≡ old.mine
+    (result : Result Served SessionError) (number : ℕ) (terms : Terms) (old new : TokenRecord)
+    → terms.takes_refreshes ≡ false
+    → InSession terms old new (λ first last. ConversesTo result number first last events) → new.mine ≡ old.mine

@@ -6,31 +6,36 @@ use Rattle.ssb_formats.specs.declared.reply_format.ReplyFormat.{ReplyFormat}
 use Rattle.ssb_formats.specs.declared.reply_format.ReplyFormat.TheVariants.{Report}
 use Rattle.ssb_script.specs.Requests.{RequestRecord, Refresh, Ask, Abort}
 use Rattle.stream_sessions.specs.declared.manner.Manner.{Manner}
+use Rattle.stream_sessions.specs.declared.manner.Terms.{Terms}
+use Rattle.stream_sessions.specs.declared.past.Past.{Past}
 
--- a client's token, the format of the replies to it, and whether its session takes refreshes
+-- a client's token, the format of the replies to it, and the terms of its session
 pub record SpeakingRecord : Type 0 where
   pub token : TokenRecord
   pub format : ReplyFormat
-  pub takes_refreshes : Bool
+  pub terms : Terms
 
 abbrev pub speaking : TokenRecord → Manner → SpeakingRecord
-speaking token manner =
-    record { token = token; format = manner.format; takes_refreshes = manner.takes_refreshes }
+speaking token manner = record { token = token; format = manner.format; terms = manner.terms }
 
 -- the format that a session begins with
 abbrev pub first_format : ReplyFormat
 first_format = Report
 
--- the manner of a session in this format that takes refreshes, or does not
-abbrev pub manner_of : Bool → ReplyFormat → Manner
-manner_of takes_refreshes format = record { format = format; takes_refreshes = takes_refreshes }
+-- the terms of a session that takes refreshes or not, where so many commits came before
+abbrev pub terms_of : Bool → Past → Terms
+terms_of takes_refreshes past = record { takes_refreshes = takes_refreshes; past = past }
 
--- of a session that began so, taking refreshes or not, and took a client from one token to another, whatever format it
--- ended with: it took refreshes to its end, or it did not
-abbrev pub InSession : Bool → TokenRecord → TokenRecord → (SpeakingRecord → SpeakingRecord → Type 0) → Type 0
-InSession takes_refreshes old new Took =
+-- the manner of a session of these terms in this format
+abbrev pub manner_of : Terms → ReplyFormat → Manner
+manner_of terms format = record { format = format; terms = terms }
+
+-- of a session that began on these terms, and took a client from one token to another, whatever format it ended with:
+-- the terms were the same to its end
+abbrev pub InSession : Terms → TokenRecord → TokenRecord → (SpeakingRecord → SpeakingRecord → Type 0) → Type 0
+InSession terms old new Took =
     (format : ReplyFormat)
-    × Took (speaking old (manner_of takes_refreshes first_format)) (speaking new (manner_of takes_refreshes format))
+    × Took (speaking old (manner_of terms first_format)) (speaking new (manner_of terms format))
 
 -- whether what is asked is a refresh
 abbrev pub is_refresh : RequestRecord → Bool
@@ -44,4 +49,4 @@ has_refresh asked = list_any is_refresh asked
 
 -- a session takes what is asked: it takes refreshes, or there is none in it
 abbrev pub IsTaken : SpeakingRecord → List RequestRecord → Type 0
-IsTaken client asked = (client.takes_refreshes ≡ true) ⊎ (has_refresh asked ≡ false)
+IsTaken client asked = (client.terms.takes_refreshes ≡ true) ⊎ (has_refresh asked ≡ false)

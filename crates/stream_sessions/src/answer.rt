@@ -25,18 +25,19 @@ use ssb_script::{MOST_RECORDS, Request, Script, ScriptError, read_script};
 use std::alloc::{AllocError, Global};
 use std::sync::Wait;
 
-// Serves one thing that a request asks, and adds the reply. Where memory runs out, a part of it may have been added.
+// Serves one thing that a request asks, and adds the reply, told with the commits that came before. Where memory runs
+// out, a part of it may have been added.
 fn add_reply<W: Follower + Drop, R: Wait, K>(
     service: &Service<'_, W, R, K>,
     client: &mut Client<W>,
-    format: ReplyFormat,
+    manner: Manner,
     request: Request,
     replies: &mut Vec<u8>,
 ) -> Result<(), AllocError>
     requires table { client.old.table ≡ service.now.server.now }
     requires quiet { is_some client.old.asked ≡ false }
     ensures added { MatchResult result
-        (λ _. RepliesTo (number_of client.old.who) format client.old client.new (request_of request) replies.old.items
+        (λ _. RepliesTo (number_of client.old.who) manner client.old client.new (request_of request) replies.old.items
         replies.new.items)
         (λ _. LacksReply (number_of client.old.who) client.old client.new (request_of request) replies.old.items
         replies.new.items) }
@@ -46,7 +47,8 @@ fn add_reply<W: Follower + Drop, R: Wait, K>(
     let Ok(reply) = reply_to(service, client, number, request) else {
         return Err(AllocError);
     };
-    match reply.write_as(service.alloc, replies, format) {
+    let told = reply.with_past(manner.terms.past);
+    match told.write_as(service.alloc, replies, manner.format) {
         Ok(()) => Ok(()),
         Err(_) => Err(AllocError),
     }
@@ -73,7 +75,7 @@ fn report<W: Follower + Drop, R: Wait, K>(
     let before = replies.len();
     let mut requests = script.requests.into_iter();
     while let Some(request) = requests.next() {
-        match add_reply(service, client, manner.format, request, replies) {
+        match add_reply(service, client, manner, request, replies) {
             Ok(()) => {}
             Err(_) => {
                 replies.truncate(before);
@@ -108,7 +110,7 @@ fn has_refresh(script: &Script) -> bool
 // Adds what is told of a request that has a refresh where the session takes none; nothing where memory runs out.
 fn refuse_refresh(alloc: Global, manner: Manner, replies: &mut Vec<u8>) -> Result<(), AllocError>
     ensures { (number : ℕ) (request : List ℕ) (asked : List RequestRecord) (client : TokenRecord)
-        → SpellsScript most_records request asked → has_refresh asked ≡ true → manner.takes_refreshes ≡ false
+        → SpellsScript most_records request asked → has_refresh asked ≡ true → manner.terms.takes_refreshes ≡ false
         → MatchResult result
         (λ _. AddsAnswer number request (speaking client manner) (speaking client manner) replies.old.items
         replies.new.items)
@@ -143,7 +145,7 @@ fn report_taken<W: Follower + Drop, R: Wait, K>(
         replies.old.items replies.new.items) }
     ensures same { AreAlike client.old client.new }
 {
-    if manner.takes_refreshes || !has_refresh(&script) {
+    if manner.terms.takes_refreshes || !has_refresh(&script) {
         report(service, client, manner, script, replies)
     } else {
         refuse_refresh(service.alloc, manner, replies)
@@ -281,11 +283,11 @@ pub(crate) fn answer_read<W: Follower + Drop, R: Wait, K>(
         replies.old.items replies.new.items) }
     ensures same { AreAlike client.old client.new }
 {
-    if !manner.takes_refreshes && is_refresh(&request) {
+    if !manner.terms.takes_refreshes && is_refresh(&request) {
         return refuse_refresh(service.alloc, manner, replies);
     }
     let before = replies.len();
-    match add_reply(service, client, manner.format, request, replies) {
+    match add_reply(service, client, manner, request, replies) {
         Ok(()) => Ok(()),
         Err(_) => {
             replies.truncate(before);

@@ -17,8 +17,9 @@
 //! was answered by the report of what it asks, as the loop of scripts serves it, or by the line of its fault, which
 //! changed nothing (`specs/Answers.antt`); the client went through exactly those, in order; and this text was written.
 //! A request may name a format, in which the client is told from there on (`specs/FormatRequest.antt`): so a session's
-//! state is the client and its format, and whether it takes refreshes, which stays (`specs/Speaking.antt`): one that
-//! takes none tells `fault: 68 ReadOnly` of each request that has one. A session that breaks says how many requests
+//! state is the client and its format, and its [`Terms`], which stay (`specs/Speaking.antt`). One that takes no
+//! refreshes tells `fault: 68 ReadOnly` of each request that has one. Where commits came before those of the log
+//! ([`Past`]), the numbers in replies count them (`specs/WithPast.antt`). A session that breaks says how many requests
 //! were answered.
 //!
 //! Requests come and replies leave by a [`Wire`] alone, whose history contracts see (`specs/Conversation.antt`): a text
@@ -33,7 +34,7 @@
 //!
 //! ```text
 //! serve_requests(&service, &mut client, script, &mut report, &mut told, &mut NoMeter)?;
-//! let SessionLeft { wire, outcome } = serve_session(&service, &mut client, input, output, true);
+//! let SessionLeft { wire, outcome } = serve_session(&service, &mut client, input, output, terms);
 //! let (closed, told) = wire.close();
 //! ```
 #![tactic(auto)]
@@ -50,6 +51,7 @@ pub mod laws;
 mod manner;
 mod meter;
 mod outcome;
+mod past;
 mod reply;
 mod requests;
 mod serve_error;
@@ -59,10 +61,13 @@ mod speaks;
 mod step;
 mod told_with;
 mod wire;
+mod with_past;
 
 pub use acknowledges::{Acknowledges, AtOnce, Evidence, NotAcknowledged, Nothing};
+pub use manner::Terms;
 pub use meter::{Meter, NoMeter, RequestKind};
 pub use outcome::{Ending, ReadOnly, Served, SessionError, SessionFault};
+pub use past::{MOST_PAST, Past};
 pub use reply::Reply;
 pub use requests::{serve_request, serve_requests};
 pub use serve_error::{ServeError, ServeStop};

@@ -12,7 +12,7 @@ ghost use Rattle.stream_sessions.specs.Speaking.{InSession, first_format, manner
 
 use crate::acknowledges::{Acknowledges, Evidence};
 use crate::ahead::Requests;
-use crate::manner::Manner;
+use crate::manner::{Manner, Terms};
 use crate::outcome::{Ending, Served, SessionError, SessionFault};
 use crate::service::Service;
 use crate::step::Step;
@@ -41,21 +41,21 @@ pub struct SessionLeft<I: Read + Drop, O: Write + Drop, E: Evidence> {
 
 impl<I: Read + Drop, O: Write + Drop, E: Evidence> Session<I, O, E> {
     // A session that begins.
-    fn new(alloc: Global, input: BufReader<I>, output: O, takes_refreshes: bool) -> Session<I, O, E>
+    fn new(alloc: Global, input: BufReader<I>, output: O, terms: Terms) -> Session<I, O, E>
         ensures wire { result.wire ≡ record {
           at_hand = reader_buffer input;
           unread = reader_remaining I.remaining input;
           written = O.contents output;
           events = [];
         } }
-        ensures manner { result.manner ≡ manner_of takes_refreshes first_format }
+        ensures manner { result.manner ≡ manner_of terms first_format }
         ensures none_held { result.replies.items ≡ [] }
     {
         Session {
             wire: Wire::new(input, output),
             manner: Manner {
                 format: ReplyFormat::Report,
-                takes_refreshes,
+                terms,
             },
             replies: Vec::new(alloc),
         }
@@ -149,7 +149,8 @@ impl<I: Read + Drop, O: Write + Drop, E: Evidence> Session<I, O, E> {
 /// report, or by the line of its fault, as `fault: 70 BadLine 2`; it then changed nothing, and the session goes on. At
 /// the end of the input the rest is answered likewise, where there is any. A request that is too long is told as soon as
 /// it is known. Behind a request that names a format, as `format|json`, all this is told in that format. A session that
-/// takes no refreshes does nothing of a request that has one, and tells `fault: 68 ReadOnly`.
+/// takes no refreshes does nothing of a request that has one, and tells `fault: 68 ReadOnly`. Each number of commits
+/// that is told counts those that came before the first of the log.
 ///
 /// Replies are held while whole requests are at hand in the input's buffer, 64 KiB of them at most and one more, and
 /// are handed on before the session waits for its client, and at its end, once there is the evidence of all commits that
@@ -170,22 +171,22 @@ pub fn serve_session<
     client: &mut Client<W>,
     input: BufReader<I>,
     output: O,
-    takes_refreshes: bool,
+    terms: Terms,
 ) -> SessionLeft<I, O, E>
     requires table { client.old.table ≡ service.now.server.now }
     requires quiet { is_some client.old.asked ≡ false }
-    ensures served { IfOk result.outcome (λ served. InSession takes_refreshes client.old client.new (λ first last.
+    ensures served { IfOk result.outcome (λ served. InSession terms client.old client.new (λ first last.
         Serves served (number_of client.old.who) first last (reader_remaining I.remaining input) result.wire.unread
         (O.contents output) result.wire.written)) }
-    ensures broken { IfErr result.outcome (λ error. InSession takes_refreshes client.old client.new (λ first last.
+    ensures broken { IfErr result.outcome (λ error. InSession terms client.old client.new (λ first last.
         Breaks error (number_of client.old.who) first last (reader_remaining I.remaining input) result.wire.unread
         (O.contents output) result.wire.written)) }
     // What was read and what was passed on, in one order: evidence before each text, and no reply kept back at a wait.
-    ensures conversed { InSession takes_refreshes client.old client.new (λ first last. ConversesTo result.outcome
+    ensures conversed { InSession terms client.old client.new (λ first last. ConversesTo result.outcome
         (number_of client.old.who) first last result.wire.events) }
     ensures same { AreAlike client.old client.new }
 {
-    let mut session = Session::new(service.alloc, input, output, takes_refreshes);
+    let mut session = Session::new(service.alloc, input, output, terms);
     let outcome = session.serve(service, client);
     let Session {
         wire,

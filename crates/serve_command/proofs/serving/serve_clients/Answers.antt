@@ -3,13 +3,15 @@ use Rattle.std.specs.Prelude.{All}
 use Rattle.serve_command.proofs.JournalLaws.{all_written, disk_there, none_placed, told_is_kept}
 use Rattle.serve_command.proofs.ServedLaws.{all_served, serves_clients}
 use Rattle.serve_command.proofs.StatusLaws.{serving_failed, serving_told}
+use Rattle.serve_command.specs.Sessions.{IsBetween}
 use Rattle.serve_command.specs.declared.speakers.PathLeft.{PathLeft}
 use Rattle.serve_command.proofs.serving.serve_clients.Goals as goal
 
 pub returns-in-Ok-run_over-clause-served : goal.returns-in-Ok-run_over-clause-served
 returns-in-Ok-run_over-clause-served g c = λ closed texts are.
-    serves_clients _ _ _ texts _ _ _ _ _ _ (c.in-Ok-run_over.ensures.run texts are)
-    (sym c.in-Ok.speakers.ok.0 ∙ c.in-Ok.ensures)
+    serves_clients (λ speaker. speaker.past) (IsBetween g.F.File.Read.remaining g.F.File.Write.contents)
+    c.args.settings.past _ _ texts _ _ _ _ _ _ c.in-Ok.ensures.past (c.in-Ok-run_over.ensures.run texts are)
+    (sym c.in-Ok.speakers.ok.0 ∙ c.in-Ok.ensures.each)
     (λ place one here. told_is_kept g.P.Disk.Disk.may_leave g.P.Disk.Disk.seen (λ left. left.told) _ _ _ _ place one
     _ c.in-Ok-run_over.ensures.kept c.in-Ok-run_over.ensures.told here c.disk_of.ensures
     (λ zero. all_written _ _ _ c.was_written-written.ensures.written (c.tell_clients.ensures.written zero)))

@@ -6,7 +6,7 @@ use Rattle.serve_command.proofs.serving.serve_stream.Goals as goal
 
 pub returns-in-Ok-clause-ended : goal.returns-in-Ok-clause-ended
 returns-in-Ok-clause-ended g c = λ texts are. rw c.into_output.ensures
-    (ends_alone _ _ _ _ texts _ _ _ _ _ _ (c.in-Ok.ensures.ended texts are)
+    (ends_alone _ _ c.args.settings.past _ _ texts _ _ _ _ _ _ (c.in-Ok.ensures.ended texts are)
     (λ log told kept. kept_on_disk g.P.Disk.Disk.may_leave g.P.Disk.Disk.seen _ _ log told _ kept c.disk_of.ensures
     (λ zero. all_written _ _ _ c.was_written-written.ensures.written (c.tell_end.ensures.written zero)))
     c.tell_end.ensures.served

@@ -11,7 +11,7 @@ pub returns-then-is_refresh-clause-answered : goal.returns-then-is_refresh-claus
 returns-then-is_refresh-clause-answered g c = λ text spelled.
     let one = request_of c.args.request in
     let is : is_refresh one ≡ true = search rules in
-    let none : c.args.manner.takes_refreshes ≡ false = search rules in
+    let none : c.args.manner.terms.takes_refreshes ≡ false = search rules in
     c.refuse_refresh.ensures (number_of c.args.client.now.who) text (one ∷ []) c.args.client.now spelled
     (ap (λ b. b || false) is) none
 
@@ -28,7 +28,7 @@ returns-in-Ok-clause-answered g c = λ text spelled.
     adds_replies (number_of c.args.client.now.who) text c.args.client.now c.add_reply.new.client c.args.manner
     (one ∷ []) (one ∷ []) (next.reply ∷ []) before c.add_reply.new.replies.items spelled taken refl
     (c.add_reply.new.client, next.served, refl)
-    (shown_next c.args.manner.format [] next.reply before before c.add_reply.new.replies.items (sym (append-nil before))
+    (shown_next c.args.manner.format c.args.manner.terms.past [] next.reply before before c.add_reply.new.replies.items (sym (append-nil before))
     next.added)
 
 pub returns-in-Err-clause-answered : goal.returns-in-Err-clause-answered

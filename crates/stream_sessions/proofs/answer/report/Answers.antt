@@ -30,7 +30,7 @@ loop-request-preserved g c =
           ∙ sym (append_assoc inv.0 (one ∷ []) (map request_of left)),
       served_next c.args.client.now c.loop-request.client c.add_reply.new.client inv.0 inv.1 one next.reply inv.3
           inv.5.who next.served,
-      shown_next c.args.manner.format inv.1 next.reply c.args.replies.now.items c.loop-request.replies.items
+      shown_next c.args.manner.format c.args.manner.terms.past inv.1 next.reply c.args.replies.now.items c.loop-request.replies.items
           c.add_reply.new.replies.items inv.4 next.added,
       alike_both _ _ _ inv.5 c.add_reply.ensures.same,
     )

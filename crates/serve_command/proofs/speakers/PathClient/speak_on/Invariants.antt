@@ -8,5 +8,5 @@ use Rattle.serve_command.proofs.speakers.PathClient.speak_on.Given as goal
 abbrev pub invariant-loop : goal.invariant-loop
 invariant-loop g l =
     AreAlike l.fn.client l.client
-    × HasHad (IsBetween g.F.File.Read.remaining g.F.File.Write.contents) (number_of l.fn.client.who) l.fn.client l.client
+    × HasHad (IsBetween g.F.File.Read.remaining g.F.File.Write.contents l.self.past) (number_of l.fn.client.who) l.fn.client l.client
     l.told_with l.took_refreshes
