@@ -3,7 +3,7 @@
 ghost use Rattle.std.specs.Prelude.{◌≡◌, ◌≢◌, ℕ, [], List, true, IfOk, IfErr, MatchResult, OnOk};
 ghost use Rattle.journal_opening.specs.Kept.{IsKnown};
 ghost use Rattle.export_command.specs.Exported.{Exports, IsExport, IsFillFault, IsFindFault, IsJournalRefusal};
-ghost use Rattle.export_command.specs.Exported.{LeftNoneOrExport, TellsExportFault};
+ghost use Rattle.export_command.specs.Exported.{HasSoMany, LeftNoneOrExport, TellsExportFault};
 ghost use Rattle.export_command.specs.Standing.{Follows};
 ghost use Rattle.export_command.specs.Status.{export_status};
 ghost use Rattle.ssb_schema.specs.declared.table.Table.{Table};
@@ -78,6 +78,15 @@ impl<'a, D: Disk> Model for JournalTables<'a, D> {
     ghost view = { λ r. record { base = r.base.value; marks = r.marks.now; file = D.seen r.found } };
 
     ghost invariant = { λ r. AreOfFile r.base.value r.marks.now (D.seen r.found) r.tables r.commits r.torn };
+}
+
+impl<'a, D: Disk> JournalTables<'a, D> {
+    /// How many commits the journal has.
+    pub fn commits(&self) -> u64
+        ensures { HasSoMany self.now.marks result self.now.file }
+    {
+        self.commits
+    }
 }
 
 // Makes the commits of a journal's file again, as that is read, and forgets them but for the orders that stand.

@@ -1,0 +1,14 @@
+-- The exit statuses of what is found of a store.
+use Rattle.std.specs.Prelude.{ℕ}
+use Rattle.export_command.specs.Status.{refusal_status as tables_status}
+use Rattle.store_command.specs.declared.fault.StoreRefusal.{StoreRefusal}
+use Rattle.store_command.specs.declared.fault.StoreRefusal.TheVariants as refusal
+use Rattle.store_folder.specs.Status.{fault_status}
+
+-- 1: the folder or the store is refused; 4: a call of the system failed, or memory ran out
+abbrev pub refusal_status : StoreRefusal → ℕ
+refusal_status (refusal.Folder why) = 1
+refusal_status (refusal.CannotWrite path) = 4
+refusal_status (refusal.Store why) = fault_status why
+refusal_status refusal.InUse = 1
+refusal_status (refusal.Tables why) = tables_status why

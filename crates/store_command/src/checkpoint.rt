@@ -1,0 +1,290 @@
+//! `checkpoint`: newer tables of a store's closed segments.
+
+use crate::fault::{StoreJobFault, StoreRefusal, of_export};
+use crate::making::written;
+use crate::putting::{free_folder, put_sizes, sync_tables};
+use crate::tables::{LoadedTables, load_tables};
+use export_command::ExportRefusal::Journal;
+use export_command::{ExportSource, JournalTables, export_into, read_journal};
+use journal_file::{FileDisk, JournalFile, OpenError};
+use journal_opening::{OpeningFault, OpensJournal};
+use ssb_base::Base;
+use ssb_files::JobFault::Found;
+use ssb_journal::TableMark;
+use std::alloc::{AllocError, Global};
+use std::fs::{self, OpenFile, OpenOptions};
+use std::hash::RandomState;
+use std::io::{self, ErrorKind, Write};
+use std::rt::Files;
+use std::sync::Arc;
+use std::thread::Threads;
+use store_folder::{
+    FoundStore, Sizes, StoreFault, StoreFile, StoreNumbers, StorePlace, StoreUse,
+    checkpoint_lock_path, find_store, list_store, segment_path, sizes_path, tables_path,
+};
+
+// What a checkpoint has done: after how many commits the newer tables are, and how many segments they are of.
+#[derive(Clone, Copy)]
+struct Folded {
+    after: u64,
+    segments: usize,
+}
+
+fn open_lock<F: Files>(files: &F, path: &str) -> Result<F::File, OpenError>
+where
+    F::File: JournalFile,
+{
+    let file = OpenOptions::new()
+        .read(true)
+        .write(true)
+        .create(true)
+        .open(files, path)?;
+    file.lock_alone()?;
+    Ok(file)
+}
+
+// The lock against another checkpoint.
+fn lock<F: Files>(files: &F, alloc: Global, folder: &str) -> Result<F::File, StoreJobFault>
+where
+    F::File: JournalFile,
+{
+    let path = checkpoint_lock_path(alloc, folder)?;
+    match open_lock(files, path.as_str()) {
+        Ok(file) => Ok(file),
+        Err(OpenError::InUse) => Err(Found(StoreRefusal::InUse)),
+        Err(_) => Err(Found(StoreRefusal::CannotWrite(path))),
+    }
+}
+
+// Clears away what a checkpoint that was cut off has left of these tables.
+fn clear<F: Files>(files: &F, alloc: Global, path: &str) -> io::Result<()> {
+    match files.remove_dir_all(alloc, path) {
+        Err(error) if error.kind() == ErrorKind::NotFound => Ok(()),
+        result => result,
+    }
+}
+
+// The tables after a store's closed segments, over its newest ones. There are as many commits as the names tell.
+fn read_closed<'m, 'f, R: Threads + Sync + AllocGlobal, F: Files>(
+    rt: &R,
+    hashing: RandomState,
+    journal: &StorePlace<'f, F>,
+    base: Base,
+    marks: &'m [TableMark],
+) -> Result<JournalTables<'m, FileDisk<StoreFile<'f, F>>>, StoreJobFault>
+where
+    F::File: JournalFile,
+{
+    let alloc = rt.alloc();
+    let base = Arc::new(alloc, base)?;
+    let file = match journal.open(alloc) {
+        Ok(file) => file,
+        Err(error) => return Err(of_export(Found(Journal(OpeningFault::File(error))))),
+    };
+    let read = match read_journal(rt, alloc, hashing, ExportSource { base, marks, file }) {
+        Ok(read) => read,
+        Err(fault) => return Err(of_export(fault)),
+    };
+    let last = journal.found.last();
+    if journal.found.after().checked_add(read.commits()) != Some(last) {
+        return Err(Found(StoreRefusal::Store(StoreFault::Gap(last))));
+    }
+    Ok(read)
+}
+
+// Writes the tables after the closed segments into a folder of this path.
+fn write_newer<R, F, E: Write>(
+    rt: &R,
+    hashing: RandomState,
+    journal: &StorePlace<'_, F>,
+    path: &str,
+    err: &mut E,
+) -> Result<(), StoreJobFault>
+where
+    R: Threads + Sync + AllocGlobal,
+    F: Files + AllocGlobal,
+    F::File: JournalFile,
+{
+    let alloc = rt.alloc();
+    let files = journal.files;
+    written(alloc, path, clear(files, alloc, path))?;
+    let mut newer = free_folder(files, alloc, path)?;
+    let old = tables_path(alloc, journal.folder, journal.found.after())?;
+    let LoadedTables { base, marks } = load_tables(rt, files, old.as_str())?;
+    let read = match read_closed(rt, hashing, journal, base, &marks) {
+        Ok(read) => read,
+        Err(fault) => return Err(fault),
+    };
+    match export_into(alloc, read, &mut newer, err, false) {
+        Ok(()) => Ok(()),
+        Err(fault) => Err(of_export(fault)),
+    }
+}
+
+// Writes the tables after the closed segments, and tells of them.
+fn fold<R, F, E: Write>(
+    rt: &R,
+    hashing: RandomState,
+    files: &F,
+    folder: &str,
+    found: &FoundStore,
+    err: &mut E,
+) -> Result<Folded, StoreJobFault>
+where
+    R: Threads + Sync + AllocGlobal,
+    F: Files + AllocGlobal,
+    F::File: JournalFile,
+{
+    let alloc = rt.alloc();
+    let after = found.last();
+    let path = tables_path(alloc, folder, after)?;
+    let journal = StorePlace::new(files, alloc, folder, found, StoreUse::Folding)?;
+    write_newer(rt, hashing, &journal, path.as_str(), err)?;
+    let LoadedTables { base: _, marks } = load_tables(rt, files, path.as_str())?;
+    let sizes = Sizes::new(alloc, after, found.sizes().of.clone()?, &marks)?;
+    written(
+        alloc,
+        path.as_str(),
+        put_sizes(files, alloc, folder, &sizes),
+    )?;
+    Ok(Folded {
+        after,
+        segments: found.closed().len(),
+    })
+}
+
+// Takes away tables that are older than others that are whole: what tells of them goes first.
+fn drop_tables<F: Files>(files: &F, alloc: Global, folder: &str, after: u64) -> io::Result<()> {
+    let sizes = sizes_path(alloc, folder, after)?;
+    match fs::remove_file(files, sizes.as_str()) {
+        Err(error) if error.kind() != ErrorKind::NotFound => return Err(error),
+        _ => {}
+    }
+    let tables = tables_path(alloc, folder, after)?;
+    fs::open(files, tables.as_str())?.sync_all()?;
+    files.remove_dir_all(alloc, tables.as_str())
+}
+
+// The number of the whole tables before the newest ones, where there are any.
+fn kept_from<F: Files>(
+    files: &F,
+    alloc: Global,
+    folder: &str,
+    tables: &[u64],
+    newest: u64,
+) -> Result<u64, AllocError> {
+    for after in tables.iter().rev() {
+        if *after < newest {
+            let sizes = sizes_path(alloc, folder, *after)?;
+            if fs::metadata(files, sizes.as_str()).is_ok() {
+                return Ok(*after);
+            }
+        }
+    }
+    Ok(newest)
+}
+
+// Takes away what lies before the newest tables and those before them. These stay with all segments behind them: a
+// start that has found them may load them still.
+fn drop_older<F: Files>(files: &F, alloc: Global, folder: &str, newest: u64) -> io::Result<()> {
+    let StoreNumbers { tables, segments } = list_store(files, alloc, folder)?;
+    let kept = kept_from(files, alloc, folder, &tables, newest)?;
+    // A checkpoint that was cut off may have named them, and no more.
+    sync_tables(files, alloc, folder, kept)?;
+    for after in &tables {
+        if *after < kept {
+            drop_tables(files, alloc, folder, *after)?;
+        }
+    }
+    for after in &segments {
+        if *after < kept {
+            let path = segment_path(alloc, folder, *after)?;
+            fs::remove_file(files, path.as_str())?;
+        }
+    }
+    fs::open(files, folder)?.sync_all()
+}
+
+fn find<F: Files>(files: &F, alloc: Global, folder: &str) -> Result<FoundStore, StoreJobFault>
+where
+    F::File: JournalFile,
+{
+    match find_store(files, alloc, folder) {
+        Ok(found) => Ok(found),
+        Err(fault) => Err(Found(StoreRefusal::Store(fault))),
+    }
+}
+
+// Makes newer tables, where a segment is closed, and takes away what no start needs.
+fn checkpoint<R, F, E: Write>(
+    rt: &R,
+    hashing: RandomState,
+    files: &F,
+    folder: &str,
+    err: &mut E,
+) -> Result<Option<Folded>, StoreJobFault>
+where
+    R: Threads + Sync + AllocGlobal,
+    F: Files + AllocGlobal,
+    F::File: JournalFile,
+{
+    let alloc = rt.alloc();
+    // The lock's file is made in a store alone; behind it no other checkpoint changes what is found.
+    find(files, alloc, folder)?;
+    let held = lock(files, alloc, folder)?;
+    let found = find(files, alloc, folder)?;
+    let folded = if found.closed().is_empty() {
+        None
+    } else {
+        Some(fold(rt, hashing, files, folder, &found, err)?)
+    };
+    let newest = match folded {
+        Some(folded) => folded.after,
+        None => found.after(),
+    };
+    let dropped = drop_older(files, alloc, folder, newest);
+    held.drop();
+    written(alloc, folder, dropped)?;
+    Ok(folded)
+}
+
+/// Makes newer tables of a store's newest ones and its closed segments, and takes away what lies before the newest
+/// tables and those before them, beside a server of the store too; and tells on `err` what it has done, where that is
+/// asked for, and a fault.
+///
+/// The exit status is 0 where the store has no closed segment any more, 1 where the store is refused or another
+/// checkpoint is under way, and else 4: then nothing is lost.
+pub fn run_checkpoint<R, F, E: Write>(
+    rt: &R,
+    hashing: RandomState,
+    files: &F,
+    folder: &str,
+    tells: bool,
+    err: &mut E,
+) -> u8
+where
+    R: Threads + Sync + AllocGlobal,
+    F: Files + AllocGlobal,
+    F::File: JournalFile,
+{
+    let folded = match checkpoint(rt, hashing, files, folder, err) {
+        Ok(folded) => folded,
+        Err(fault) => return fault.tell(err),
+    };
+    if tells {
+        let _ = match folded {
+            Some(Folded { after, segments: 1 }) => {
+                writeln!(
+                    err,
+                    "ssb_live: checkpoint: tables after {after} commits, 1 segment"
+                )
+            }
+            Some(Folded { after, segments }) => writeln!(
+                err,
+                "ssb_live: checkpoint: tables after {after} commits, {segments} segments"
+            ),
+            None => writeln!(err, "ssb_live: checkpoint: nothing to fold"),
+        };
+    }
+    0
+}

@@ -1,0 +1,4 @@
+pub mod Chain
+pub mod Served
+pub mod Status
+pub mod Texts

@@ -1,0 +1,49 @@
+//! A store: tables after so many commits, and the commits behind them in segments of a journal, in one folder.
+//!
+//! ```text
+//! store/lock                 a server holds it                 store/checkpoint.lock    a checkpoint holds it
+//! store/tables.3204000/      customer.tbl .. lineorder.tbl, and sizes: the tables after 3,204,000 commits
+//! store/journal.3204000      the commits behind them: closed, since the next one has commits
+//! store/journal.4204000      a server appends here
+//! ```
+//!
+//! A segment is a file of groups, as a journal is (`journal`), behind a head of its own ([`SegmentHead`]). `sizes`
+//! tells by what a journal's head knows the tables ([`Sizes`]); it is named last, and tables without it are not there.
+//!
+//! [`find_store`] finds the newest tables and the segments behind them: that of their number, and each later one that
+//! has commits, which is so where the gate behind its head is open. To all else the commits behind the newest tables
+//! are one journal over these: a [`StoreFile`] is one file, of the head that such a journal has and of the groups of
+//! the segments, one behind another. So whoever goes on with a journal goes on with a store ([`StorePlace`]), and what
+//! is proved of it is proved of a store. A server begins the next segment where its own has as many commits as it may
+//! have: the closed gate at the end of the old one is the gate that the new one begins with.
+//!
+//! A turn that is cut off leaves a file without a whole head, or a segment without commits. Neither is ever written
+//! again: a later segment has a greater number, since a server goes on in the segment before.
+//!
+//! What no contract states, and a reader of `src/store_file` has to hold for true: a [`StoreFile`] is such a file, and
+//! keeps what a crash may leave of one: the old segment is on the disk before the next one is made, and that, with its
+//! name, before anything is written into it. Nobody else writes the last segment: who holds the lock looks again which
+//! one that is.
+#![tactic(auto)]
+
+mod fault;
+mod file_name;
+mod finding;
+mod place;
+mod segment;
+mod segment_head;
+mod served;
+mod sizes;
+mod store_file;
+mod turns;
+
+pub use fault::StoreFault;
+pub use file_name::{checkpoint_lock_path, lock_path, segment_path, sizes_path, tables_path};
+pub use finding::{FoundStore, StoreNumbers, find_store, list_store};
+pub use place::{StorePlace, StoreUse};
+pub use segment::{OpenSegment, make_segment};
+pub use segment_head::SegmentHead;
+pub use served::{OneFile, ServedJournal};
+pub use sizes::Sizes;
+pub use store_file::StoreFile;
+pub use turns::SegmentTurns;
