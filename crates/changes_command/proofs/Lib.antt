@@ -6,3 +6,5 @@ pub mod FaultLaws
 pub mod CommitLaws
 pub mod HistoryLaws
 pub mod StatusLaws
+pub mod StreamLaws
+pub mod FeedLaws

@@ -1,7 +1,7 @@
 -- The text of signed lines, in parts.
 use Rattle.std.proofs.Common.{◌≡◌, ℕ, zero, suc, ◌+◌, ◌<◌, Bool, true, false, cond, leb, List, [], ◌∷◌, ◌++◌, length}
 use Rattle.std.proofs.Common.{take, drop, get_or, slice_get, flat_map, decimal, refl, sym, ap, ◌∙◌, arith}
-use Rattle.std.proofs.Common.{append_assoc, append-nil, Option, Some, None}
+use Rattle.std.proofs.Common.{append_assoc, append-nil, Option, Some, None, Result, Ok, Err, OnOk}
 use Rattle.std.proofs.lemmas.List.{take_more, take-append-drop}
 use Rattle.std.proofs.lemmas.List.Concat.{flat_map-append}
 use Rattle.std.proofs.lemmas.List.Sums.{fold-append}
@@ -23,6 +23,11 @@ use Rattle.changes_command.specs.Signed.{SignedLine, changes_by, changes_by_all,
 use Rattle.changes_command.specs.Signed.{signed_text, taken_by}
 use Rattle.changes_command.specs.declared.signed.Sign.{Sign}
 use Rattle.changes_command.specs.declared.signed.Sign.TheVariants.{Came, Went}
+
+-- what is so is so whatever the result is
+pub on_ok : {X E : Type 0} (r : Result X E) (P : Type 0) → P → OnOk r P
+on_ok (Ok v) P is = is
+on_ok (Err e) P is = tt
 
 -- what stands before a line
 abbrev pub lead : ℕ → List ℕ → List ℕ

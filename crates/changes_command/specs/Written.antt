@@ -1,6 +1,7 @@
 -- What is written of a journal's file, and why nothing is.
 use Rattle.std.specs.Prelude.{◌≡◌, ◌<◌, ◌≤◌, ℕ, List, length, Option}
 use Rattle.std.specs.Io.KnownBytes.{Appends}
+use Rattle.journal.specs.Groups.{AreTorn}
 use Rattle.journal_file.specs.declared.file_disk.OpenError.TheVariants as open_error
 use Rattle.journal_opening.specs.Kept.{HasCommits, IsKnown}
 use Rattle.journal_opening.specs.Marks.{AreMarks, HaveChecksums}
@@ -27,6 +28,10 @@ use Rattle.changes_command.specs.declared.signed.ChangesStart.TheVariants.{Loade
 abbrev pub Reaches : ChangesStart → ℕ → Type 0
 Reaches Loaded commits = Unit {0}
 Reaches (Behind count) commits = count ≤ commits
+
+-- so many bytes of a file are torn
+abbrev pub TellsTorn : List ℕ → ℕ → Type 0
+TellsTorn file count = (torn : List ℕ) × AreTorn file torn × (count ≡ length torn)
 
 -- the commits that a file has over tables of these marks are a legal history over a base, and the text of what is asked
 -- for of its signed lines was written

@@ -1,9 +1,6 @@
 //! `changes`: the changes of a journal's commits, over table files.
 
 ghost use Rattle.std.specs.Prelude.{◌≡◌, ◌≢◌, ℕ, List, IfErr, OnOk};
-ghost use Rattle.std.specs.Io.KnownBytes.{Keeps};
-ghost use Rattle.ssb_files.specs.declared.fault.Fault.TheVariants as common;
-ghost use Rattle.ssb_files.specs.declared.job.JobFault.TheVariants as job;
 ghost use Rattle.ssb_schema.specs.declared.table.Table.{Table};
 ghost use Rattle.ssb_text.specs.Layouts.{AreRows};
 ghost use Rattle.changes_command.specs.Status.{changes_status};
@@ -11,12 +8,13 @@ ghost use Rattle.changes_command.specs.Written.{Changes, TellsChangesFault};
 
 use crate::fault::ChangesFault;
 use crate::fault::ChangesRefusal::Journal;
-use crate::history::{ChangesSource, ReadHistory, write_history};
+use crate::history::{ChangesSource, ReadHistory, hand_on, write_history};
 use crate::signed::ChangesStart;
 use journal::Disk;
 use journal_opening::{OpeningFault, OpensJournal, table_marks, tell_form};
-use ssb_files::JobFault::{Found, Program};
-use ssb_files::{Fault, LoadedFor, TableBytes, checked_base_of};
+use ssb_files::JobFault::Found;
+use ssb_files::{LoadedFor, TableBytes, checked_base_of};
+use ssb_journal::MOST_TOGETHER;
 use ssb_text::TableFiles;
 use std::hash::RandomState;
 use std::io::{Read, Write};
@@ -36,9 +34,13 @@ pub struct ChangesPlace<'j, 'b, P> {
     pub tells: bool,
 }
 
-// Tells that the journal's tables are not checked, if they are not; and if it is asked for, how many commits the
-// journal has, and how many bytes stand behind them.
-fn tell_read<D: Disk, E: Write>(err: &mut E, read: &ReadHistory<D>, tells_commits: bool) {
+/// Tells that the journal's tables are not checked, if they are not; and if it is asked for, how many commits the
+/// journal has, and how many bytes stand behind them.
+pub(crate) fn tell_read<D: Disk, E: Write>(
+    err: &mut E,
+    read: &ReadHistory<D>,
+    tells_commits: bool,
+) {
     tell_form(err, read.form);
     if !tells_commits {
         return;
@@ -51,17 +53,6 @@ fn tell_read<D: Disk, E: Write>(err: &mut E, read: &ReadHistory<D>, tells_commit
             "ssb_live: journal: {commits} commits, {torn} bytes torn"
         ),
     };
-}
-
-// Has a writer hand on what it holds.
-fn hand_on<W: Write>(out: &mut W) -> Result<(), ChangesFault>
-    ensures kept { Keeps (W.contents out.old) (W.contents out.new) }
-    ensures fault { IfErr result (λ fault. fault ≡ job.Program common.WriteFailed) }
-{
-    match out.flush() {
-        Ok(()) => Ok(()),
-        Err(_) => Err(Program(Fault::WriteFailed)),
-    }
 }
 
 /// Writes the changes of a journal's commits that are asked for over the base that the tables spell, as signed lines,
@@ -103,6 +94,7 @@ pub fn changes<
         base,
         marks: &marks,
         file,
+        together: MOST_TOGETHER,
     };
     match write_history(rt, alloc, hashing, source, place.start, out) {
         Ok(read) => {

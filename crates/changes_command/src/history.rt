@@ -1,14 +1,14 @@
 //! The changes of a journal's commits, written as its file is read.
 
 ghost use Rattle.std.specs.Prelude.{◌≡◌, ◌+◌, ◌++◌, [], None, true, length, IfOk, IfErr, OnOk};
-ghost use Rattle.std.specs.Io.KnownBytes.{Appends};
+ghost use Rattle.std.specs.Io.KnownBytes.{Appends, Keeps};
 ghost use Rattle.journal_opening.specs.Kept.{IsKnown};
 ghost use Rattle.row_store.specs.History.{lines_after};
 ghost use Rattle.row_store.specs.Refusals.{refusal_of};
 ghost use Rattle.ssb_files.specs.declared.fault.Fault.TheVariants as common;
 ghost use Rattle.ssb_files.specs.declared.job.JobFault.TheVariants as job;
 ghost use Rattle.changes_command.specs.Signed.{asked_of, changes_behind, changes_by_all, changes_text, signed};
-ghost use Rattle.changes_command.specs.Written.{IsCommitsFault, IsFileRefusal, IsTooFar, IsWritten, Reaches};
+ghost use Rattle.changes_command.specs.Written.{IsCommitsFault, IsFileRefusal, IsTooFar, IsWritten, Reaches, TellsTorn};
 
 use crate::fault::ChangesRefusal::Journal;
 use crate::fault::{ChangesFault, ChangesRefusal};
@@ -37,6 +37,8 @@ pub struct ChangesSource<'a, U: UnreadDisk + Drop> {
     pub marks: &'a [TableMark],
     /// The journal's file.
     pub file: U,
+    /// Its groups are read together until they have so many bytes. With 1 each is written as it comes.
+    pub together: usize,
 }
 
 /// A journal's file that was read to its end, and is as it was; how many commits it has, the form of its head, and how
@@ -49,7 +51,25 @@ pub struct ReadHistory<D: Disk> {
     pub torn: usize,
 }
 
-// Writes the loaded lines, where they are asked for.
+/// Has a writer hand on what it holds.
+pub(crate) fn hand_on<W: Write>(out: &mut W) -> Result<(), ChangesFault>
+    ensures kept { Keeps (W.contents out.old) (W.contents out.new) }
+    ensures fault { IfErr result (λ fault. fault ≡ job.Program common.WriteFailed) }
+{
+    match out.flush() {
+        Ok(()) => Ok(()),
+        Err(_) => Err(Program(Fault::WriteFailed)),
+    }
+}
+
+// A journal's file that is read, and until how many bytes its groups are read together.
+#[derive(Drop)]
+struct Reading<'a, U: UnreadDisk> {
+    journal: JournalReader<'a, U>,
+    together: usize,
+}
+
+// Writes the loaded lines, where they are asked for, and hands them on.
 fn write_loaded<W: Write>(
     out: &mut W,
     start: ChangesStart,
@@ -63,7 +83,7 @@ fn write_loaded<W: Write>(
         return Ok(());
     }
     match write_lines(out, 0, Sign::Came, lines) {
-        Ok(()) => Ok(()),
+        Ok(()) => hand_on(out),
         Err(_) => Err(Program(Fault::WriteFailed)),
     }
 }
@@ -117,28 +137,32 @@ fn write_commits<W: Write>(
     Ok(())
 }
 
-// The same of all commits of a journal's file, as that is read; they are forgotten.
+// The same of all commits of a journal's file, as that is read, and hands it on; they are forgotten.
 fn write_all<'a, U: UnreadDisk + Drop, W: Write>(
     rt: &(impl Threads + Sync),
     alloc: Global,
     out: &mut W,
     start: ChangesStart,
     store: &mut RowStore,
-    journal: JournalReader<'a, U>,
+    reading: Reading<'a, U>,
 ) -> Result<JournalReader<'a, U>, ChangesFault>
     requires none { store.old.log ≡ [] }
-    requires unread { journal.commits ≡ [] }
+    requires unread { reading.journal.commits ≡ [] }
     ensures written { IfOk result (λ read. Appends (W.contents out.old) (W.contents out.new) (changes_text (asked_of start
         (changes_behind 0 store.old.base.lines read.commits)))) }
     ensures store { IfOk result (λ read. store.new ≡ record { base = store.old.base; log = read.commits }) }
-    ensures marks { IfOk result (λ read. read.marks ≡ journal.entry.marks) }
-    ensures known { IfOk result (λ read. U.holds read.unread ≡ U.holds journal.entry.unread) }
+    ensures marks { IfOk result (λ read. read.marks ≡ reading.entry.journal.marks) }
+    ensures known { IfOk result (λ read. U.holds read.unread ≡ U.holds reading.entry.journal.unread) }
     ensures end { IfOk result (λ read. read.is_done ≡ true) }
-    ensures fault { IfErr result (IsFileRefusal store.old.base journal.entry.marks (U.holds journal.entry.unread) start) }
+    ensures fault { IfErr result (IsFileRefusal store.old.base reading.entry.journal.marks
+        (U.holds reading.entry.journal.unread) start) }
 {
-    let mut journal = journal;
+    let Reading {
+        mut journal,
+        together,
+    } = reading;
     loop {
-        let (next, found) = match journal.next(rt, alloc) {
+        let (next, found) = match journal.next_within(rt, alloc, together) {
             Ok(next) => next,
             Err((fault, _)) => return Err(Found(Journal(OpeningFault::Kept(fault)))),
         };
@@ -146,6 +170,7 @@ fn write_all<'a, U: UnreadDisk + Drop, W: Write>(
             return Ok(next);
         };
         write_commits(out, start, store, &commits)?;
+        hand_on(out)?;
         let count = store.len();
         store.forget(count as u64);
         journal = next;
@@ -165,8 +190,8 @@ fn check_reaches(start: ChangesStart, commits: u64) -> Result<(), ChangesFault>
     }
 }
 
-/// Writes the changes of a journal's commits that are asked for, as its file is read, in the order of the commits. Each
-/// piece of a line is one `write`, so a caller buffers. The commits are made again over the tables, and forgotten: they
+/// Writes the changes of a journal's commits that are asked for, as its file is read, in the order of the commits, and
+/// hands on those of groups that were read together. Each piece of a line is one `write`, so a caller buffers. The commits are made again over the tables, and forgotten: they
 /// take no memory. Of two faults the first in the file is told; what commits before it change was written.
 pub fn write_history<'a, U: UnreadDisk + Drop, W: Write>(
     rt: &(impl Threads + Sync),
@@ -180,17 +205,24 @@ pub fn write_history<'a, U: UnreadDisk + Drop, W: Write>(
     ensures written { IfOk result (λ read. IsWritten source.entry.base.value source.entry.marks.now
         (U.Whole.seen read.found) start (W.contents out.old) (W.contents out.new)) }
     ensures known { IfOk result (λ read. IsKnown (U.holds source.entry.file) (U.Whole.seen read.found)) }
+    ensures torn { IfOk result (λ read. TellsTorn (U.Whole.seen read.found) read.torn) }
     ensures fault { IfErr result (IsFileRefusal source.entry.base.value source.entry.marks.now
         (U.holds source.entry.file) start) }
 {
-    let ChangesSource { base, marks, file } = source;
+    let ChangesSource {
+        base,
+        marks,
+        file,
+        together,
+    } = source;
     let journal = match open(alloc, marks, file) {
         Ok(journal) => journal,
         Err((fault, _)) => return Err(Found(Journal(OpeningFault::Kept(fault)))),
     };
     write_loaded(out, start, base.lines())?;
     let mut store = RowStore::new(alloc, base, hashing)?;
-    let journal = write_all(rt, alloc, out, start, &mut store, journal)?;
+    let reading = Reading { journal, together };
+    let journal = write_all(rt, alloc, out, start, &mut store, reading)?;
     store.soundness();
     let OpenedJournal { found, kept, torn } = journal.finish();
     check_reaches(start, kept.count)?;

@@ -19,15 +19,22 @@
 //! an order has when it goes is read off the store, or, where an earlier action of the same refresh has brought or taken
 //! it, off that action.
 //!
+//! The groups may come as a stream, as `ship` writes them ([`run_feed`], `specs/Fed`): then those lines are handed on as
+//! each group comes, for as long as the stream goes on. What it gives is known where its input's bytes are. No word of
+//! the program calls it so far.
+//!
 //! ```text
-//! let source = ChangesSource { base, marks: &marks, file };
-//! let read = write_history(alloc, hashing, source, ChangesStart::Behind(2), &mut out)?;
+//! let source = ChangesSource { base, marks: &marks, file, together: MOST_TOGETHER };
+//! let read = write_history(rt, alloc, hashing, source, ChangesStart::Behind(2), &mut out)?;
 //! // out: 3|1|9|1|3|4|3|19971215|o|0|1|10|10|0|10|2000|0|19971215|AIR
 //! ```
 #![tactic(auto)]
 
 mod changing;
 mod fault;
+mod feed_fault;
+mod feed_stream;
+mod feeding;
 mod history;
 mod laws;
 mod signed;
@@ -35,6 +42,8 @@ mod writing;
 
 pub use changing::{ChangesPlace, changes, run_changes};
 pub use fault::{ChangesFault, ChangesRefusal};
+pub use feed_fault::{FeedFault, FeedJobFault, FeedRefusal};
+pub use feeding::{FeedPlace, follow, run_feed, write_feed};
 pub use history::{ChangesSource, ReadHistory, write_history};
 pub use laws::signs_add_up;
 pub use signed::{ChangesStart, Sign};

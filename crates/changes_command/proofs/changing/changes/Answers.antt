@@ -1,4 +1,4 @@
-use Rattle.std.proofs.Common.{◌≡◌, Err, List, ℕ, rules, subst}
+use Rattle.std.proofs.Common.{◌≡◌, Err, List, ℕ, arith, rules, subst, sym}
 use Rattle.journal_opening.specs.Kept.{IsKnown}
 use Rattle.ssb_files.specs.declared.job.JobFault.TheVariants.{Program}
 use Rattle.ssb_schema.specs.declared.table.Table.{Table}
@@ -16,6 +16,20 @@ returns-in_err-read-clause-fault g c =
     (g.P.OpensJournal.is_taken c.args.place.now.journal.now) (g.P.OpensJournal.is_missing c.args.place.now.journal.now)
     c.args.place.now.start (Program c.in_err-read.field-0.0)
     = λ texts are status. c.in_err-read.ensures.data status texts are in
+    rw is here
+
+pub returns-in_err-hand_on-in-Ok-write_history-clause-fault : goal.returns-in_err-hand_on-in-Ok-write_history-clause-fault
+returns-in_err-hand_on-in-Ok-write_history-clause-fault g c =
+    let why = c.in_err-hand_on-in-Ok-write_history.field-0.0 in
+    let is : c.from_residual-in_err-hand_on-in-Ok-write_history.result ≡ Err why = search rules in
+    let here : (texts : Table → List ℕ) → AreRows g.I.Read.remaining c.args.tables texts
+    → TellsChangesFault texts (g.P.OpensJournal.holds c.args.place.now.journal.now)
+    (g.P.OpensJournal.is_taken c.args.place.now.journal.now) (g.P.OpensJournal.is_missing c.args.place.now.journal.now)
+    c.args.place.now.start why
+    = λ texts are. subst (TellsChangesFault texts (g.P.OpensJournal.holds c.args.place.now.journal.now)
+    (g.P.OpensJournal.is_taken c.args.place.now.journal.now) (g.P.OpensJournal.is_missing c.args.place.now.journal.now)
+    c.args.place.now.start) (sym c.in_err-hand_on-in-Ok-write_history.ensures.fault)
+    (λ one. absurd (omega (arith, one))) in
     rw is here
 
 pub returns-in_ok-hand_on-in-Ok-write_history-clause-written :

@@ -1,8 +1,10 @@
-use Rattle.std.proofs.Common.{◌≡◌, ◌++◌, ◌∙◌, Err, rules, ap, length, subst, sym}
+use Rattle.std.proofs.Common.{◌≡◌, ◌++◌, ◌∙◌, Err, rules, ap, length, refl, subst, sym}
 use Rattle.std.specs.Prelude.{IsSome}
 use Rattle.std.specs.Io.KnownBytes.{Appends}
 use Rattle.row_store.specs.History.{Warehouse, lines_after}
 use Rattle.journal_opening.specs.declared.fault.OpeningFault.TheVariants as opening
+use Rattle.ssb_files.proofs.FlushedLaws.{appended_kept}
+use Rattle.ssb_files.specs.declared.fault.Fault.TheVariants as common
 use Rattle.ssb_files.specs.declared.job.JobFault.TheVariants as job
 use Rattle.ssb_journal.specs.Kept.{BeginsWithCommits}
 use Rattle.ssb_journal.specs.Opening.{TellsOpenFault}
@@ -11,14 +13,14 @@ use Rattle.changes_command.specs.Signed.{asked_of, changes_behind, changes_text}
 use Rattle.changes_command.specs.Written.{IsCommitsFault, IsFileRefusal}
 use Rattle.changes_command.specs.declared.fault.ChangesRefusal.TheVariants as refusal
 use Rattle.changes_command.proofs.AskedLaws.{text_behind}
-use Rattle.changes_command.proofs.FaultLaws.{of_commits, refused_reading}
+use Rattle.changes_command.proofs.FaultLaws.{call_failed, of_commits, refused_reading}
 use Rattle.changes_command.proofs.history.write_all.Goals as goal
 
 pub returns-in-Err-clause-fault : goal.returns-in-Err-clause-fault
 returns-in-Err-clause-fault g c =
     let disk = g.U.UnreadDisk in
     let file = c.in-Err.field-0-1 in
-    refused_reading c.args.store.now.base c.args.journal.marks (disk.holds c.args.journal.unread) (disk.holds file)
+    refused_reading c.args.store.now.base c.args.reading.journal.marks (disk.holds c.args.reading.journal.unread) (disk.holds file)
     (disk.taken file) (disk.is_ended file) c.args.start (job.Found (refusal.Journal (opening.Kept c.in-Err.fault)))
     (c.in-Err.ensures.known_err ∙ c.loop-next.invariant.known) (g.met.U.UnreadDisk.as_known file)
     (λ whole begins. subst (λ marks. TellsOpenFault marks whole c.in-Err.fault) c.loop-next.invariant.marks
@@ -41,13 +43,24 @@ returns-in_err-write_commits-clause-fault g c =
     (ap (λ (store : Warehouse). store.base) c.loop-next.invariant.store)
     (subst (λ commits. IsCommitsFault c.loop-next.store.base commits why) log c.in_err-write_commits.ensures.fault) in
     let is : c.from_residual.result ≡ Err why = search rules in
-    let here : IsFileRefusal base c.args.journal.marks (disk.holds c.args.journal.unread) c.args.start why =
-    refused_reading base c.args.journal.marks (disk.holds c.args.journal.unread) (disk.holds next.unread)
+    let here : IsFileRefusal base c.args.reading.journal.marks (disk.holds c.args.reading.journal.unread) c.args.start why =
+    refused_reading base c.args.reading.journal.marks (disk.holds c.args.reading.journal.unread) (disk.holds next.unread)
     (disk.taken next.unread) (disk.is_ended next.unread) c.args.start why
     (c.in-Ok.ensures.known ∙ c.loop-next.invariant.known) (g.met.U.UnreadDisk.as_known next.unread)
-    (λ whole begins. of_commits base c.args.journal.marks whole c.args.start next.commits why
+    (λ whole begins. of_commits base c.args.reading.journal.marks whole c.args.start next.commits why
     (subst (λ marks. BeginsWithCommits marks next.commits whole) c.loop-next.invariant.marks
     (c.in-Ok.ensures.kept some whole begins)) told) in
+    rw is here
+
+pub returns-in_err-hand_on-clause-fault : goal.returns-in_err-hand_on-clause-fault
+returns-in_err-hand_on-clause-fault g c =
+    let base = c.args.store.now.base in
+    let marks = c.args.reading.journal.marks in
+    let known = g.U.UnreadDisk.holds c.args.reading.journal.unread in
+    let is : c.from_residual-in_err-hand_on.result ≡ Err c.in_err-hand_on.field-0.0 = search rules in
+    let here : IsFileRefusal base marks known c.args.start c.in_err-hand_on.field-0.0 =
+    subst (IsFileRefusal base marks known c.args.start) (sym c.in_err-hand_on.ensures.fault)
+    (call_failed base marks known c.args.start common.WriteFailed refl) in
     rw is here
 
 pub loop-next-preserved : goal.loop-next-preserved
@@ -56,6 +69,7 @@ loop-next-preserved g c =
     let a = contents c.args.out.now in
     let b = contents c.loop-next.out in
     let e = contents c.write_commits.new.out in
+    let h = contents c.hand_on.new.out in
     let next = c.in-Ok.next.0 in
     let old = c.loop-next.journal in
     let base = c.args.store.now.base in
@@ -70,9 +84,10 @@ loop-next-preserved g c =
     (lines_after c.loop-next.store.base c.loop-next.store.log) batch)))) c.deref.ensures.value
     c.in_ok-write_commits.ensures.written) in
     record {
-      written = subst (λ commits. Appends a e (changes_text (asked_of start (changes_behind 0 base.lines commits))))
+      written = appended_kept a e h (changes_text (asked_of start (changes_behind 0 base.lines next.commits)))
+          (subst (λ commits. Appends a e (changes_text (asked_of start (changes_behind 0 base.lines commits))))
           (sym all) (subst (Appends a e) (sym (text_behind start base old.commits items))
-          (appends_both a b e _ _ c.loop-next.invariant.written more));
+          (appends_both a b e _ _ c.loop-next.invariant.written more))) c.hand_on.ensures.kept;
       store = search rules;
       marks = search rules;
       known = search rules;

@@ -1,10 +1,11 @@
 use Rattle.std.proofs.Common.{◌≡◌, ◌∙◌, ap, false, rules, subst, sym, true}
 use Rattle.std.specs.Io.KnownBytes.{Appends}
+use Rattle.ssb_files.proofs.FlushedLaws.{appended_kept}
 use Rattle.ssb_text.proofs.WrittenLaws.{appends_none}
-use Rattle.changes_command.specs.Signed.{changes_text, is_asked}
+use Rattle.changes_command.specs.Signed.{asked_of, changes_text, is_asked, signed}
 use Rattle.changes_command.specs.declared.signed.Sign.TheVariants.{Came}
 use Rattle.changes_command.proofs.AskedLaws.{all_asked, none_asked}
-use Rattle.changes_command.proofs.TextLaws.{text_of_signed}
+use Rattle.changes_command.proofs.TextLaws.{on_ok, text_of_signed}
 use Rattle.changes_command.proofs.history.write_loaded.Goals as goal
 
 pub returns-then-not-asks-clause-written : goal.returns-then-not-asks-clause-written
@@ -18,6 +19,11 @@ pub returns-in-Ok-clause-written : goal.returns-in-Ok-clause-written
 returns-in-Ok-clause-written g c =
     let a = g.W.Write.contents c.args.out.now in
     let b = g.W.Write.contents c.write_lines.new.out in
+    let h = g.W.Write.contents c.hand_on.new.out in
     let asked : is_asked c.args.start 0 ≡ true = search rules in
+    let written : Appends a b (changes_text (asked_of c.args.start (signed 0 Came c.args.lines.now))) =
     subst (Appends a b) (sym (ap changes_text (all_asked c.args.start 0 Came c.args.lines.now asked)
-    ∙ text_of_signed 0 Came c.args.lines.now)) c.in-Ok.ensures
+    ∙ text_of_signed 0 Came c.args.lines.now)) c.in-Ok.ensures in
+    on_ok c.hand_on.result _
+    (appended_kept a b h (changes_text (asked_of c.args.start (signed 0 Came c.args.lines.now))) written
+    c.hand_on.ensures.kept)
