@@ -22,7 +22,7 @@ It is one file, over the standard library of Python 3.8 or later: `link.py WORD.
   --confirm-over COMMAND a shell's command that takes these lines from its input
   --once                 sends what the journal has, and ends
   --ahead N              at most so many refreshes are under way (by default 1000)
-  --every MS             between two looks at the journal (by default 2)
+  --every MS             between two looks at the journal, where the system does not tell of its writes (by default 2)
   --told FILE            adds each `committed N` of the second to FILE
   --quiet                tells only why it ends
 
@@ -43,6 +43,7 @@ compared, and each receipt that was right, is confirmed, the last one again each
 """
 import argparse
 import collections
+import ctypes
 import errno
 import fcntl
 import hashlib
@@ -69,6 +70,7 @@ BEAT = 5                    # seconds of silence after which the second is asked
 PATIENCE = 60               # seconds without a reply, after which the link counts as cut
 STILL = 30                  # seconds without a byte of `ship`, after which it counts as cut
 AGAIN = 1                   # seconds after which the last confirmation is written again
+IN_MODIFY = 2               # of inotify: a file was written
 TICK = 0.01                 # seconds between two looks for what is not there yet
 
 
@@ -97,6 +99,7 @@ class Journal:
     once it is there; `is_at_end` tells whether the last look found no group more. A group without commits is a sign of
     life, as `ship` writes them, and nothing else."""
     has_ended = False           # nothing can come any more
+    news = None                 # a file that can be read when there may be more
     passed = 0                  # commits that come before the first group of commits
 
     def __init__(self, path):
@@ -109,7 +112,15 @@ class Journal:
                 self.file = os.open(self.path, os.O_RDONLY)
             except FileNotFoundError:
                 return False
+            self.news = writes_of(self.path)
         return True
+
+    def hear_news(self):
+        """Takes what the system has told: the next look comes behind it."""
+        try:
+            os.read(self.news, MOST_READ)
+        except BlockingIOError:
+            pass
 
     def look(self):
         """The bytes behind the groups that were read."""
@@ -174,6 +185,18 @@ class Journal:
             raise Stop(f"{self.path} is shorter than it was")
 
 
+def writes_of(path):
+    """A file that can be read once another one was written, by inotify; None where the system does not tell."""
+    try:
+        system = ctypes.CDLL(None)
+        told = system.inotify_init1(os.O_NONBLOCK | os.O_CLOEXEC)
+        if told >= 0 and system.inotify_add_watch(told, os.fsencode(path), IN_MODIFY) >= 0:
+            return told
+    except (OSError, AttributeError):
+        pass
+    return None
+
+
 class Shipped(Journal):
     """What `ship` writes of a journal, to standard input or as a command's output: the groups that count, which are on
     its disk, as they come, and a sign of life where there are none."""
@@ -190,9 +213,12 @@ class Shipped(Journal):
                 self.process = subprocess.Popen(self.command, shell=True, stdin=subprocess.DEVNULL,
                                                 stdout=subprocess.PIPE, env={**os.environ, "AFTER": str(self.after)})
                 source = self.process.stdout
-            self.file = source.fileno()
+            self.file = self.news = source.fileno()
             os.set_blocking(self.file, False)
         return True
+
+    def hear_news(self):
+        pass
 
     def look(self):
         del self.left[:self.end - self.start]
@@ -204,6 +230,7 @@ class Shipped(Journal):
                 break
             self.left += part
             self.has_ended, self.heard = not part, time.monotonic()
+        self.news = None if self.has_ended or len(self.left) >= self.want else self.file
         return bytes(self.left)
 
     def read(self):
@@ -292,11 +319,19 @@ class Session:
         os.close(self.into)
         os.close(self.out)
 
-    def turn(self, seconds):
-        """Writes and reads what can be at once, or waits so long until something can; the lines that came."""
+    def turn(self, seconds, journal=None):
+        """Writes and reads what can be at once, or waits so long until something can, or until there is news of the
+        journal; the lines that came."""
         self.both.register(self.out, select.POLLIN)
         self.both.register(self.into, select.POLLOUT if self.text else 0)
+        news = journal.news if journal else None
+        if news is not None:
+            self.both.register(news, select.POLLIN)
         ready = dict(self.both.poll(math.ceil(1000 * seconds)))
+        if news is not None:
+            self.both.unregister(news)
+            if news in ready:
+                journal.hear_news()
         if ready.get(self.into):
             self.write()
         return self.read() if self.out in ready else []
@@ -549,7 +584,8 @@ class Link:
             raise self.journal.ended(self.count)
         self.send(now)
         pause = self.words.every / 1000 * (10 if now > self.grown + SILENCE and not self.under_way else 1)
-        for line in self.session.turn(0 if has_grown else pause):
+        is_full = len(self.ready) >= self.words.ahead
+        for line in self.session.turn(0 if has_grown else pause, None if is_full else self.journal):
             self.hear(line)
         if self.confirming:
             self.confirming.tell(self.count, time.monotonic())
