@@ -46,3 +46,6 @@ impl Transcript {
         ensures { self.new.calls ≡ promised ∷ self.old.calls }
     {}
 }
+
+// It owns nothing, so it may go to any thread.
+unsafe impl Send for Transcript {}
