@@ -2,6 +2,7 @@
 
 use crate::help::{AUDIT_HELP, CHANGES_HELP, EXPORT_HELP, QUERY_HELP, RUN_HELP, SERVE_HELP};
 use crate::ship::ship_command;
+use crate::store::{checkpoint_command, segment_argument, store_argument, store_command};
 use clap::builder::ValueParser;
 use clap::{Arg, ArgAction, Command, value_parser};
 use std::alloc::{AllocError, Global};
@@ -79,9 +80,12 @@ pub(crate) fn with_hints<'a>(
     command.arg(hints)?.arg(no_hints)
 }
 
-// A command that also takes what is told of its work: whether nothing is shown while the data is read, and whether
-// help stands below a fault.
-fn with_telling<'a>(alloc: Global, command: Command<'a>) -> Result<Command<'a>, AllocError> {
+/// A command that also takes what is told of its work: whether nothing is shown while the data is read, and whether
+/// help stands below a fault.
+pub(crate) fn with_telling<'a>(
+    alloc: Global,
+    command: Command<'a>,
+) -> Result<Command<'a>, AllocError> {
     with_hints(alloc, command.arg(quiet_argument(alloc))?)
 }
 
@@ -132,8 +136,8 @@ fn with_tables<'a>(
         .arg(heads_argument(alloc)?)
 }
 
-// A command whose first words are the folder of the tables and how these are laid out.
-fn over_tables<'a>(
+/// A command whose first words are the folder of the tables and how these are laid out.
+pub(crate) fn over_tables<'a>(
     alloc: Global,
     name: &'a str,
     about: &'a str,
@@ -143,6 +147,22 @@ fn over_tables<'a>(
         .about(about)
         .long_about(long_about);
     with_tables(alloc, command, data_argument(alloc))
+}
+
+// The same, but that a store may stand in the place of the tables.
+fn over_tables_or_store<'a>(
+    alloc: Global,
+    name: &'a str,
+    about: &'a str,
+    long_about: &'a str,
+) -> Result<Command<'a>, AllocError> {
+    let command = Command::new(alloc, name)
+        .about(about)
+        .long_about(long_about);
+    let data = data_argument(alloc)
+        .required(false)
+        .required_unless_present("store")?;
+    with_tables(alloc, command, data)?.arg(store_argument(alloc)?)
 }
 
 // The name of a query, which is not given where all are asked, those of a board, or a statement.
@@ -370,7 +390,8 @@ fn new_journal_argument<'a>(alloc: Global) -> Result<Arg<'a>, AllocError> {
         "FILE",
         "The same of a journal that begins: FILE is missing or empty, and is made",
     )
-    .conflicts_with("journal")
+    .conflicts_with("journal")?
+    .conflicts_with("store")
 }
 
 // What a second server tells of its disk.
@@ -387,13 +408,14 @@ fn confirmed_argument<'a>(alloc: Global) -> Arg<'a> {
 
 // The words of `serve`.
 fn serve_command<'a>(alloc: Global) -> Result<Command<'a>, AllocError> {
-    let command = over_tables(
+    let command = over_tables_or_store(
         alloc,
         "serve",
         "Serves clients as their requests come: standard input and output, or named pipes",
         SERVE_HELP,
     )?;
     let command = command
+        .arg(segment_argument(alloc)?)?
         .arg(dispatchers_argument(alloc))?
         .arg(clients_argument(alloc))?
         .arg(flag(
@@ -439,14 +461,14 @@ fn export_command<'a>(alloc: Global) -> Result<Command<'a>, AllocError> {
         "FOLDER",
         "Where the tables are written: a folder that does not exist, or is empty",
     );
-    let command = over_tables(
+    let command = over_tables_or_store(
         alloc,
         "export",
         "Writes the tables as they are after the commits of a journal",
         EXPORT_HELP,
     )?;
     let command = command
-        .arg(journal.required(true))?
+        .arg(journal.required_unless_present("store")?)?
         .arg(folder.required(true))?;
     with_telling(alloc, command)
 }
@@ -471,13 +493,23 @@ fn changes_command<'a>(alloc: Global) -> Result<Command<'a>, AllocError> {
         "The loaded lines first, as those of commit 0",
     )
     .conflicts_with("after")?;
+    let feed = path_argument(
+        alloc,
+        "feed",
+        "IN",
+        "What 'ssb_live ship' prints, as it comes: a pipe, a file, or - for standard input",
+    );
     let command = over_tables(
         alloc,
         "changes",
         "Writes the lines that each commit of a journal brought, and those that it took away",
         CHANGES_HELP,
     )?;
-    let command = command.arg(journal.required(true))?.arg(after)?.arg(base)?;
+    let command = command
+        .arg(journal.required_unless_present("feed")?)?
+        .arg(feed.conflicts_with("journal")?)?
+        .arg(after)?
+        .arg(base)?;
     with_telling(alloc, command)
 }
 
@@ -495,5 +527,7 @@ pub fn command<'a>(alloc: Global, explains: bool) -> Result<Command<'a>, AllocEr
         .subcommand(audit_command(alloc)?)?
         .subcommand(export_command(alloc)?)?
         .subcommand(changes_command(alloc)?)?
-        .subcommand(ship_command(alloc)?)
+        .subcommand(ship_command(alloc)?)?
+        .subcommand(store_command(alloc)?)?
+        .subcommand(checkpoint_command(alloc)?)
 }

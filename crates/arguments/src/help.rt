@@ -130,6 +130,10 @@ With --new-journal a journal begins in FILE, which is created if it does not exi
 FILE does not exist, that is refused. 'committed N' is sent when commit N is on the disk; an answer is sent when all
 commits that it contains are.
 
+With --store FOLDER the tables and the journal are those of a store, which 'ssb_live store' has made. The journal goes on
+in a new segment after --segment N commits, and 'ssb_live checkpoint' keeps the store small meanwhile. Numbers of commits
+count from the store's first one.
+
 With --confirmed both also wait until a line 'committed M', of at least as many commits, was read from BY: a pipe or a
 file that gets what a second server tells. It can be repeated; then each BY has to have such a line.
 
@@ -157,8 +161,11 @@ commits. Other programs can load these tables, and a new journal can begin with 
 The tables are written under other names, and renamed when they are on the disk, lineorder.tbl last: a folder that has
 lineorder.tbl has all five. If an export fails, delete by hand what it has left in FOLDER.
 
-Example:
-  ssb_live export --data tables --journal orders.journal --to tables-2";
+With --store the tables and the commits are those of a store, as they are on the disk now.
+
+Examples:
+  ssb_live export --data tables --journal orders.journal --to tables-2
+  ssb_live export --store warehouse --to tables-2";
 
 /// What `changes --help` shows.
 pub const CHANGES_HELP: &str = "\
@@ -171,9 +178,12 @@ With --base the loaded lines come first, as those of commit 0. With --after N th
 written, so that a system which has some gets the others. FILE is not changed; a server goes on meanwhile only where
 FILE is a copy.
 
+With --feed the commits are those that 'ssb_live ship' prints, as they come: the lines of each are printed at once.
+
 Examples:
   ssb_live changes --data tables --journal orders.journal --base
-  ssb_live changes --data tables --journal orders.journal --after 1204";
+  ssb_live changes --data tables --journal orders.journal --after 1204
+  ssb_live ship --journal orders.journal | ssb_live changes --data tables --feed -";
 
 /// What the word `help` shows on the terminal of a live session.
 pub const TERMINAL_HELP: &str = help_with_questions!(

@@ -3,6 +3,9 @@
 use crate::grammar::{command, width_of};
 use crate::notice::Notice;
 use crate::ship::{ShipWords, ship_words};
+use crate::store::{
+    CheckpointWords, StoreWord, StoreWords, checkpoint_words, store_of, store_words,
+};
 use clap::ArgMatches;
 use clap::error::ErrorKind;
 use ssb_explain::{ReadLines, SqlTarget, System};
@@ -33,6 +36,10 @@ pub enum Job<'a> {
     Changes(ChangesWords<'a>),
     /// A journal's groups, as they come.
     Ship(ShipWords<'a>),
+    /// A new store of tables.
+    Store(StoreWords<'a>),
+    /// Newer tables of a store.
+    Checkpoint(CheckpointWords<'a>),
 }
 
 /// How answers are written.
@@ -147,8 +154,10 @@ pub struct RunWords<'a> {
 /// The words of `serve`.
 #[derive(Drop)]
 pub struct ServeWords<'a> {
+    /// Empty where a store is served.
     pub data: &'a str,
     pub layout: TableLayout,
+    pub store: Option<StoreWord<'a>>,
     /// IN and OUT of each client in turn; none where standard input and output are served.
     pub clients: Vec<&'a str>,
     pub keep: bool,
@@ -176,8 +185,10 @@ pub struct AuditWords<'a> {
 /// The words of `export`.
 #[derive(Drop)]
 pub struct ExportWords<'a> {
+    /// Empty where a store is exported, as the journal.
     pub data: &'a str,
     pub layout: TableLayout,
+    pub store: Option<&'a str>,
     pub journal: &'a str,
     pub folder: &'a str,
     pub quiet: bool,
@@ -193,12 +204,42 @@ pub enum StartWord {
     After(u64),
 }
 
+/// Where the groups of a journal come from.
+#[derive(Clone, Copy)]
+pub enum GroupsWord<'a> {
+    /// The journal's file.
+    Journal(&'a str),
+    /// A stream of its groups, by its path.
+    Feed(&'a str),
+    /// Standard input.
+    Input,
+}
+
+impl<'a> GroupsWord<'a> {
+    /// The path of the journal's file, where that was named.
+    pub fn journal(&self) -> Option<&'a str> {
+        match self {
+            GroupsWord::Journal(path) => Some(*path),
+            GroupsWord::Feed(_) | GroupsWord::Input => None,
+        }
+    }
+
+    /// What the fault of a stream is told of: its path.
+    pub fn feed(&self) -> Option<&'a str> {
+        match self {
+            GroupsWord::Feed(path) => Some(*path),
+            GroupsWord::Input => Some("-"),
+            GroupsWord::Journal(_) => None,
+        }
+    }
+}
+
 /// The words of `changes`.
 #[derive(Drop)]
 pub struct ChangesWords<'a> {
     pub data: &'a str,
     pub layout: TableLayout,
-    pub journal: &'a str,
+    pub groups: GroupsWord<'a>,
     pub start: StartWord,
     pub quiet: bool,
     pub hints: HintsWord,
@@ -217,6 +258,8 @@ impl<'a> Job<'a> {
             Job::Export(words) => words.hints,
             Job::Changes(words) => words.hints,
             Job::Ship(words) => words.hints,
+            Job::Store(words) => words.hints,
+            Job::Checkpoint(words) => words.hints,
         }
     }
 }
@@ -314,8 +357,8 @@ fn delimiter_of(alloc: Global, matches: &ArgMatches<'_>) -> Result<Delimiter, No
     }
 }
 
-// How the tables are laid out.
-fn layout_of(alloc: Global, matches: &ArgMatches<'_>) -> Result<TableLayout, Notice> {
+/// How the tables are laid out.
+pub(crate) fn layout_of(alloc: Global, matches: &ArgMatches<'_>) -> Result<TableLayout, Notice> {
     Ok(TableLayout {
         delimiter: delimiter_of(alloc, matches)?,
         has_heads: matches.get_flag("heads"),
@@ -414,6 +457,7 @@ fn serve_words<'a>(alloc: Global, matches: &ArgMatches<'a>) -> Result<ServeWords
     Ok(ServeWords {
         data: word_of(matches, "data"),
         layout: layout_of(alloc, matches)?,
+        store: store_of(matches),
         clients: words_of(alloc, matches, "clients")?,
         keep: matches.get_flag("keep"),
         journal: journal_of(matches),
@@ -440,6 +484,7 @@ fn export_words<'a>(alloc: Global, matches: &ArgMatches<'a>) -> Result<ExportWor
     Ok(ExportWords {
         data: word_of(matches, "data"),
         layout: layout_of(alloc, matches)?,
+        store: matches.get_str("store"),
         journal: word_of(matches, "journal"),
         folder: word_of(matches, "to"),
         quiet: matches.get_flag("quiet"),
@@ -455,11 +500,20 @@ fn start_of(matches: &ArgMatches<'_>) -> StartWord {
     StartWord::After(matches.get_one::<u64>("after").unwrap_or(0))
 }
 
+// Where groups come from; the grammar lets no two words through.
+fn groups_of<'a>(matches: &ArgMatches<'a>) -> GroupsWord<'a> {
+    match matches.get_str("feed") {
+        Some("-") => GroupsWord::Input,
+        Some(path) => GroupsWord::Feed(path),
+        None => GroupsWord::Journal(word_of(matches, "journal")),
+    }
+}
+
 fn changes_words<'a>(alloc: Global, matches: &ArgMatches<'a>) -> Result<ChangesWords<'a>, Notice> {
     Ok(ChangesWords {
         data: word_of(matches, "data"),
         layout: layout_of(alloc, matches)?,
-        journal: word_of(matches, "journal"),
+        groups: groups_of(matches),
         start: start_of(matches),
         quiet: matches.get_flag("quiet"),
         hints: hints_of(matches),
@@ -482,6 +536,8 @@ pub fn job_of<'a>(
         Some(("export", words)) => Job::Export(export_words(alloc, words)?),
         Some(("changes", words)) => Job::Changes(changes_words(alloc, words)?),
         Some(("ship", words)) => Job::Ship(ship_words(words)),
+        Some(("store", words)) => Job::Store(store_words(alloc, words)?),
+        Some(("checkpoint", words)) => Job::Checkpoint(checkpoint_words(words)),
         Some((_, words)) => query_job(alloc, words, columns)?,
         None => Job::Script,
     })

@@ -1,7 +1,7 @@
 //! The words of the program's command line, and what they ask for.
 //!
 //! ```text
-//! words ── job_of ─┬─ Job: query, run, serve, audit, export, changes, ship, each with its words; or none: a script
+//! words ── job_of ─┬─ Job: query, run, serve .. checkpoint, each with its words; or none: a script
 //!                  └─ Notice: help, the version, or why the words are wrong
 //! ```
 //!
@@ -21,11 +21,13 @@ mod help;
 mod job;
 mod notice;
 mod ship;
+mod store;
 
 pub use help::{REFRESH_HELP, STAR_HELP, TERMINAL_HELP};
 pub use job::{
-    AuditWords, ChangesWords, ExplainWords, ExportWords, FormatWord, HintsWord, Job, JournalWord,
-    QueryWords, RunWords, ServeWords, StandingWord, StartWord, job_of,
+    AuditWords, ChangesWords, ExplainWords, ExportWords, FormatWord, GroupsWord, HintsWord, Job,
+    JournalWord, QueryWords, RunWords, ServeWords, StandingWord, StartWord, job_of,
 };
 pub use notice::Notice;
 pub use ship::ShipWords;
+pub use store::{CheckpointWords, StoreWord, StoreWords};

@@ -20,8 +20,7 @@
 //! it, off that action.
 //!
 //! The groups may come as a stream, as `ship` writes them ([`run_feed`], `specs/Fed`): then those lines are handed on as
-//! each group comes, for as long as the stream goes on. What it gives is known where its input's bytes are. No word of
-//! the program calls it so far.
+//! each group comes, for as long as the stream goes on. What it gives is known where its input's bytes are.
 //!
 //! ```text
 //! let source = ChangesSource { base, marks: &marks, file, together: MOST_TOGETHER };

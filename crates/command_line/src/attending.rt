@@ -4,7 +4,6 @@ ghost use Rattle.std.specs.Thread.{IsSend};
 
 use confirmed_commits::Seconds;
 use journal_file::JournalFile;
-use journal_opening::JournalPath;
 use serve_command::{
     JournalPlace, PathClients, ServeSettings, StreamClient, serve_clients, serve_stream,
 };
@@ -15,6 +14,7 @@ use std::sync::Wait;
 use std::thread;
 use std::thread::Threads;
 use std::time::Clock;
+use store_folder::ServedJournal;
 
 /// How a client whose ends are open was served: the exit status, and whether it sent no request.
 #[derive(Clone, Copy, Debug, PartialEq, Eq)]
@@ -28,14 +28,15 @@ pub(crate) fn serve_one<R, F, T, I: Read + Drop + Send, W: Write + Drop + Send, 
     rt: &R,
     settings: ServeSettings,
     tables: TableFiles<T>,
-    place: Option<JournalPlace<'_, JournalPath<'_, F>, Seconds>>,
+    place: Option<JournalPlace<'_, ServedJournal<'_, F>, Seconds>>,
     client: StreamClient<I, W>,
     errors: &E,
 ) -> OneServed
 where
     R: Clock + Threads + Sync + Wait + AllocGlobal,
-    F: Files,
+    F: Files + Sync,
     F::File: JournalFile + Send,
+    F::Dir: Send,
     T: Read + Drop,
 {
     let ended = serve_stream(rt, settings, tables, place, client, errors);
@@ -50,7 +51,7 @@ pub(crate) fn attend_clients<R, F, I: Read + Drop, E: Print + Sync>(
     rt: &R,
     settings: ServeSettings,
     tables: TableFiles<I>,
-    place: Option<JournalPlace<'_, JournalPath<'_, F>, Seconds>>,
+    place: Option<JournalPlace<'_, ServedJournal<'_, F>, Seconds>>,
     clients: PathClients<'_, F>,
     errors: &E,
 ) -> u8

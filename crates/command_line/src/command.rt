@@ -1,48 +1,107 @@
 //! What the words of a command line do.
 
-use crate::attending::{attend_clients, serve_one};
+use crate::attending::attend_clients;
+use crate::attending::serve_one;
 use crate::confirming::serve_confirmed;
-use crate::histories::{check_trace, export_tables, write_changes};
-use crate::job_help::{tell_help, tell_notes};
-use crate::metrics::{MetricsFile, push_metrics};
-use crate::named_journal::{NamedJournal, PlaceParts};
-use crate::querying::{AskedWords, answer_query, explain_query, statements_on};
+use crate::histories::check_trace;
+use crate::histories::export_tables;
+use crate::histories::write_changes;
+use crate::job_help;
+use crate::job_help::tell_help;
+use crate::job_help::tell_notes;
+use crate::metrics::MetricsFile;
+use crate::metrics::push_metrics;
+use crate::named_journal;
+use crate::named_journal::NamedJournal;
+use crate::named_journal::PlaceParts;
+use crate::pipes;
+use crate::querying::AskedWords;
+use crate::querying::answer_query;
+use crate::querying::explain_query;
+use crate::querying::statements_on;
 use crate::seconds_view::NamedSeconds;
 use crate::shipping::ship_journal;
-use crate::streams::{Streams, tell};
+use crate::stores::ServedStore;
+use crate::stores::export_store;
+use crate::stores::fold_store;
+use crate::stores::make_store;
+use crate::stores::serve_store;
+use crate::streams::Streams;
+use crate::streams::tell;
 use crate::terminal_view::TerminalView;
-use crate::{job_help, named_journal, pipes};
-use arguments::{HintsWord, Job, JournalWord, RunWords, ServeWords, StandingWord, job_of};
+use arguments::HintsWord;
+use arguments::Job;
+use arguments::JournalWord;
+use arguments::RunWords;
+use arguments::ServeWords;
+use arguments::StandingWord;
+use arguments::job_of;
 use confirmed_commits::Seconds;
-use journal_file::{JournalFile, torn_path};
-use journal_opening::JournalPath;
+use journal_file::JournalFile;
+use journal_file::torn_path;
 use query_command::standard_questions;
-use run_command::{RunInput, RunSettings, demo, open_trace, run_scripts};
-use serve_command::{
-    Attendant, EndPaths, JournalPlace, MOST_CLIENTS, Past, PathClients, ServeFault, ServeRefusal,
-    ServeSettings, StreamClient, report_no_pipes,
-};
+use run_command::RunInput;
+use run_command::RunSettings;
+use run_command::demo;
+use run_command::open_trace;
+use run_command::run_scripts;
+use serve_command::Attendant;
+use serve_command::EndPaths;
+use serve_command::JournalPlace;
+use serve_command::MOST_CLIENTS;
+use serve_command::Past;
+use serve_command::PathClients;
+use serve_command::ServeFault;
+use serve_command::ServeRefusal;
+use serve_command::ServeSettings;
+use serve_command::StreamClient;
+use serve_command::report_no_pipes;
 use server_figures::LiveFigures;
-use ssb_files::{
-    Fault, JobFault, PathUse, Screen, TableBytes, UsedPath, check_paths, count_tables, find_tables,
-    open_file, open_files, open_tables, read_standing, watch_scripts, watch_tables,
-};
-use ssb_hints::{
-    FailedCalls, FaultLines, Observed, ObservedFiles, ReportedOutput, Reports, STANDARD_INPUT,
-    STANDARD_OUTPUT,
-};
+use ssb_files::Fault;
+use ssb_files::JobFault;
+use ssb_files::PathUse;
+use ssb_files::Screen;
+use ssb_files::TableBytes;
+use ssb_files::UsedPath;
+use ssb_files::check_paths;
+use ssb_files::count_tables;
+use ssb_files::find_tables;
+use ssb_files::open_file;
+use ssb_files::open_files;
+use ssb_files::open_tables;
+use ssb_files::read_standing;
+use ssb_files::watch_scripts;
+use ssb_files::watch_tables;
+use ssb_hints::FailedCalls;
+use ssb_hints::FaultLines;
+use ssb_hints::Observed;
+use ssb_hints::ObservedFiles;
+use ssb_hints::ReportedOutput;
+use ssb_hints::Reports;
+use ssb_hints::STANDARD_INPUT;
+use ssb_hints::STANDARD_OUTPUT;
 use ssb_questions::Question;
-use ssb_text::{TableFiles, Tables};
-use std::alloc::{AllocError, Global};
+use ssb_text::TableFiles;
+use ssb_text::Tables;
+use std::alloc::AllocError;
+use std::alloc::Global;
+use std::fs;
 use std::hash::RandomState;
-use std::io::{BufWriter, Print, Read, Write};
+use std::io;
+use std::io::BufWriter;
+use std::io::Print;
+use std::io::Read;
+use std::io::Write;
 use std::random::RandomSource;
 use std::rt::Files;
-use std::sync::{Arc, Wait};
+use std::sync::Arc;
+use std::sync::Wait;
 use std::thread::Threads;
 use std::time::Clock;
-use std::{fs, io};
-use terminal::{HelpedOutput, Prompted, TypedRequest};
+use store_folder::ServedJournal;
+use terminal::HelpedOutput;
+use terminal::Prompted;
+use terminal::TypedRequest;
 
 /// The terminal, where there is one and the words let it show the progress of a load, which begins now.
 pub(crate) fn screen_of<'a, C: Clock, P: Print>(
@@ -276,6 +335,14 @@ fn check_journal<F: Files + AllocGlobal>(
     }
 }
 
+// How many commits came before the first of the journal.
+fn past_of(journal: &Option<NamedJournal>) -> Past {
+    match journal {
+        Some(NamedJournal::Store(store)) => store.past(),
+        _ => Past::none(),
+    }
+}
+
 // Opens the tables of a live server, and reads the questions that are to stand. Its clients open their own ends. Where
 // there are too many of them, that is told, and nothing is opened: so neither their paths nor the questions nor the
 // journal are looked at.
@@ -283,6 +350,7 @@ fn open_server<R: RandomSource, F: Files + AllocGlobal>(
     rt: &R,
     files: &F,
     words: &ServeWords<'_>,
+    store: Option<Arc<ServedStore>>,
 ) -> Result<OpenedServer<F::File>, ServeFault> {
     let tables = open_tables(files, words.data)?;
     let source = open_standing(files, words.standing)?;
@@ -296,13 +364,13 @@ fn open_server<R: RandomSource, F: Files + AllocGlobal>(
     } else {
         Vec::new(files.alloc())
     };
-    let journal = NamedJournal::of(files, words)?;
+    let journal = NamedJournal::of(files, words, store)?;
     let seconds = Seconds::new(files.alloc(), words.confirmed.len())?;
     let hashing = hashing_of(rt)?;
     let settings = ServeSettings {
         hashing,
         dispatchers: words.dispatchers,
-        past: Past::none(),
+        past: past_of(&journal),
         standing,
         tells_ready: !words.quiet && !words.clients.is_empty(),
         figures: Arc::new(files.alloc(), LiveFigures::new())?,
@@ -337,7 +405,7 @@ fn serve_typed<R, F, T, I: Read + Drop + Send, W: Write + Drop + Send, E: Print 
     rt: &R,
     settings: ServeSettings,
     tables: TableFiles<T>,
-    place: Option<JournalPlace<'_, JournalPath<'_, F>, Seconds>>,
+    place: Option<JournalPlace<'_, ServedJournal<'_, F>, Seconds>>,
     view: &TerminalView<'_, '_, R, F>,
     streams: Streams<'_, I, W, E>,
 ) -> u8
@@ -392,8 +460,11 @@ where
         seconds,
     } = opened;
     let errors = streams.errors;
+    let Ok(path) = named_journal::served_journal(files, journal.as_ref()) else {
+        return Fault::OutOfMemory.tell(&mut io::writer(errors));
+    };
     let parts = PlaceParts {
-        path: named_journal::journal_path(files, journal.as_ref()),
+        path,
         seconds,
         bytes: TableBytes::new(),
     };
@@ -434,10 +505,18 @@ where
 }
 
 // Serves clients over the files of a folder.
-fn serve_live<R, F, I: Read + Drop + Send, W: Write + Drop + Send, E: Print + Sync, P: Print>(
+pub(crate) fn serve_live<
+    R,
+    F,
+    I: Read + Drop + Send,
+    W: Write + Drop + Send,
+    E: Print + Sync,
+    P: Print,
+>(
     rt: &R,
     files: &F,
     words: &ServeWords<'_>,
+    store: Option<Arc<ServedStore>>,
     terminal: Option<&P>,
     streams: Streams<'_, I, W, E>,
 ) -> u8
@@ -454,7 +533,7 @@ where
         clients,
         journal,
         seconds,
-    } = match open_server(rt, files, words) {
+    } = match open_server(rt, files, words, store) {
         Ok(opened) => opened,
         Err(fault) => return fault.tell(&mut io::writer(errors)),
     };
@@ -505,7 +584,7 @@ where
     };
     let view = TerminalView::of(rt, files, &settings, None, None, hints)?;
     let parts = PlaceParts {
-        path: named_journal::journal_path(files, None),
+        path: named_journal::served_journal(files, None)?,
         seconds: Arc::new(rt.alloc(), Seconds::new(rt.alloc(), 0)?)?,
         bytes: TableBytes::new(),
     };
@@ -530,7 +609,7 @@ where
 
 // Does a job, and gives the exit status; or a fault that nobody has told. Its errors go to `streams.errors`, but for
 // the progress of a load, which goes to the terminal.
-fn do_job<R, F, I: Read + Drop + Send, W: Write + Drop + Send, E: Print + Sync, P: Print>(
+fn do_job<R, F, I: Read + Drop + Send, W: Write + Drop + Send, E: Print + Sync, P: Print + Sync>(
     rt: &R,
     files: &F,
     job: &Job<'_>,
@@ -561,11 +640,21 @@ where
         }
         Job::Explain(words) => explain_query(rt, files, words, terminal, &mut streams.output, err),
         Job::Run(words) => report_scripts(rt, files, words, terminal, &mut streams.output, err),
-        Job::Serve(words) => Ok(serve_live(rt, files, words, terminal, streams)),
+        Job::Serve(words) => match words.store {
+            Some(store) => serve_store(rt, files, words, store, terminal, streams),
+            None => Ok(serve_live(rt, files, words, None, terminal, streams)),
+        },
         Job::Audit(words) => check_trace(rt, files, words, terminal, &mut streams.output, err),
-        Job::Export(words) => export_tables(rt, files, words, terminal, err),
-        Job::Changes(words) => write_changes(rt, files, words, &mut streams.output, err),
+        Job::Export(words) => match words.store {
+            Some(folder) => export_store(rt, files, words, folder, terminal, err),
+            None => export_tables(rt, files, words, terminal, err),
+        },
+        Job::Changes(words) => {
+            write_changes(rt, files, words, streams.input, &mut streams.output, err)
+        }
         Job::Ship(words) => Ok(ship_journal(rt, files, words, &mut streams.output, err)),
+        Job::Store(words) => make_store(rt, files, words, terminal, err),
+        Job::Checkpoint(words) => fold_store(rt, files, words, err),
     }
 }
 

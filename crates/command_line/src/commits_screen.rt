@@ -108,7 +108,8 @@ where
     F::Dir: Send,
     T: Read + Drop,
 {
-    if words.journal.is_none() || words.quiet || !streams.shows_progress {
+    let has_none = words.journal.is_none() && words.store.is_none();
+    if has_none || words.quiet || !streams.shows_progress {
         return serve_measured(rt, files, words, metrics, opened, streams);
     }
     let Streams {

@@ -3,17 +3,19 @@
 
 use crate::command::{hashing_of, screen_of};
 use crate::named_journal;
-use arguments::{AuditWords, ChangesWords, ExportWords, StartWord};
+use arguments::{AuditWords, ChangesWords, ExportWords, GroupsWord, StartWord};
 use audit_command::run_audit;
-use changes_command::{ChangesFault, ChangesPlace, ChangesRefusal, ChangesStart, run_changes};
+use changes_command::{
+    ChangesFault, ChangesPlace, ChangesRefusal, ChangesStart, FeedPlace, run_changes, run_feed,
+};
 use export_command::{ExportFault, ExportPlace, ExportRefusal, run_export};
 use journal_file::JournalFile;
-use journal_opening::ReadPath;
+use journal_opening::{OpensJournal, ReadPath};
 use ssb_files::{
     Fault, InputSource, TableBytes, count_tables, open_file, open_tables, watch, watch_tables,
 };
-use ssb_text::TableFiles;
-use std::io::{Print, Write};
+use ssb_text::{TableFiles, TableLayout, Tables};
+use std::io::{Print, Read, Write};
 use std::random::RandomSource;
 use std::rt::Files;
 use std::thread::Threads;
@@ -43,6 +45,50 @@ where
     Ok(run_audit(rt, hashing, tables, trace, out, err))
 }
 
+/// What is exported: tables that are opened, and the commits behind them.
+#[derive(Drop)]
+pub(crate) struct Exported<'j, O: Drop, J> {
+    pub(crate) tables: Tables<O>,
+    pub(crate) layout: TableLayout,
+    pub(crate) journal: &'j J,
+}
+
+/// Exports tables after the commits behind them.
+pub(crate) fn export_opened<R, F: Files + AllocGlobal, J: OpensJournal, P: Print, E: Write>(
+    rt: &R,
+    files: &F,
+    words: &ExportWords<'_>,
+    exported: Exported<'_, F::File, J>,
+    terminal: Option<&P>,
+    err: &mut E,
+) -> Result<u8, Fault>
+where
+    R: Clock + RandomSource + Threads + Sync + AllocGlobal,
+    F::File: JournalFile,
+{
+    let Exported {
+        tables,
+        layout,
+        journal,
+    } = exported;
+    let hashing = hashing_of(rt)?;
+    let screen = screen_of(rt, words.quiet, terminal);
+    let tables = watch_tables(screen.as_ref(), tables);
+    let bytes = TableBytes::new();
+    let tables = TableFiles {
+        tables: count_tables(&bytes, tables),
+        layout,
+    };
+    let place = ExportPlace {
+        journal,
+        files,
+        folder: words.folder,
+        bytes: &bytes,
+        tells: !words.quiet,
+    };
+    Ok(run_export(rt, hashing, tables, &place, err).status)
+}
+
 /// Exports the tables after a journal's commits, over the files of a folder.
 pub(crate) fn export_tables<R, F: Files + AllocGlobal, P: Print, E: Write>(
     rt: &R,
@@ -59,26 +105,16 @@ where
     if let Err(fault) = named_journal::check_is_there(files, words.journal) {
         return Ok(ExportFault::Found(ExportRefusal::Journal(fault)).tell(err));
     }
-    let hashing = hashing_of(rt)?;
-    let screen = screen_of(rt, words.quiet, terminal);
-    let tables = watch_tables(screen.as_ref(), tables);
-    let bytes = TableBytes::new();
-    let tables = TableFiles {
-        tables: count_tables(&bytes, tables),
-        layout: words.layout,
-    };
     let journal = ReadPath {
         files,
         path: words.journal,
     };
-    let place = ExportPlace {
+    let exported = Exported {
+        tables,
+        layout: words.layout,
         journal: &journal,
-        files,
-        folder: words.folder,
-        bytes: &bytes,
-        tells: !words.quiet,
     };
-    Ok(run_export(rt, hashing, tables, &place, err).status)
+    export_opened(rt, files, words, exported, terminal, err)
 }
 
 fn start_of(word: StartWord) -> ChangesStart {
@@ -88,11 +124,12 @@ fn start_of(word: StartWord) -> ChangesStart {
     }
 }
 
-/// Writes what the commits of a journal changed, over the files of a folder.
-pub(crate) fn write_changes<R, F: Files + AllocGlobal, W: Write, E: Write>(
+// Writes what the commits of a journal in a file changed.
+fn write_kept<R, F: Files + AllocGlobal, W: Write, E: Write>(
     rt: &R,
     files: &F,
     words: &ChangesWords<'_>,
+    path: &str,
     out: &mut W,
     err: &mut E,
 ) -> Result<u8, Fault>
@@ -101,7 +138,7 @@ where
     F::File: JournalFile,
 {
     let tables = open_tables(files, words.data)?;
-    if let Err(fault) = named_journal::check_is_there(files, words.journal) {
+    if let Err(fault) = named_journal::check_is_there(files, path) {
         return Ok(ChangesFault::Found(ChangesRefusal::Journal(fault)).tell(err));
     }
     let hashing = hashing_of(rt)?;
@@ -110,10 +147,7 @@ where
         tables: count_tables(&bytes, tables),
         layout: words.layout,
     };
-    let journal = ReadPath {
-        files,
-        path: words.journal,
-    };
+    let journal = ReadPath { files, path };
     let place = ChangesPlace {
         journal: &journal,
         bytes: &bytes,
@@ -121,4 +155,55 @@ where
         tells: !words.quiet,
     };
     Ok(run_changes(rt, hashing, tables, &place, out, err))
+}
+
+// Writes what the commits of a stream changed, as they come.
+fn write_fed<R, F: Files + AllocGlobal, G: Read + Drop, W: Write, E: Write>(
+    rt: &R,
+    files: &F,
+    words: &ChangesWords<'_>,
+    input: G,
+    out: &mut W,
+    err: &mut E,
+) -> Result<u8, Fault>
+where
+    R: RandomSource + Threads + Sync + AllocGlobal,
+{
+    let tables = open_tables(files, words.data)?;
+    let hashing = hashing_of(rt)?;
+    let bytes = TableBytes::new();
+    let tables = TableFiles {
+        tables: count_tables(&bytes, tables),
+        layout: words.layout,
+    };
+    let feed = FeedPlace {
+        input,
+        bytes: &bytes,
+        start: start_of(words.start),
+        tells: !words.quiet,
+    };
+    Ok(run_feed(rt, hashing, tables, feed, out, err))
+}
+
+/// Writes what the commits of a journal changed, or of a stream, over the files of a folder.
+pub(crate) fn write_changes<R, F: Files + AllocGlobal, I: Read + Drop, W: Write, E: Write>(
+    rt: &R,
+    files: &F,
+    words: &ChangesWords<'_>,
+    input: I,
+    out: &mut W,
+    err: &mut E,
+) -> Result<u8, Fault>
+where
+    R: RandomSource + Threads + Sync + AllocGlobal,
+    F::File: JournalFile,
+{
+    match words.groups {
+        GroupsWord::Journal(path) => write_kept(rt, files, words, path, out, err),
+        GroupsWord::Feed(path) => {
+            let input = open_file(files, path)?;
+            write_fed(rt, files, words, input, out, err)
+        }
+        GroupsWord::Input => write_fed(rt, files, words, input, out, err),
+    }
 }

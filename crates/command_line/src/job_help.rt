@@ -1,7 +1,9 @@
 //! Help about what a job names.
 
-use arguments::{Job, QueryWords, ServeWords, StandingWord};
-use ssb_hints::{FaultLines, Named, NamedTables, ObservedFiles, Reports, write_help, write_notes};
+use arguments::{ChangesWords, Job, QueryWords, ServeWords, StandingWord};
+use ssb_hints::{
+    FaultLines, Named, NamedTables, ObservedFiles, Reports, STANDARD_INPUT, write_help, write_notes,
+};
 use ssb_text::TableLayout;
 use std::io::{Print, Write};
 use std::rt::Files;
@@ -13,6 +15,16 @@ fn tables_named(folder: &str, layout: TableLayout) -> NamedTables<'_> {
 /// The tables of a live server.
 pub(crate) fn tables_of<'a>(words: &ServeWords<'a>) -> NamedTables<'a> {
     tables_named(words.data, words.layout)
+}
+
+// A path, unless a store stands in its place.
+fn path_if_named(path: &str) -> Option<&str> {
+    if path.is_empty() { None } else { Some(path) }
+}
+
+// The tables of this folder, unless a store stands in their place.
+fn tables_if_named(folder: &str, layout: TableLayout) -> Option<NamedTables<'_>> {
+    Some(tables_named(path_if_named(folder)?, layout))
 }
 
 // The query of a question; none where all are asked, those of a board, or a statement.
@@ -29,6 +41,14 @@ fn statements_named<'a>(words: &QueryWords<'a>) -> Option<&'a str> {
     match words.sql {
         Some("-") => None,
         text => text,
+    }
+}
+
+// The stream of a journal's groups, where the words have one.
+fn feed_named<'a>(words: &ChangesWords<'a>) -> Option<&'a str> {
+    match words.groups.feed() {
+        Some("-") => Some(STANDARD_INPUT),
+        feed => feed,
     }
 }
 
@@ -59,9 +79,10 @@ fn named_by<'a>(job: &'a Job<'_>) -> Named<'a> {
             ..nothing
         },
         Job::Serve(words) => Named {
-            data: Some(tables_named(words.data, words.layout)),
+            data: tables_if_named(words.data, words.layout),
             standing: standing_path(words.standing),
             journal: words.journal.map(|word| word.path()),
+            store: words.store.map(|word| word.folder),
             clients: words.clients.as_slice(),
             ..nothing
         },
@@ -71,18 +92,30 @@ fn named_by<'a>(job: &'a Job<'_>) -> Named<'a> {
             ..nothing
         },
         Job::Export(words) => Named {
-            data: Some(tables_named(words.data, words.layout)),
-            journal: Some(words.journal),
+            data: tables_if_named(words.data, words.layout),
+            journal: path_if_named(words.journal),
+            store: words.store,
             folder: Some(words.folder),
             ..nothing
         },
         Job::Changes(words) => Named {
             data: Some(tables_named(words.data, words.layout)),
-            journal: Some(words.journal),
+            journal: words.groups.journal(),
+            feed: feed_named(words),
             ..nothing
         },
         Job::Ship(words) => Named {
             journal: Some(words.journal),
+            ..nothing
+        },
+        Job::Store(words) => Named {
+            data: Some(tables_named(words.data, words.layout)),
+            store: Some(words.folder),
+            folder: Some(words.folder),
+            ..nothing
+        },
+        Job::Checkpoint(words) => Named {
+            store: Some(words.folder),
             ..nothing
         },
     }

@@ -1,32 +1,38 @@
 //! The journal that the words of a command name.
 
-ghost use Rattle.std.specs.Prelude.{◌≡◌, IfOk, is_some};
+ghost use Rattle.std.specs.Prelude.{◌≡◌, ◌||◌, IfOk, is_some};
 
+use crate::stores::ServedStore;
 use arguments::{JournalWord, ServeWords};
 use confirmed_commits::Seconds;
-use journal_file::find_journal;
-use journal_opening::{JournalPath, JournalStart, OpeningFault};
+use journal_file::{JournalFile, find_journal};
+use journal_opening::{JournalStart, OpeningFault};
 use serve_command::JournalPlace;
 use ssb_files::TableBytes;
 use std::alloc::AllocError;
 use std::rt::Files;
 use std::sync::Arc;
+use store_folder::{OneFile, ServedJournal};
 
-/// The journal of a server: its path, and whether it is gone on with or begins.
+/// The journal of a server: in a file, by its path, and whether it is gone on with or begins; or a store.
 #[derive(Drop)]
-pub(crate) struct NamedJournal {
-    path: String,
-    start: JournalStart,
+pub(crate) enum NamedJournal {
+    File(String, JournalStart),
+    Store(Arc<ServedStore>),
 }
 
 impl NamedJournal {
-    /// That of these words, where they name one.
+    /// That of these words, where they name one, or of a store that was found.
     pub(crate) fn of<F: AllocGlobal>(
         files: &F,
         words: &ServeWords<'_>,
+        store: Option<Arc<ServedStore>>,
     ) -> Result<Option<NamedJournal>, AllocError>
-        ensures { IfOk result (λ named. is_some named ≡ is_some words.now.journal) }
+        ensures { IfOk result (λ named. is_some named ≡ is_some words.now.journal || is_some store) }
     {
+        if let Some(store) = store {
+            return Ok(Some(NamedJournal::Store(store)));
+        }
         let Some(word) = words.journal else {
             return Ok(None);
         };
@@ -34,10 +40,8 @@ impl NamedJournal {
             JournalWord::GoesOn(_) => JournalStart::GoesOn,
             JournalWord::Begins(_) => JournalStart::Begins,
         };
-        Ok(Some(NamedJournal {
-            path: String::from_str(files.alloc(), word.path())?,
-            start,
-        }))
+        let path = String::from_str(files.alloc(), word.path())?;
+        Ok(Some(NamedJournal::File(path, start)))
     }
 }
 
@@ -53,36 +57,47 @@ pub(crate) fn check_is_there<F: Files + AllocGlobal>(
     }
 }
 
-/// The journal's file, where there is one.
-pub(crate) fn journal_path<'a, F: Files + AllocGlobal>(
+/// The journal, where there is one.
+pub(crate) fn served_journal<'a, F: Files + AllocGlobal>(
     files: &'a F,
     journal: Option<&'a NamedJournal>,
-) -> Option<JournalPath<'a, F>>
-    ensures { is_some result ≡ is_some journal.entry }
+) -> Result<Option<ServedJournal<'a, F>>, AllocError>
+where
+    F::File: JournalFile,
+    ensures { IfOk result (λ served. is_some served ≡ is_some journal.entry) }
 {
-    let journal = journal?;
-    Some(JournalPath {
-        files,
-        alloc: files.alloc(),
-        path: journal.path.as_str(),
-        start: journal.start,
-    })
+    match journal {
+        Some(NamedJournal::File(path, start)) => Ok(Some(ServedJournal::File(OneFile {
+            files,
+            alloc: files.alloc(),
+            path: path.as_str(),
+            start: *start,
+        }))),
+        Some(NamedJournal::Store(store)) => Ok(Some(ServedJournal::Store(store.place(files)?))),
+        None => Ok(None),
+    }
 }
 
 /// What the place of a server's journal refers to.
 #[derive(Drop)]
 pub(crate) struct PlaceParts<'f, F: Files> {
-    /// The journal's file, where there is one.
-    pub(crate) path: Option<JournalPath<'f, F>>,
+    /// The journal, where there is one.
+    pub(crate) path: Option<ServedJournal<'f, F>>,
     /// The second servers that confirm its commits.
     pub(crate) seconds: Arc<Seconds>,
     /// The bytes of the tables, which are counted while these are loaded.
     pub(crate) bytes: TableBytes,
 }
 
-impl<'f, F: Files> PlaceParts<'f, F> {
+impl<'f, F: Files> PlaceParts<'f, F>
+where
+    F::File: JournalFile,
+{
     /// The journal's place, where there is a file; and whether it is told how many commits it has.
-    pub(crate) fn place(&self, tells: bool) -> Option<JournalPlace<'_, JournalPath<'f, F>, Seconds>>
+    pub(crate) fn place(
+        &self,
+        tells: bool,
+    ) -> Option<JournalPlace<'_, ServedJournal<'f, F>, Seconds>>
         ensures { is_some result ≡ is_some self.now.path }
     {
         Some(JournalPlace {

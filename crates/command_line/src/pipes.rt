@@ -10,7 +10,7 @@ use std::rt::Files;
 // The folder whose tables a job loads, unless it shows nothing meanwhile.
 fn loaded_folder<'a>(job: &Job<'a>) -> Option<&'a str> {
     let (folder, quiet) = match job {
-        Job::Script | Job::Ship(_) => return None,
+        Job::Script | Job::Ship(_) | Job::Checkpoint(_) => return None,
         Job::Query(words) => (words.data, words.quiet),
         Job::Explain(words) => (words.data?, words.quiet),
         Job::Run(words) => (words.data, words.quiet),
@@ -18,8 +18,13 @@ fn loaded_folder<'a>(job: &Job<'a>) -> Option<&'a str> {
         Job::Audit(words) => (words.data, words.quiet),
         Job::Export(words) => (words.data, words.quiet),
         Job::Changes(words) => (words.data, words.quiet),
+        Job::Store(words) => (words.data, words.quiet),
     };
-    if quiet { None } else { Some(folder) }
+    // Those of a store are files.
+    if quiet || folder.is_empty() {
+        return None;
+    }
+    Some(folder)
 }
 
 /// Reports the tables of a job that are pipes, before they are opened.

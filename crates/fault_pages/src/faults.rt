@@ -1,6 +1,7 @@
 //! Every fault that has a number, with the values that the page's words in capitals stand for.
 
 use crate::help::push_help;
+use changes_command::FeedFault;
 use export_command::NotEmpty;
 use journal_file::{NoJournal, OpenError};
 use journal_opening::NoSuchCommit;
@@ -18,6 +19,7 @@ use ssb_sql::{SqlFault, TextPlace};
 use ssb_text::LoadError;
 use std::alloc::{AllocError, Global};
 use std::fmt::Display;
+use store_folder::StoreFault;
 use stream_sessions::ReadOnly;
 
 /// A type of faults, or of help, that lists its variants that have a number or a row, one after the other.
@@ -286,6 +288,36 @@ impl ListsFaults for NoSuchCommit {
     }
 }
 
+impl ListsFaults for FeedFault {
+    fn first() -> FeedFault {
+        FeedFault::NotAFeed
+    }
+
+    fn next(&self) -> Option<FeedFault> {
+        match self {
+            FeedFault::NotAFeed => Some(FeedFault::FeedEnded),
+            FeedFault::FeedEnded => None,
+        }
+    }
+}
+
+impl ListsFaults for StoreFault {
+    fn first() -> StoreFault {
+        StoreFault::NoStore
+    }
+
+    // A file that is damaged has the number of a damaged journal, behind its path.
+    fn next(&self) -> Option<StoreFault> {
+        match self {
+            StoreFault::NoStore => Some(StoreFault::Gap(3)),
+            StoreFault::Gap(_)
+            | StoreFault::Damaged(_)
+            | StoreFault::CannotRead(_)
+            | StoreFault::OutOfMemory => None,
+        }
+    }
+}
+
 impl ListsFaults for NotEmpty {
     fn first() -> NotEmpty {
         NotEmpty
@@ -390,6 +422,8 @@ pub fn all_lines(alloc: Global) -> Result<Vec<String>, AllocError> {
     push_lines::<ReplayFault>(alloc, &mut lines)?;
     push_lines::<OpenError>(alloc, &mut lines)?;
     push_lines::<NoJournal<&'static str>>(alloc, &mut lines)?;
+    push_lines::<FeedFault>(alloc, &mut lines)?;
+    push_lines::<StoreFault>(alloc, &mut lines)?;
     push_lines::<NotEmpty>(alloc, &mut lines)?;
     push_lines::<NoSuchCommit>(alloc, &mut lines)?;
     push_lines::<ReadOnly>(alloc, &mut lines)?;

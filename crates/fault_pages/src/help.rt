@@ -2,9 +2,9 @@
 
 use crate::faults::{ListsFaults, push_lines};
 use ssb_hints::{
-    AuditHelp, BoardHelp, ClashHelp, ConstantsHelp, FileKind, JournalHelp, PathHelp, PathRole,
-    PromptHelp, QuestionHelp, QuestionNote, RefusalHelp, RowHelp, RowPlace, RunNote, ScriptHelp,
-    StarHabit, StarHelp, StatementHelp, TableHelp,
+    AuditHelp, BoardHelp, ClashHelp, ConstantsHelp, FeedHelp, FileKind, JournalHelp, PathHelp,
+    PathRole, PromptHelp, QuestionHelp, QuestionNote, RefusalHelp, RowHelp, RowPlace, RunNote,
+    ScriptHelp, StarHabit, StarHelp, StatementHelp, StoreHelp, TableHelp,
 };
 use ssb_questions::{Query, Question};
 use ssb_schema::{C_CITY, SchemaFault, Table};
@@ -308,6 +308,43 @@ impl ListsFaults for JournalHelp<'static> {
     }
 }
 
+impl ListsFaults for FeedHelp<'static> {
+    fn first() -> FeedHelp<'static> {
+        FeedHelp::NotAFeed("answers")
+    }
+
+    fn next(&self) -> Option<FeedHelp<'static>> {
+        Some(match self {
+            FeedHelp::NotAFeed(path) => FeedHelp::Ended(path),
+            FeedHelp::Ended(path) => FeedHelp::OtherTables(path, "customer"),
+            FeedHelp::OtherTables(path, _) => FeedHelp::Refused(path),
+            FeedHelp::Refused(path) => FeedHelp::Damaged(path),
+            FeedHelp::Damaged(_) => return None,
+        })
+    }
+}
+
+impl ListsFaults for StoreHelp<'static> {
+    fn first() -> StoreHelp<'static> {
+        StoreHelp::NoTables("tables")
+    }
+
+    fn next(&self) -> Option<StoreHelp<'static>> {
+        Some(match self {
+            StoreHelp::NoTables(folder) => StoreHelp::NoStore(folder),
+            StoreHelp::NoStore(_) => StoreHelp::NoSegment("answers"),
+            StoreHelp::NoSegment(path) => StoreHelp::NothingBefore(path),
+            StoreHelp::NothingBefore(path) => StoreHelp::Damaged(path),
+            StoreHelp::Damaged(_) => StoreHelp::InCheckpoint("tables"),
+            StoreHelp::InCheckpoint(folder) => StoreHelp::InUse(folder),
+            StoreHelp::InUse(folder) => StoreHelp::OtherTables(folder),
+            StoreHelp::OtherTables(folder) => StoreHelp::Refused(folder),
+            StoreHelp::Refused(folder) => StoreHelp::DamagedGroup(folder),
+            StoreHelp::DamagedGroup(_) => return None,
+        })
+    }
+}
+
 impl ListsFaults for RefusalHelp {
     fn first() -> RefusalHelp {
         RefusalHelp::Action(4, "LO_TAX", 77)
@@ -368,6 +405,8 @@ fn push_texts(alloc: Global, texts: &mut Vec<String>) -> Result<(), AllocError> 
     push_lines::<BoardHelp>(alloc, texts)?;
     push_lines::<AuditHelp>(alloc, texts)?;
     push_lines::<JournalHelp<'static>>(alloc, texts)?;
+    push_lines::<FeedHelp<'static>>(alloc, texts)?;
+    push_lines::<StoreHelp<'static>>(alloc, texts)?;
     push_lines::<RefusalHelp>(alloc, texts)
 }
 

@@ -21,6 +21,15 @@ pub(crate) struct FailedCall {
     pub(crate) error: io::Error,
 }
 
+impl FailedCall {
+    fn copy(&self) -> Option<FailedCall> {
+        Some(FailedCall {
+            path: self.path.clone().ok()?,
+            error: self.error,
+        })
+    }
+}
+
 // The last of them, the newest at the end.
 #[derive(Drop)]
 struct LastCalls {
@@ -44,6 +53,21 @@ impl LastCalls {
             }
         }
         found
+    }
+
+    fn within(&self, folder: &str) -> Option<&FailedCall> {
+        self.calls
+            .iter()
+            .rev()
+            .find(|call| is_within(call.path.as_str(), folder))
+    }
+}
+
+// Whether a path is that of a folder, or of what lies in it.
+fn is_within(path: &str, folder: &str) -> bool {
+    match path.strip_prefix(folder) {
+        Some(rest) => rest.is_empty() || rest.starts_with("/"),
+        None => false,
     }
 }
 
@@ -92,10 +116,12 @@ impl FailedCalls {
     // The last one.
     pub(crate) fn last(&self) -> Option<FailedCall> {
         let last = self.last.try_lock()?;
-        let call = last.calls.last()?;
-        Some(FailedCall {
-            path: call.path.clone().ok()?,
-            error: call.error,
-        })
+        last.calls.last()?.copy()
+    }
+
+    // The last one on a folder, or on what lies in it.
+    pub(crate) fn last_within(&self, folder: &str) -> Option<FailedCall> {
+        let last = self.last.try_lock()?;
+        last.within(folder)?.copy()
     }
 }

@@ -5,14 +5,16 @@ use crate::boards::help_with_board;
 use crate::clashes::help_with_clash;
 use crate::failed_calls::{STANDARD_INPUT, STANDARD_OUTPUT};
 use crate::fault_lines::FaultLines;
+use crate::feeds::help_with_feed;
 use crate::journals::help_with_journal;
 use crate::named::Named;
 use crate::observed_files::ObservedFiles;
-use crate::paths::{help_with_last_call, help_with_path};
+use crate::paths::{help_with_folder, help_with_last_call, help_with_path};
 use crate::questions::help_with_question;
 use crate::rows::{help_with_table_path, help_with_tables};
 use crate::script_files::{help_with_script_file, help_with_standing, help_with_trace};
 use crate::statements::help_with_statements;
+use crate::stores::{help_with_store, help_with_store_commits, help_with_store_tables};
 use std::alloc::{AllocError, Global};
 use std::io;
 use std::io::{Print, Write};
@@ -34,8 +36,40 @@ fn path_of<'a>(named: &Named<'a>, subject: &str) -> Option<&'a str> {
         "board" => named.board,
         "standing" => named.standing,
         "trace" => named.trace,
-        "journal" | "changes" | "ship" => named.journal,
         _ => script_of(named, subject.strip_prefix("script ")?),
+    }
+}
+
+// Says what is wrong with tables: those that the words name, or those of a store.
+fn help_with_data<F: Files, E: Write>(
+    files: &ObservedFiles<'_, F>,
+    named: &Named<'_>,
+    words: &[&str],
+    err: &mut E,
+) -> io::Result<()> {
+    match (named.data, named.store) {
+        (Some(tables), _) => help_with_tables(files, tables, words, err),
+        (None, Some(folder)) => help_with_store_tables(files, folder, words, err),
+        (None, None) => Ok(()),
+    }
+}
+
+// Says what is wrong with what is told as a journal: that, a store, or a stream.
+fn help_with_commits<F: Files, E: Write>(
+    files: &ObservedFiles<'_, F>,
+    named: &Named<'_>,
+    words: &[&str],
+    err: &mut E,
+) -> io::Result<()> {
+    if let Some(folder) = named.store {
+        return help_with_store_commits(files, folder, words, err);
+    }
+    if let Some(path) = named.feed {
+        return help_with_feed(files, path, words, err);
+    }
+    match named.journal {
+        Some(path) => help_with_journal(files, path, words, err),
+        None => Ok(()),
     }
 }
 
@@ -47,11 +81,15 @@ fn help_with_numbered<F: Files, E: Write>(
     words: &[&str],
     err: &mut E,
 ) -> io::Result<()> {
-    if let ("data", Some(tables)) = (subject, named.data) {
-        return help_with_tables(files, tables, words, err);
-    }
     if let ("audit", [number, ..]) = (subject, words) {
         return help_with_audit(number, err);
+    }
+    match subject {
+        "data" => return help_with_data(files, named, words, err),
+        "journal" | "changes" | "ship" | "feed" => {
+            return help_with_commits(files, named, words, err);
+        }
+        _ => {}
     }
     let Some(path) = path_of(named, subject) else {
         return Ok(());
@@ -60,8 +98,29 @@ fn help_with_numbered<F: Files, E: Write>(
         "board" => help_with_board(files, path, words, err),
         "standing" => help_with_standing(files, path, words, err),
         "trace" => help_with_trace(files, path, words, err),
-        "journal" | "changes" | "ship" => help_with_journal(files, path, words, err),
         _ => help_with_script_file(files, path, words, err),
+    }
+}
+
+// Says what is wrong with a store: with the folder of a new one, with what is there, or with its commits.
+fn help_with_some_store<F: Files, E: Write>(
+    files: &ObservedFiles<'_, F>,
+    named: &Named<'_>,
+    told: &str,
+    err: &mut E,
+) -> io::Result<()> {
+    let Some(folder) = named.store else {
+        return Ok(());
+    };
+    if told.starts_with("95 ") {
+        return help_with_clash(files, named, told, err);
+    }
+    match told.strip_prefix("journal: ") {
+        Some(told) => {
+            let words = words_of(files.alloc(), told)?;
+            help_with_store_commits(files, folder, words.as_slice(), err)
+        }
+        None => help_with_store(files, folder, told, err),
     }
 }
 
@@ -92,11 +151,12 @@ fn help_with_words<F: Files, E: Write>(
         };
     }
     if let Some(path) = fault.strip_prefix("cannot write ") {
-        return help_with_path(files, path, err);
+        return help_with_folder(files, path, err);
     }
-    match fault {
-        "write failed" => help_with_last_call(files, err),
-        "journal write failed" => help_with_some_path(files, named.journal, err),
+    match (fault, named.store) {
+        ("write failed", _) => help_with_last_call(files, err),
+        ("journal write failed", Some(folder)) => help_with_folder(files, folder, err),
+        ("journal write failed", None) => help_with_some_path(files, named.journal, err),
         _ => Ok(()),
     }
 }
@@ -185,6 +245,7 @@ fn help_with_fault<F: Files, E: Write>(
         "query" => help_with_some_question(files.alloc(), named, err),
         "sql" => help_with_some_statement(files, named, err),
         "paths" | "metrics" | "export" => help_with_clash(files, named, told, err),
+        "store" => help_with_some_store(files, named, told, err),
         _ => {
             let words = words_of(files.alloc(), told)?;
             help_with_numbered(files, named, subject, words.as_slice(), err)

@@ -6,7 +6,7 @@
 //! files ◀── ObservedFiles, Observed ◀──│── a job, which opens, reads and writes
 //!               └─ FailedCalls ────────┤
 //!                                  write_help ─▶ errors          help: no query is named q1.1; did you mean Q1.1?
-//!                                      └─ looks again at what the words name: question, tables, scripts, journal
+//!                                      └─ looks again at what the words name: question, tables, scripts, store
 //! ```
 //!
 //! Help is made of the fault's line, as the page of faults promises it, of why calls on files failed, which is kept as
@@ -35,6 +35,7 @@ mod column_values;
 mod constants;
 mod failed_calls;
 mod fault_lines;
+mod feeds;
 mod helping;
 mod job_notes;
 mod journals;
@@ -58,6 +59,7 @@ mod scripts;
 mod star;
 mod star_habits;
 mod statements;
+mod stores;
 mod table_files;
 
 pub use audits::AuditHelp;
@@ -65,6 +67,7 @@ pub use boards::BoardHelp;
 pub use clashes::{ClashHelp, PathRole};
 pub use failed_calls::{FailedCalls, STANDARD_INPUT, STANDARD_OUTPUT};
 pub use fault_lines::FaultLines;
+pub use feeds::FeedHelp;
 pub use helping::write_help;
 pub use job_notes::{RunNote, write_notes, write_request_notes};
 pub use journals::JournalHelp;
@@ -82,4 +85,5 @@ pub use script_help::ScriptHelp;
 pub use star::StarHelp;
 pub use star_habits::StarHabit;
 pub use statements::StatementHelp;
+pub use stores::StoreHelp;
 pub use table_files::{FileKind, TableHelp};

@@ -29,7 +29,11 @@ pub struct Named<'a> {
     pub trace: Option<&'a str>,
     /// The journal.
     pub journal: Option<&'a str>,
-    /// The folder of an export.
+    /// The stream of a journal's groups, as a person knows it.
+    pub feed: Option<&'a str>,
+    /// The folder of the store.
+    pub store: Option<&'a str>,
+    /// The folder of an export, or of a new store.
     pub folder: Option<&'a str>,
     /// IN and OUT of each client of a server in turn; none where standard input and output are served.
     pub clients: &'a [&'a str],
@@ -48,6 +52,8 @@ impl<'a> Named<'a> {
             standing: None,
             trace: None,
             journal: None,
+            feed: None,
+            store: None,
             folder: None,
             clients: &[],
         }

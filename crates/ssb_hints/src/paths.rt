@@ -84,6 +84,18 @@ pub fn help_with_path<F: Files, E: Write>(
     }
 }
 
+/// Says why the last call on a path, or on what lies in the folder of that path, failed, where one did.
+pub fn help_with_folder<F: Files, E: Write>(
+    files: &ObservedFiles<'_, F>,
+    folder: &str,
+    err: &mut E,
+) -> io::Result<()> {
+    match files.failed().last_within(folder) {
+        Some(call) => write_line(err, &reason(files, call.path.as_str(), call.error)),
+        None => Ok(()),
+    }
+}
+
 /// Says why the last call that failed did so.
 pub fn help_with_last_call<F: Files, E: Write>(
     files: &ObservedFiles<'_, F>,

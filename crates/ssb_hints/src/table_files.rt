@@ -5,7 +5,7 @@ use crate::observed_files::ObservedFiles;
 use crate::records::open_plain;
 use ssb_schema::Table;
 use std::alloc::Global;
-use std::io::{Read, Write};
+use std::io::{BufReader, Read, Write};
 use std::rt::Files;
 use std::{fmt, fs, io};
 
@@ -133,11 +133,12 @@ pub(crate) fn help_with_no_rows<F: Files, E: Write>(
     Ok(())
 }
 
-// The names in a folder, of which a read gives each with a zero byte behind it.
+// The names in a folder, each with a zero byte behind it. A read gives only names for which its buffer has room, and
+// fails where it has none for the next one.
 fn names_in<F: Files>(files: &ObservedFiles<'_, F>, folder: &str) -> io::Result<Vec<u8>> {
     let within = format!(in files.alloc(); "{folder}/")?;
     let mut names = Vec::new(files.alloc());
-    files.open_dir(within.as_str())?.read_to_end(&mut names)?;
+    BufReader::new(files.alloc(), files.open_dir(within.as_str())?)?.read_to_end(&mut names)?;
     Ok(names)
 }
 

@@ -1,4 +1,4 @@
-//! A new store of five tables, and newer tables of a store's closed segments; no word of the program calls it so far.
+//! The words `store` and `checkpoint`: a new store of five tables, and newer tables of a store's closed segments.
 //!
 //! ```text
 //! store        tables ── export, of no commits ─▶ tables.0, journal.0, and sizes

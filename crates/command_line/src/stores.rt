@@ -1,0 +1,271 @@
+//! Stores: a new one, newer tables of one, one that is served, and one whose tables are exported.
+
+ghost use Rattle.std.specs.Thread.{IsSend};
+
+use crate::command::{hashing_of, screen_of, serve_live};
+use crate::end_bell::EndBell;
+use crate::histories::{Exported, export_opened};
+use crate::streams::Streams;
+use arguments::{CheckpointWords, ExportWords, ServeWords, StoreWord, StoreWords};
+use journal_file::JournalFile;
+use serve_command::Past;
+use ssb_files::JobFault::Found;
+use ssb_files::{Fault, TableBytes, count_tables, open_tables, watch_tables};
+use ssb_text::{TableFiles, TableLayout};
+use std::alloc::{AllocError, Global};
+use std::hash::RandomState;
+use std::io::{Print, Read, Write};
+use std::random::RandomSource;
+use std::rt::Files;
+use std::sync::{Arc, Wait};
+use std::thread::Threads;
+use std::time::{Clock, Duration};
+use std::{io, thread};
+use store_command::{StoreJobFault, StoreRefusal, run_checkpoint, run_store};
+use store_folder::{
+    FoundStore, SegmentTurns, StoreFault, StorePlace, StoreUse, find_store, sizes_path, tables_path,
+};
+
+// How often it is looked whether a segment could not be made, in seconds.
+const BETWEEN_LOOKS: u64 = 1;
+
+/// A store that was found, and how it is served.
+#[derive(Drop)]
+pub(crate) struct ServedStore {
+    folder: String,
+    // How many commits a segment has at most.
+    segment: u64,
+    found: FoundStore,
+    // How many commits the newest tables are after.
+    past: Past,
+    turns: SegmentTurns,
+}
+
+impl ServedStore {
+    // A store that was found, by the words of a server.
+    fn of(
+        alloc: Global,
+        word: StoreWord<'_>,
+        found: FoundStore,
+    ) -> Result<ServedStore, StoreJobFault> {
+        let Some(past) = Past::new(found.after()) else {
+            let path = sizes_path(alloc, word.folder, found.after())?;
+            return Err(refused(StoreFault::Damaged(path)));
+        };
+        Ok(ServedStore {
+            folder: String::from_str(alloc, word.folder)?,
+            segment: word.segment,
+            found,
+            past,
+            turns: SegmentTurns::new(),
+        })
+    }
+
+    /// How many commits of the store came before those behind its newest tables.
+    pub(crate) fn past(&self) -> Past {
+        self.past
+    }
+
+    /// The place of its commits, to be gone on with.
+    pub(crate) fn place<'b, F: Files + AllocGlobal>(
+        &'b self,
+        files: &'b F,
+    ) -> Result<StorePlace<'b, F>, AllocError>
+    where
+        F::File: JournalFile,
+    {
+        let folder = self.folder.as_str();
+        let mut place = StorePlace::new(
+            files,
+            files.alloc(),
+            folder,
+            &self.found,
+            StoreUse::Serving,
+        )?;
+        place.most = self.segment;
+        place.turns = Some(&self.turns);
+        Ok(place)
+    }
+
+    // Tells once that a segment could not be made.
+    fn tell_unmade<R: Wait, E: Print>(&self, rt: &R, bell: &EndBell, errors: &E) {
+        let mut is_told = false;
+        for _ in rt.forever() {
+            bell.await_for(rt, Duration::from_secs(BETWEEN_LOOKS));
+            if let (Some(last), false) = (self.turns.goes_on(), is_told) {
+                let mut err = io::writer(errors);
+                let _ = writeln!(
+                    err,
+                    "ssb_live: store: no new segment, journal.{last} goes on"
+                );
+                is_told = true;
+            }
+            if bell.has_rung() {
+                return;
+            }
+        }
+    }
+}
+
+fn refused(fault: StoreFault) -> StoreJobFault {
+    Found(StoreRefusal::Store(fault))
+}
+
+// The store in this folder.
+fn find<F: Files>(files: &F, alloc: Global, folder: &str) -> Result<FoundStore, StoreJobFault>
+where
+    F::File: JournalFile,
+{
+    match find_store(files, alloc, folder) {
+        Ok(found) => Ok(found),
+        Err(fault) => Err(refused(fault)),
+    }
+}
+
+/// Makes a store of the files of a folder.
+pub(crate) fn make_store<'a, R, F: Files + AllocGlobal, P: Print, E: Write>(
+    rt: &'a R,
+    files: &F,
+    words: &StoreWords<'_>,
+    terminal: Option<&'a P>,
+    err: &mut E,
+) -> Result<u8, Fault>
+where
+    R: Clock + RandomSource + Threads + Sync + AllocGlobal,
+    F::File: JournalFile,
+{
+    let tables = open_tables(files, words.data)?;
+    let hashing = hashing_of(rt)?;
+    let screen = screen_of(rt, words.quiet, terminal);
+    let tables = watch_tables(screen.as_ref(), tables);
+    let bytes = TableBytes::new();
+    let tables = TableFiles {
+        tables: count_tables(&bytes, tables),
+        layout: words.layout,
+    };
+    Ok(run_store(rt, hashing, files, tables, &bytes, words.folder, err))
+}
+
+/// Makes newer tables of a store.
+pub(crate) fn fold_store<R, F: Files + AllocGlobal, E: Write>(
+    rt: &R,
+    files: &F,
+    words: &CheckpointWords<'_>,
+    err: &mut E,
+) -> Result<u8, Fault>
+where
+    R: RandomSource + Threads + Sync + AllocGlobal,
+    F::File: JournalFile,
+{
+    let hashing: RandomState = hashing_of(rt)?;
+    Ok(run_checkpoint(rt, hashing, files, words.folder, !words.quiet, err))
+}
+
+/// Exports the tables of a store after all of its commits.
+pub(crate) fn export_store<R, F: Files + AllocGlobal, P: Print, E: Write>(
+    rt: &R,
+    files: &F,
+    words: &ExportWords<'_>,
+    folder: &str,
+    terminal: Option<&P>,
+    err: &mut E,
+) -> Result<u8, Fault>
+where
+    R: Clock + RandomSource + Threads + Sync + AllocGlobal,
+    F::File: JournalFile,
+{
+    let found = match find(files, files.alloc(), folder) {
+        Ok(found) => found,
+        Err(fault) => return Ok(fault.tell(err)),
+    };
+    let data = tables_path(files.alloc(), folder, found.after())?;
+    let tables = open_tables(files, data.as_str())?;
+    let journal = StorePlace::new(files, files.alloc(), folder, &found, StoreUse::Reading)?;
+    let exported = Exported {
+        tables,
+        layout: TableLayout::benchmark(),
+        journal: &journal,
+    };
+    export_opened(rt, files, words, exported, terminal, err)
+}
+
+// The store of a server.
+fn found_store<F: Files>(
+    files: &F,
+    alloc: Global,
+    store: StoreWord<'_>,
+) -> Result<ServedStore, StoreJobFault>
+where
+    F::File: JournalFile,
+{
+    let found = find(files, alloc, store.folder)?;
+    ServedStore::of(alloc, store, found)
+}
+
+// The words of a server over the newest tables of a store.
+fn over_tables<'a, 'b: 'a>(
+    words: &ServeWords<'b>,
+    data: &'a str,
+) -> Result<ServeWords<'a>, AllocError> {
+    Ok(ServeWords {
+        data,
+        layout: TableLayout::benchmark(),
+        store: words.store,
+        clients: words.clients.clone()?,
+        keep: words.keep,
+        journal: None,
+        confirmed: words.confirmed.clone()?,
+        metrics: words.metrics,
+        standing: words.standing,
+        dispatchers: words.dispatchers,
+        quiet: words.quiet,
+        hints: words.hints,
+    })
+}
+
+/// Serves clients over a store.
+pub(crate) fn serve_store<
+    R,
+    F,
+    I: Read + Drop + Send,
+    W: Write + Drop + Send,
+    E: Print + Sync,
+    P: Print + Sync,
+>(
+    rt: &R,
+    files: &F,
+    words: &ServeWords<'_>,
+    store: StoreWord<'_>,
+    terminal: Option<&P>,
+    streams: Streams<'_, I, W, E>,
+) -> Result<u8, Fault>
+where
+    R: Clock + RandomSource + Threads + Sync + Wait + AllocGlobal,
+    F: Files + Sync + AllocGlobal,
+    F::File: JournalFile + Send,
+    F::Dir: Send,
+{
+    let errors = streams.errors;
+    let alloc = files.alloc();
+    let served = match found_store(files, alloc, store) {
+        Ok(served) => served,
+        Err(fault) => return Ok(fault.tell(&mut io::writer(errors))),
+    };
+    let data = tables_path(alloc, store.folder, served.found.after())?;
+    let words = over_tables(words, data.as_str())?;
+    let served = Arc::new(alloc, served)?;
+    let shared = Arc::try_clone(&served)?;
+    let bell = EndBell::new();
+    let (_, status) = thread::join(
+        rt,
+        || served.tell_unmade(rt, &bell, errors),
+        || -> u8
+            requires { IsSend I.row × IsSend W.row × IsSend F.File.row × IsSend F.Dir.row }
+        {
+            let status = serve_live(rt, files, &words, Some(shared), terminal, streams);
+            bell.ring();
+            status
+        },
+    );
+    Ok(status)
+}
