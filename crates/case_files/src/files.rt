@@ -90,6 +90,14 @@ pub struct BreakingFile {
     is_taken: bool,
 }
 
+// Whether a path lies in a folder, or in one of its folders.
+fn lies_in(path: &str, folder: &str) -> bool {
+    match path.strip_prefix(folder) {
+        Some(rest) => rest.starts_with('/'),
+        None => false,
+    }
+}
+
 impl MemoryFiles {
     /// The small data set in the folder `small`.
     pub fn with_small_data(alloc: Global) -> io::Result<MemoryFiles> {
@@ -168,29 +176,20 @@ impl MemoryFiles {
             return Ok(true);
         }
         let files = hold(&self.files)?;
-        Ok(
-            files.keys().any(|file| match file.strip_prefix(path) {
-                Some(rest) => rest.starts_with('/'),
-                None => false,
-            }),
-        )
+        Ok(files.keys().any(|file| lies_in(file.as_str(), path)))
     }
 
     // Whether a file stands where a path has a folder.
     fn is_within_file(&self, path: &str) -> io::Result<bool> {
         let files = hold(&self.files)?;
-        Ok(
-            files.keys().any(|file| match path.strip_prefix(file.as_str()) {
-                Some(rest) => rest.starts_with('/'),
-                None => false,
-            }),
-        )
+        Ok(files.keys().any(|file| lies_in(path, file.as_str())))
     }
 
-    // The names of what is in a folder, each ended by a NUL, as often as files have it.
+    // The names of what is in a folder, each ended by a NUL. Files of one folder stand behind one another.
     fn names_in(&self, folder: &str) -> io::Result<Vec<u8>> {
         let mut names = Vec::new(self.alloc);
         let files = hold(&self.files)?;
+        let mut last: &[u8] = &[];
         for file in files.keys() {
             let Some(rest) = file.strip_prefix(folder) else {
                 continue;
@@ -202,8 +201,12 @@ impl MemoryFiles {
                 Some((name, _)) => name,
                 None => within,
             };
-            names.extend_from_slice(name.as_bytes())?;
-            names.push(0)?;
+            let name = name.as_bytes();
+            if name != last {
+                names.extend_from_slice(name)?;
+                names.push(0)?;
+            }
+            last = name;
         }
         Ok(names)
     }
@@ -325,8 +328,11 @@ impl Files for MemoryFiles {
         }
     }
 
-    fn remove_file(&self, _path: &str) -> io::Result<()> {
-        unsupported()
+    fn remove_file(&self, path: &str) -> io::Result<()> {
+        match hold(&self.files)?.remove(path) {
+            Some(_) => Ok(()),
+            None => Err(Error::from(ErrorKind::NotFound)),
+        }
     }
 
     fn create_dir(&self, path: &str) -> io::Result<()> {
@@ -344,8 +350,19 @@ impl Files for MemoryFiles {
         unsupported()
     }
 
-    fn remove_dir_all<B: Allocator>(&self, _alloc: B, _path: &str) -> io::Result<()> {
-        unsupported()
+    fn remove_dir_all<B: Allocator>(&self, _alloc: B, path: &str) -> io::Result<()> {
+        if !self.is_folder(path)? {
+            return Err(Error::from(match self.contents_of(path)? {
+                Some(_) => ErrorKind::NotADirectory,
+                None => ErrorKind::NotFound,
+            }));
+        }
+        hold(&self.files)?.retain(|file, _| !lies_in(file.as_str(), path));
+        hold(&self.folders)?.retain(|folder| {
+            let folder = folder.as_str();
+            folder != path && !lies_in(folder, path)
+        });
+        Ok(())
     }
 }
 
@@ -427,7 +444,7 @@ impl Seek for BreakingFile {
 
 impl OpenFile for BreakingFile {
     fn metadata(&self) -> io::Result<Metadata> {
-        unsupported()
+        Ok(Metadata::of_file(hold(self.contents()?)?.len() as u64))
     }
 
     fn set_len(&self, size: u64) -> io::Result<()> {
