@@ -12,6 +12,7 @@ DOCUMENTS = {"README.md": "What the program is, and what of it is proved.",
              "RELIABILITY.md": "What is there after a crash, and how that is tested.",
              "PYTHON.md": "The client for Python, ssb_live.py."}
 SERVICE_FILES = ["  /var/lib/ssb_live/tables     the five tables", "  /var/lib/ssb_live/journal    the commits",
+                 "  /var/lib/ssb_live/store      the store, where the service has one in their place",
                  "  /run/ssb_live                the pipes in-1 and out-1 to in-4 and out-4, and figures.prom"]
 TOOL_FILES = ["  /usr/share/ssb-live/board            a live page of reports; --help tells more",
               "  /usr/share/ssb-live/example.board    reports for it",

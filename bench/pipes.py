@@ -30,7 +30,8 @@ BAD_REQUESTS = [("que", "70 BadLine 1"), ("commit", "70 BadLine 1"), ("query|Q9.
 
 
 class Server:
-    """The program with so many clients, each over two named pipes in a folder."""
+    """The program with so many clients, each over two named pipes in a folder. Where no tables are given, `words` name
+    a store."""
 
     def __init__(self, data, folder, clients, *words, quiet=True, env=None, prepare=None):
         self.ends = []
@@ -42,7 +43,8 @@ class Server:
             self.ends.append(ends)
         self.errors = open(folder / "errors", "w+")
         given = ["--quiet"] * quiet + [word for ends in self.ends for word in ("--client", *ends)]
-        self.process = subprocess.Popen([LIVE, "serve", "--data", data, *words, *given], stderr=self.errors,
+        tables = ["--data", data] if data else []
+        self.process = subprocess.Popen([LIVE, "serve", *tables, *words, *given], stderr=self.errors,
                                         stdin=subprocess.DEVNULL, stdout=subprocess.DEVNULL, env=env,
                                         preexec_fn=prepare)
 
