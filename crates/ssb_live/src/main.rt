@@ -8,9 +8,11 @@
 //! --data DIR` serves clients as their requests come, over standard input and output or named pipes. `ssb_live export
 //! --data DIR --journal FILE --to FOLDER` writes the tables as they are after a journal's commits, and `ssb_live changes
 //! --data DIR --journal FILE` what each of them changed. `ssb_live ship --journal FILE` writes the journal's groups as
-//! they come. The work is done by the libraries `run_command`, `query_command`, `audit_command`, `serve_command`,
-//! `export_command`, `changes_command` and `ship_command`, whose contracts name the bytes that they write; the library
-//! `command_line` finds what the words ask, and this file ends with a status.
+//! they come. `ssb_live store --data DIR --store FOLDER` makes a store, which `serve` goes on with, and `ssb_live
+//! checkpoint --store FOLDER` makes newer tables of it. The work is done by the libraries `run_command`,
+//! `query_command`, `audit_command`, `serve_command`, `export_command`, `changes_command` and `ship_command`, whose
+//! contracts name the bytes that they write, and by `store_command`; the library `command_line` finds what the words
+//! ask, and this file ends with a status.
 #![tactic(auto)]
 
 use command_line::{Streams, columns, run_command_line, words};
