@@ -1,5 +1,5 @@
 -- The constants that words stand for, and the question that is made of them.
-use Rattle.std.proofs.Common.{◌≡◌, ◌∙◌, ℕ, List, [], ◌∷◌, Some, Result, Ok, Err, IfErr, true, false, length, map}
+use Rattle.std.proofs.Common.{◌≡◌, ℕ, List, [], ◌∷◌, Some, Result, Ok, Err, IfErr, true, false, length, map}
 use Rattle.std.proofs.Common.{nat_eq, refl, arith, eqb-true}
 use Rattle.query_command.specs.Asked.{AskNothing, constants_asked, kinds_of}
 use Rattle.query_command.specs.Asked.{values_spelled}

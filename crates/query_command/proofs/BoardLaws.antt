@@ -12,7 +12,6 @@ use Rattle.query_command.specs.declared.board.BoardLineFault.TheVariants as line
 use Rattle.query_command.specs.declared.asking.ReportAsked.{ReportAsked}
 use Rattle.ssb_text.specs.Records.{GivesNext, HasGiven, HasRecords}
 use Rattle.ssb_text.specs.Spelling.{field, without_spaces}
-use Rattle.ssb_text.specs.declared.records.ReadError.TheVariants as read
 
 -- a line more
 pub lines_more : (records : List (List (List ℕ))) (titles : List (List ℕ)) (asked : List ReportAsked)

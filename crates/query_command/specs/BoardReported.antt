@@ -5,26 +5,26 @@ use Rattle.query_command.specs.Board.{IsBoard}
 use Rattle.query_command.specs.ReportsAsked.{HasReports}
 use Rattle.query_command.specs.declared.asking.ReportAsked.{ReportAsked}
 use Rattle.ssb_formats.specs.declared.format.Format.{Format}
-use Rattle.ssb_schema.specs.declared.table.Table.{Table}
+use Rattle.ssb_base.specs.Base.{Tables}
 use Rattle.ssb_text.specs.Written.{AppendsPart}
 
--- known bytes grow by the reports of a board, in order and each under its title, over the base that
--- the texts spell, in the format
-pub record ReportsBoard (format : Format) (text : List ℕ) (texts : Table → List ℕ) (old new : Option (List ℕ))
+-- known bytes grow by the reports that the text of a board asks for, in order and each under its title, over a base
+-- that is after so many commits, in the format
+pub record ReportsBoard (format : Format) (text : List ℕ) (base : Tables) (after : ℕ) (old new : Option (List ℕ))
     : Type 0 where
   pub titles : List (List ℕ)
   pub asked : List ReportAsked
   pub board : IsBoard text titles asked
   pub report : List ℕ
-  pub of_base : HasReports format texts titles asked report
+  pub of_base : HasReports format base after titles asked report
   pub appends : Appends old new report
 
 -- known bytes grow by a part of that text from its beginning on
-pub record ReportsBoardPart (format : Format) (text : List ℕ) (texts : Table → List ℕ) (old new : Option (List ℕ))
+pub record ReportsBoardPart (format : Format) (text : List ℕ) (base : Tables) (after : ℕ) (old new : Option (List ℕ))
     : Type 0 where
   pub titles : List (List ℕ)
   pub asked : List ReportAsked
   pub board : IsBoard text titles asked
   pub report : List ℕ
-  pub of_base : HasReports format texts titles asked report
+  pub of_base : HasReports format base after titles asked report
   pub appends : AppendsPart old new report

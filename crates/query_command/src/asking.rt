@@ -84,13 +84,14 @@ pub(crate) fn questions_of(
     Ok(questions)
 }
 
-// The rows of a statement, of the answers to its questions.
+// The rows of a statement, of the answers to its questions, which are after so many commits.
 fn rows_of(
     alloc: Global,
     statement: &Statement,
     answers: &[Answer],
+    after: u64,
 ) -> Result<StatementRows, AllocError>
-    ensures { IfOk result (λ rows. HasRows statement.now answers.now rows) }
+    ensures { IfOk result (λ rows. HasRows statement.now answers.now after rows) }
 {
     let rows = arranged(alloc, statement, answers)?;
     let groups = statement.groups.as_slice();
@@ -100,7 +101,7 @@ fn rows_of(
     Ok(StatementRows {
         heads,
         are_numbers,
-        at: 0,
+        at: after,
         rows,
     })
 }
@@ -110,12 +111,13 @@ fn push_report<'a>(
     alloc: Global,
     asked: &ReportAsked,
     answers: &'a [Answer],
+    after: u64,
     reports: &mut Vec<Reported<'a>>,
 ) -> Result<(), AllocError>
     ensures { OnOk result ((answered : Query × List Value → Answer)
         → answers.now ≡ map answered (spec.questions_in asked.now)
         → (report : Reported) × (reports.new.items ≡ reports.old.items ++ report ∷ [])
-        × spec.IsReported answers.now asked.now report) }
+        × spec.IsReported answers.now after asked.now report) }
 {
     match asked {
         ReportAsked::Question(_) => {
@@ -124,24 +126,25 @@ fn push_report<'a>(
             }
         }
         ReportAsked::Statement(statement) => {
-            let rows = rows_of(alloc, statement, answers)?;
+            let rows = rows_of(alloc, statement, answers, after)?;
             reports.push(Reported::Listed(rows))?;
         }
     }
     Ok(())
 }
 
-/// Adds what the answers to the questions of several reports make of these.
-pub(crate) fn push_reports<'a>(
+// Adds what the answers to the questions of several reports make of these.
+fn push_reports<'a>(
     alloc: Global,
     asked: &[ReportAsked],
     answers: &'a [Answer],
+    after: u64,
     reports: &mut Vec<Reported<'a>>,
 ) -> Result<(), AllocError>
     ensures { OnOk result ((answered : Query × List Value → Answer)
         → answers.now ≡ map answered (flat_map spec.questions_in asked.now)
         → (more : List Reported) × (reports.new.items ≡ reports.old.items ++ more)
-        × AreReported answered asked.now more) }
+        × AreReported answered after asked.now more) }
 {
     match asked {
         [] => Ok(()),
@@ -149,8 +152,24 @@ pub(crate) fn push_reports<'a>(
             let questions = questions_in(first);
             let count = questions.len().min(answers.len());
             let (own, rest) = answers.split_at(count);
-            push_report(alloc, first, own, reports)?;
-            push_reports(alloc, others, rest, reports)
+            push_report(alloc, first, own, after, reports)?;
+            push_reports(alloc, others, rest, after, reports)
         }
     }
+}
+
+/// What the answers to the questions of several reports, which are after so many commits, make of these.
+pub(crate) fn reports_of<'a>(
+    alloc: Global,
+    asked: &[ReportAsked],
+    answers: &'a [Answer],
+    after: u64,
+) -> Result<Vec<Reported<'a>>, AllocError>
+    ensures { IfOk result (λ reports. (answered : Query × List Value → Answer)
+        → answers.now ≡ map answered (flat_map spec.questions_in asked.now)
+        → AreReported answered after asked.now reports.items) }
+{
+    let mut reports = Vec::new(alloc);
+    push_reports(alloc, asked, answers, after, &mut reports)?;
+    Ok(reports)
 }

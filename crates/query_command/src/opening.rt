@@ -1,4 +1,4 @@
-//! The answers over the loaded lines, by passes over their columns.
+//! The answers over the lines of a base, by passes over their columns.
 
 ghost use Rattle.std.specs.Prelude.{◌≡◌, ◌≤◌, [], List, IfOk, length, map};
 ghost use Rattle.fact_columns.specs.Stored.{columns_state};
@@ -6,9 +6,10 @@ ghost use Rattle.row_store.specs.History.{CommitRecord};
 ghost use Rattle.row_store.specs.State.{StandsFor, state_of};
 ghost use Rattle.scan_kernel.specs.Masks.{questions_a_pass};
 ghost use Rattle.shared_scan.specs.Answers.{AreSnapshot, answers_after};
-ghost use Rattle.query_command.specs.Reported.{opened, opening_answer};
+ghost use Rattle.query_command.specs.Reported.{answers_over, opened};
 
 use crate::stopwatch::{Stopwatch, TimedStep};
+use base_source::SourcedBase;
 use dimension_index::index_of;
 use fact_columns::Columns;
 use scan_kernel::QUESTIONS_A_PASS;
@@ -22,7 +23,7 @@ use std::sync::Arc;
 use std::thread::Threads;
 use std::time::Clock;
 
-// The loaded lines in columns.
+// The lines of a base in columns.
 fn columns_of<R: Threads + Sync + Clock>(
     rt: &R,
     alloc: Global,
@@ -85,36 +86,38 @@ fn all_rows<R: Threads + Sync + Clock>(
     Ok(rows)
 }
 
-// Rows as the answer of a warehouse without commits.
-fn opened(rows: Rows) -> Answer
-    ensures { result ≡ opened rows }
+// Rows as the answer after so many commits.
+fn opened(after: u64, rows: Rows) -> Answer
+    ensures { result ≡ opened after rows }
 {
     Answer::Rows {
         question: rows.question,
-        at: 0,
+        at: after,
         rows: rows.list,
     }
 }
 
-fn answers_of(alloc: Global, rows: Vec<Rows>) -> Result<Vec<Answer>, AllocError>
-    ensures { IfOk result (λ answers. answers.items ≡ map opened rows.items) }
+fn answers_of(alloc: Global, after: u64, rows: Vec<Rows>) -> Result<Vec<Answer>, AllocError>
+    ensures { IfOk result (λ answers. answers.items ≡ map (opened after) rows.items) }
 {
-    rows.into_iter().map(|rows| opened(rows)).collect(alloc)
+    rows.into_iter()
+        .map(|rows| opened(after, rows))
+        .collect(alloc)
 }
 
-/// The answers to questions over the loaded lines of a base, by a pass for each sixteen of them, by as many threads as
-/// there are processors. The orders of the columns are found by keys that are hashed with `hashing`.
+/// The answers to questions over the lines of a base, by a pass for each sixteen of them, by as many threads as there
+/// are processors. The orders of the columns are found by keys that are hashed with `hashing`.
 pub fn opening_answers<R: Threads + Sync + Clock>(
     rt: &R,
     alloc: Global,
     hashing: RandomState,
-    base: Base,
+    sourced: SourcedBase,
     questions: &[Question],
     watch: &mut Stopwatch,
 ) -> Result<Vec<Answer>, AllocError>
-    ensures { IfOk result (λ answers. answers.items ≡ map (λ question. opening_answer base question) questions.now) }
+    ensures { IfOk result (λ answers. answers.items ≡ answers_over sourced.base sourced.after questions.now) }
 {
-    let columns = columns_of(rt, alloc, hashing, base, watch)?;
+    let columns = columns_of(rt, alloc, hashing, sourced.base, watch)?;
     let rows = all_rows(rt, alloc, &columns, questions, watch)?;
-    answers_of(alloc, rows)
+    answers_of(alloc, sourced.after, rows)
 }

@@ -1,23 +1,21 @@
-//! `query --sql`: the rows of statements over five table files.
+//! `query --sql`: the rows of statements over the base of a source.
 
 ghost use Rattle.std.specs.Prelude.{◌≡◌, ◌≢◌, ◌⊎◌, ℕ, List, false, IfErr, MatchResult, OnErr, OnOk};
 ghost use Rattle.std.specs.Io.KnownBytes.{Appends};
+ghost use Rattle.base_source.specs.Over.{IsOver};
 ghost use Rattle.query_command.specs.ReportsAsked.{HasReportsText};
-ghost use Rattle.query_command.specs.Statement.{ReportsStatements};
-ghost use Rattle.ssb_files.specs.Loaded.{AreRefused};
+ghost use Rattle.query_command.specs.Statement.{ReportsStatements, ReportsStatementsPart};
 ghost use Rattle.ssb_files.specs.Status.{status_of};
 ghost use Rattle.ssb_formats.specs.Reports.{reports_shown};
-ghost use Rattle.ssb_schema.specs.declared.table.Table.{Table};
-ghost use Rattle.ssb_text.specs.Layouts.{AreRows};
 ghost use Rattle.ssb_text.specs.Written.{AppendsPart};
 
-use crate::asking::ReportAsked;
-use crate::query::{Settings, asked_answers, fault_of, hand_on, reports_of, tell_times};
-use crate::stopwatch::Stopwatch;
+use crate::asking::{ReportAsked, reports_of};
+use crate::query::{Settings, asked_answers, fault_of, hand_on, tell_times};
+use crate::stopwatch::{Stopwatch, TimedStep};
+use base_source::{BaseSource, SourcedBase};
 use ssb_files::{Fault, Finding, JobFault};
 use ssb_formats::{Format, Reported, write_reports};
 use ssb_sql::{SqlFault, statements_of};
-use ssb_text::TableFiles;
 use std::alloc::Global;
 use std::io::{Read, Write};
 use std::thread::Threads;
@@ -104,47 +102,47 @@ fn write<W: Write>(
     }
 }
 
-// Writes the rows of statements over the tables.
-fn report<R: Threads + Sync + Clock + AllocGlobal, I: Read + Drop, W: Write>(
+// Writes the rows of statements over a base.
+fn report<R: Threads + Sync + Clock + AllocGlobal, W: Write>(
     rt: &R,
     settings: Settings,
-    tables: TableFiles<I>,
+    sourced: SourcedBase,
     asked: &[ReportAsked],
     watch: &mut Stopwatch,
     out: &mut W,
 ) -> Result<(), Fault>
-    ensures report { OnOk result ((texts : Table → List ℕ) → AreRows I.remaining tables texts
-        → (report : List ℕ) × HasReportsText settings.format texts asked.now report × Appends (W.contents out.old)
-        (W.contents out.new) report) }
-    ensures fault { OnErr result ((W.contents out.new ≡ W.contents out.old)
-        ⊎ ((texts : Table → List ℕ) → AreRows I.remaining tables texts
-        → (report : List ℕ) × HasReportsText settings.format texts asked.now report × AppendsPart (W.contents out.old)
-        (W.contents out.new) report)) }
-    ensures data { IfErr result (λ fault. status_of fault ≡ 1 → (texts : Table → List ℕ)
-        → AreRows I.remaining tables texts → AreRefused texts) }
-    ensures later { IfErr result (λ fault. status_of fault ≢ 2) }
+    ensures report { OnOk result ((report : List ℕ)
+        × HasReportsText settings.format sourced.base sourced.after asked.now report
+        × Appends (W.contents out.old) (W.contents out.new) report) }
+    ensures part { OnErr result ((W.contents out.new ≡ W.contents out.old)
+        ⊎ ((report : List ℕ) × HasReportsText settings.format sourced.base sourced.after asked.now report
+        × AppendsPart (W.contents out.old) (W.contents out.new) report)) }
+    ensures fault { IfErr result (λ fault. status_of fault ≡ 4) }
 {
-    let answers = asked_answers(rt, settings.hashing, tables, asked, watch)?;
-    let reports = reports_of(rt.alloc(), asked, answers.as_slice())?;
+    let after = sourced.after;
+    let answers = asked_answers(rt, settings.hashing, sourced, asked, watch)?;
+    let reports = reports_of(rt.alloc(), asked, answers.as_slice(), after)?;
     write(rt.alloc(), settings.format, reports.as_slice(), out)
 }
 
-/// Writes the rows of the statements that a text spells, parted by semicolons, over the base that the tables spell, from
-/// one pass over its lines where few enough sums are asked; or a fault line to `err`. The text is read first. The result is the exit status: 0 with nothing written to `err` but the times, where they are
-/// asked for; 1 where the data is refused, 2 where the text is, and else 4.
-pub fn run_statements<R: Threads + Sync + Clock + AllocGlobal, I: Read + Drop, W: Write, E: Write>(
-    rt: &R,
-    settings: Settings,
-    tables: TableFiles<I>,
-    text: &str,
-    out: &mut W,
-    err: &mut E,
-) -> u8
-    ensures report { result ≡ 0 → (texts : Table → List ℕ) → AreRows I.remaining tables texts
-        → ReportsStatements settings.format texts (W.contents out.old) (W.contents out.new) }
+/// Writes the rows of the statements that a text spells, parted by semicolons, over the base of a source, from one pass
+/// over its lines where few enough sums are asked; or a fault line to `err`. The text is read first. The result is the
+/// exit status: 0 with nothing written to `err` but the times, where they are asked for; 1 where what the source holds
+/// is refused, 2 where the text is, and else 4.
+pub fn run_statements<
+    R: Threads + Sync + Clock + AllocGlobal,
+    S: BaseSource + Drop,
+    W: Write,
+    E: Write,
+>(rt: &R, settings: Settings, source: S, text: &str, out: &mut W, err: &mut E) -> u8
+    ensures report { result ≡ 0 → IsOver (S.holds source)
+        (λ base after. ReportsStatements settings.format base after (W.contents out.old) (W.contents out.new)) }
+    ensures fault { result ≢ 0 → (W.contents out.new ≡ W.contents out.old)
+        ⊎ IsOver (S.holds source)
+        (λ base after. ReportsStatementsPart settings.format base after (W.contents out.old) (W.contents out.new)) }
     ensures refused { result ≡ 2 → W.contents out.new ≡ W.contents out.old }
     ensures quiet { result ≡ 0 → settings.times ≡ false → err.new ≡ err.old }
-    ensures data { result ≡ 1 → (texts : Table → List ℕ) → AreRows I.remaining tables texts → AreRefused texts }
+    ensures data { result ≡ 1 → S.is_refused source }
 {
     let asked = match statements_in(rt.alloc(), text) {
         Ok(asked) => asked,
@@ -152,7 +150,12 @@ pub fn run_statements<R: Threads + Sync + Clock + AllocGlobal, I: Read + Drop, W
     };
     let times = settings.times;
     let mut watch = Stopwatch::start(rt, times);
-    match report(rt, settings, tables, asked.as_slice(), &mut watch, out) {
+    let sourced = match source.load(rt, err) {
+        Ok(sourced) => sourced,
+        Err(status) => return status,
+    };
+    watch.lap(rt, TimedStep::Load);
+    match report(rt, settings, sourced, asked.as_slice(), &mut watch, out) {
         Ok(()) => {
             tell_times(&watch, times, err);
             0

@@ -6,7 +6,7 @@ use std::time::{Clock, Duration, Instant};
 /// A step whose time is told.
 #[derive(Clone, Copy)]
 pub enum TimedStep {
-    /// The five files are read.
+    /// The base is loaded.
     Load,
     /// The dimensions are indexed.
     Index,

@@ -1,15 +1,13 @@
--- What a run of scripts over table files writes.
+-- What a run of scripts over a base writes.
 use Rattle.std.specs.Prelude.{ℕ, ◌+◌, List, [], ◌∷◌, ◌++◌, length, codes, decimal, Option}
 use Rattle.std.specs.Io.KnownBytes.{Appends}
 use Rattle.ssb_audit.specs.Legal.{IsLegalTrace}
 use Rattle.ssb_audit.specs.declared.trace.Trace.{Trace}
 use Rattle.ssb_files.specs.Scripts.{AreScripts}
-use Rattle.ssb_files.specs.Loaded.{IsLoaded}
 use Rattle.ssb_text.specs.Numbers.{line_feed}
 use Rattle.ssb_text.specs.Written.{AppendsPart}
 use Rattle.run_command.specs.Run.{IsRun}
 use Rattle.ssb_base.specs.Base.{Tables}
-use Rattle.ssb_schema.specs.declared.table.Table.{Table}
 use Rattle.ssb_script.specs.declared.request.Script.{Script}
 use Rattle.ssb_trace.specs.TraceText.{trace_text}
 
@@ -33,12 +31,10 @@ commits_line trace = codes "commits " ++ (decimal (length trace.commits) ++ line
 abbrev pub run_text : List (List ℕ) → Trace → List ℕ
 run_text reports trace = clients_text 1 reports ++ commits_line trace
 
--- a server over the base that the five texts spell served the scripts that the sources spell, a client each, by so many
--- dispatchers: these are their reports, and this is the trace, which is legal
-pub record IsServed (texts : Table → List ℕ) (sources : List (Option (List ℕ))) (dispatchers : ℕ)
+-- a server over the base served the scripts that the sources spell, a client each, by so many dispatchers: these are
+-- their reports, and this is the trace, which is legal
+pub record IsServed (base : Tables) (sources : List (Option (List ℕ))) (dispatchers : ℕ)
     (reports : List (List ℕ)) (trace : Trace) : Type 0 where
-  pub base : Tables
-  pub loaded : IsLoaded texts base
   pub scripts : List Script
   pub spelled : AreScripts sources scripts
   pub run : IsRun base scripts dispatchers reports trace
@@ -57,17 +53,17 @@ pub record AreToldInPart (old new kept_old kept_new : Option (List ℕ)) (report
   pub kept : AppendsPart kept_old kept_new (trace_text trace)
 
 -- such a run is told whole
-pub record Serves (texts : Table → List ℕ) (sources : List (Option (List ℕ))) (dispatchers : ℕ)
+pub record Serves (base : Tables) (sources : List (Option (List ℕ))) (dispatchers : ℕ)
     (old new kept_old kept_new : Option (List ℕ)) : Type 0 where
   pub reports : List (List ℕ)
   pub trace : Trace
-  pub served : IsServed texts sources dispatchers reports trace
+  pub served : IsServed base sources dispatchers reports trace
   pub told : AreTold old new kept_old kept_new reports trace
 
 -- such a run is told in part
-pub record ServesPart (texts : Table → List ℕ) (sources : List (Option (List ℕ))) (dispatchers : ℕ)
+pub record ServesPart (base : Tables) (sources : List (Option (List ℕ))) (dispatchers : ℕ)
     (old new kept_old kept_new : Option (List ℕ)) : Type 0 where
   pub reports : List (List ℕ)
   pub trace : Trace
-  pub served : IsServed texts sources dispatchers reports trace
+  pub served : IsServed base sources dispatchers reports trace
   pub told : AreToldInPart old new kept_old kept_new reports trace

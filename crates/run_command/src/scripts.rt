@@ -1,33 +1,31 @@
-//! `run`: scripts served at once over five table files.
+//! `run`: scripts served at once over a base.
 
-ghost use Rattle.std.specs.Prelude.{◌≡◌, ◌≢◌, ◌⊎◌, ◌↔◌, ◌<◌, ◌≤◌, ℕ, List, false, IfOk, IfErr, OnOk};
+ghost use Rattle.std.specs.Prelude.{◌≡◌, ◌≢◌, ◌⊎◌, ◌↔◌, ◌<◌, ◌≤◌, false, IfOk, IfErr, OnOk};
 ghost use Rattle.std.specs.Prelude.{OnErr, MatchResult, map, vec_len};
 ghost use Rattle.std.specs.Io.KnownBytes.{Appends};
 ghost use Rattle.std.specs.Option.{option_and_then};
-ghost use Rattle.ssb_files.specs.Loaded.{AreRefused};
 ghost use Rattle.ssb_files.specs.Scripts.{HasRefused};
-ghost use Rattle.ssb_files.specs.Standing.{MayHaveTooManyGroups, MayNotStand};
+ghost use Rattle.ssb_files.specs.Standing.{MayHaveTooManyGroups};
 ghost use Rattle.ssb_files.specs.Status.{status_of};
 ghost use Rattle.ssb_audit.specs.Legal.{IsLegalTrace};
+ghost use Rattle.base_source.specs.Over.{IsOver};
 ghost use Rattle.run_command.specs.Served.{AreTold, AreToldInPart, IsServed, Serves, ServesPart, run_text};
 ghost use Rattle.run_command.specs.Status.{serving_status};
-ghost use Rattle.ssb_text.specs.Layouts.{AreRows};
 ghost use Rattle.ssb_text.specs.Written.{AppendsPart};
 ghost use Rattle.run_command.specs.Run.{IsRun};
 ghost use Rattle.history_core.specs.Counts.{most_clients};
-ghost use Rattle.ssb_schema.specs.declared.table.Table.{Table};
 ghost use Rattle.ssb_trace.specs.TraceText.{trace_text};
 
 use crate::fault::{NotRun, RunCommandFault};
 use crate::printing::write_run;
 use crate::run::{Run, serve_scripts};
 use crate::times::RunTimes;
+use base_source::BaseSource;
 use ssb_base::Base;
-use ssb_files::{Fault, LoadedFor, base_of, read_scripts};
+use ssb_files::{Fault, read_scripts};
 use ssb_questions::Question;
 use ssb_script::Script;
 use ssb_server::{Loaded, MOST_CLIENTS};
-use ssb_text::TableFiles;
 use ssb_trace::write_trace;
 use std::hash::RandomState;
 use std::io::{Read, Write};
@@ -51,10 +49,10 @@ pub struct RunSettings {
     pub times: bool,
 }
 
-/// What is served: the base's tables, and the script of each client.
+/// What is served: the tables, as a source of a base or as the base itself, and the script of each client.
 #[derive(Drop)]
-pub struct RunInput<I: Read + Drop> {
-    pub tables: TableFiles<I>,
+pub struct RunInput<S: Drop, I: Read + Drop> {
+    pub tables: S,
     pub sources: Vec<I>,
 }
 
@@ -94,25 +92,22 @@ fn run_over<R: Threads + Sync + Wait + Clock + AllocGlobal>(
     }
 }
 
-// The run of the scripts that the sources spell, over the base that the tables spell. All of it is read before the
-// server is opened.
+// The run of the scripts that the sources spell, over the base. All of them are read before the server is opened.
 fn run_of<R: Threads + Sync + Wait + Clock + AllocGlobal, I: Read + Drop>(
     rt: &R,
     settings: RunSettings,
-    input: RunInput<I>,
+    input: RunInput<Base, I>,
     pace: &mut RunTimes,
 ) -> Result<Run, RunCommandFault>
-    ensures run { IfOk result (λ run. (texts : Table → List ℕ) → AreRows I.remaining input.tables texts
-        → IsServed texts (map I.remaining input.sources.items) settings.dispatchers
+    ensures run { IfOk result (λ run. IsServed input.tables (map I.remaining input.sources.items) settings.dispatchers
         (map (λ report. report.items) run.reports.items) run.trace) }
-    ensures refused { IfErr result (λ fault. serving_status fault ≡ 1 → (texts : Table → List ℕ)
-        → AreRows I.remaining input.tables texts
-        → AreRefused texts ⊎ HasRefused (map I.remaining input.sources.items) ⊎ MayNotStand texts settings.standing.items) }
+    ensures refused { IfErr result (λ fault. serving_status fault ≡ 1
+        → HasRefused (map I.remaining input.sources.items)
+        ⊎ MayHaveTooManyGroups input.tables settings.standing.items) }
     ensures words { IfErr result (λ fault. serving_status fault ≢ 2) }
     ensures trace { IfErr result (λ fault. serving_status fault ≢ 3) }
 {
     let RunInput { tables, sources } = input;
-    let base = base_of(rt, rt.alloc(), tables, LoadedFor::Reports)?;
     let scripts = read_scripts(rt.alloc(), sources)?;
     pace.end_load(rt);
     let RunSettings {
@@ -121,7 +116,7 @@ fn run_of<R: Threads + Sync + Wait + Clock + AllocGlobal, I: Read + Drop>(
         standing,
         times,
     } = settings;
-    let loaded = load(rt, hashing, base, &standing)?;
+    let loaded = load(rt, hashing, tables, &standing)?;
     let run = run_over(rt, dispatchers, times, loaded, scripts)?;
     pace.end_serving(rt, &run, !standing.is_empty());
     Ok(run)
@@ -198,21 +193,21 @@ fn tell_run<W: Write, T: Write>(
 fn report<R: Threads + Sync + Wait + Clock + AllocGlobal, I: Read + Drop, W: Write, T: Write>(
     rt: &R,
     settings: RunSettings,
-    input: RunInput<I>,
+    input: RunInput<Base, I>,
     out: &mut W,
     file: &mut Option<T>,
     pace: &mut RunTimes,
 ) -> Result<(), RunCommandFault>
-    ensures served { OnOk result ((texts : Table → List ℕ) → AreRows I.remaining input.tables texts
-        → Serves texts (map I.remaining input.sources.items) settings.dispatchers (W.contents out.old)
-        (W.contents out.new) (option_and_then T.contents file.old) (option_and_then T.contents file.new)) }
+    ensures served { OnOk result (Serves input.tables (map I.remaining input.sources.items) settings.dispatchers
+        (W.contents out.old) (W.contents out.new)
+        (option_and_then T.contents file.old) (option_and_then T.contents file.new)) }
     ensures part { OnErr result (((W.contents out.new ≡ W.contents out.old) × (file.new ≡ file.old))
-        ⊎ ((texts : Table → List ℕ) → AreRows I.remaining input.tables texts
-        → ServesPart texts (map I.remaining input.sources.items) settings.dispatchers (W.contents out.old)
-        (W.contents out.new) (option_and_then T.contents file.old) (option_and_then T.contents file.new))) }
-    ensures refused { IfErr result (λ fault. serving_status fault ≡ 1 → (texts : Table → List ℕ)
-        → AreRows I.remaining input.tables texts
-        → AreRefused texts ⊎ HasRefused (map I.remaining input.sources.items) ⊎ MayNotStand texts settings.standing.items) }
+        ⊎ ServesPart input.tables (map I.remaining input.sources.items) settings.dispatchers
+        (W.contents out.old) (W.contents out.new)
+        (option_and_then T.contents file.old) (option_and_then T.contents file.new)) }
+    ensures refused { IfErr result (λ fault. serving_status fault ≡ 1
+        → HasRefused (map I.remaining input.sources.items)
+        ⊎ MayHaveTooManyGroups input.tables settings.standing.items) }
     ensures words { IfErr result (λ fault. serving_status fault ≢ 2) }
     ensures trace { IfErr result (λ fault. serving_status fault ≢ 3) }
 {
@@ -230,16 +225,18 @@ fn tell_times<E: Write>(pace: &RunTimes, times: bool, err: &mut E)
     pace.tell(err);
 }
 
-/// Serves 1 to 16 scripts at once over the base that the tables spell: each source is the script of a client of the
-/// live server. When all have ended it writes for each client, in order, the line `client K` and its report, and then
-/// the line `commits C`; and into the file, where there is one, the trace of the run. A fault is a line to `err`.
+/// Serves 1 to 16 scripts at once over the base that the tables hold: each source is the script of a client of the live
+/// server. When all have ended it writes for each client, in order, the line `client K` and its report, and then the
+/// line `commits C`; and into the file, where there is one, the trace of the run. The run counts its own commits, from
+/// 0, however many commits led to the base. A fault is a line to `err`.
 ///
-/// The tables are read first, then the scripts in order, then the questions that stand get their totals, and then the
-/// server is opened. The result is the exit status: 0 with nothing written to `err` but the times, where they are asked
-/// for; 1 where the data, a script or a question that is to stand is refused, 2 where there are more than 16 scripts,
-/// and else 4. Where `out` or the file fails, what was written before stands.
+/// The base is loaded first, then the scripts are read in order, then the questions that stand get their totals, and
+/// then the server is opened. The result is the exit status: 0 with nothing written to `err` but the times, where they
+/// are asked for; 1 where what the tables hold, a script or a question that is to stand is refused, 2 where there are
+/// more than 16 scripts, and else 4. Where `out` or the file fails, what was written before stands.
 pub fn run_scripts<
     R: Threads + Sync + Wait + Clock + AllocGlobal,
+    S: BaseSource + Drop,
     I: Read + Drop,
     W: Write,
     T: Write,
@@ -247,29 +244,39 @@ pub fn run_scripts<
 >(
     rt: &R,
     settings: RunSettings,
-    input: RunInput<I>,
+    input: RunInput<S, I>,
     out: &mut W,
     file: &mut Option<T>,
     err: &mut E,
 ) -> u8
-    ensures served { result ≡ 0 → (texts : Table → List ℕ) → AreRows I.remaining input.tables texts
-        → Serves texts (map I.remaining input.sources.items) settings.dispatchers (W.contents out.old)
-        (W.contents out.new) (option_and_then T.contents file.old) (option_and_then T.contents file.new) }
+    ensures served { result ≡ 0 → IsOver (S.holds input.tables) (λ base _. Serves base
+        (map I.remaining input.sources.items) settings.dispatchers (W.contents out.old) (W.contents out.new)
+        (option_and_then T.contents file.old) (option_and_then T.contents file.new)) }
     ensures part { result ≢ 0 → ((W.contents out.new ≡ W.contents out.old) × (file.new ≡ file.old))
-        ⊎ ((texts : Table → List ℕ) → AreRows I.remaining input.tables texts
-        → ServesPart texts (map I.remaining input.sources.items) settings.dispatchers (W.contents out.old)
-        (W.contents out.new) (option_and_then T.contents file.old) (option_and_then T.contents file.new)) }
+        ⊎ IsOver (S.holds input.tables) (λ base _. ServesPart base
+        (map I.remaining input.sources.items) settings.dispatchers (W.contents out.old) (W.contents out.new)
+        (option_and_then T.contents file.old) (option_and_then T.contents file.new)) }
     ensures quiet { result ≡ 0 → settings.times ≡ false → err.new ≡ err.old }
-    ensures refused { result ≡ 1 → (texts : Table → List ℕ) → AreRows I.remaining input.tables texts
-        → AreRefused texts ⊎ HasRefused (map I.remaining input.sources.items) ⊎ MayNotStand texts settings.standing.items }
+    ensures refused { result ≡ 1 → S.is_refused input.tables
+        ⊎ HasRefused (map I.remaining input.sources.items)
+        ⊎ IsOver (S.holds input.tables) (λ base _. MayHaveTooManyGroups base settings.standing.items) }
     ensures many { (result ≡ 2) ↔ (most_clients < vec_len input.sources) }
     ensures trace { result ≢ 3 }
 {
-    if input.sources.len() > MOST_SCRIPTS {
+    let RunInput { tables, sources } = input;
+    if sources.len() > MOST_SCRIPTS {
         return Fault::TooManyScripts.tell(err);
     }
     let times = settings.times;
     let mut pace = RunTimes::start(rt, times);
+    let base = match tables.load(rt, err) {
+        Ok(sourced) => sourced.base,
+        Err(status) => return status,
+    };
+    let input = RunInput {
+        tables: base,
+        sources,
+    };
     match report(rt, settings, input, out, file, &mut pace) {
         Ok(()) => {
             tell_times(&pace, times, err);

@@ -1,8 +1,5 @@
 -- What a result tells of one outcome.
-use Rattle.std.specs.Prelude.{◌≡◌, ◌≢◌, true, false, is_err, Result, Ok, Err, MatchResult, IfOk, IfErr, OnOk, OnErr}
-use Rattle.std.proofs.Common.{◌∙◌, sym}
-use Rattle.ssb_files.specs.Status.{status_of}
-use Rattle.ssb_files.specs.declared.fault.Fault.{Fault}
+use Rattle.std.specs.Prelude.{◌≡◌, true, false, is_err, Result, Ok, Err, MatchResult, IfOk, OnOk, OnErr}
 
 pub on_ok_from : {X E : Type 0} (r : Result X E) (A B P : Type 0) → MatchResult r (λ _. A) (λ _. B) → (A → P) → OnOk r P
 on_ok_from (Ok x) A B P of f = f of
@@ -16,17 +13,6 @@ on_err_from (Err e) A B P of f = f of
 pub if_ok_from : {X E : Type 0} (r : Result X E) (P Q : X → Type 0) → IfOk r P → ((x : X) → P x → Q x) → IfOk r Q
 if_ok_from (Ok x) P Q of f = f x of
 if_ok_from (Err e) P Q of f = tt
-
--- a failure of reading, writing or memory is no refusal of data, and no wrong word
-pub is_no_refusal : {X : Type 0} (r : Result X Fault) (P : Type 0) → IfErr r (λ fault. status_of fault ≡ 4)
-    → IfErr r (λ fault. status_of fault ≡ 1 → P)
-is_no_refusal (Ok x) P is = tt
-is_no_refusal (Err fault) P is = λ status. let none : 4 ≡ 1 = sym is ∙ status in absurd cc
-
-pub is_no_word : {X : Type 0} (r : Result X Fault) → IfErr r (λ fault. status_of fault ≡ 4)
-    → IfErr r (λ fault. status_of fault ≢ 2)
-is_no_word (Ok x) is = tt
-is_no_word (Err fault) is = λ status. let none : 4 ≡ 2 = sym is ∙ status in absurd cc
 
 pub is_ok_of : {X E : Type 0} (r : Result X E) (P Q : Type 0) → MatchResult r (λ _. P) (λ _. Q) → is_err r ≡ false → P
 is_ok_of (Ok x) P Q of ok = of

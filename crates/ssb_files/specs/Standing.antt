@@ -2,7 +2,7 @@
 use Rattle.std.specs.Prelude.{◌≡◌, ℕ, List, Option, Some}
 use Rattle.shared_scan.specs.GroupCounts.{IsFirstOfMany}
 use Rattle.ssb_base.specs.Base.{Tables}
-use Rattle.ssb_base.specs.Limits.{most_commits, standard_commits}
+use Rattle.ssb_base.specs.Limits.{most_commits}
 use Rattle.ssb_files.specs.Loaded.{IsLoadedFor}
 use Rattle.ssb_files.specs.declared.fault.Fault.{Fault}
 use Rattle.ssb_files.specs.declared.fault.Fault.TheVariants as fault
@@ -29,10 +29,6 @@ pub record MayNotStandFor (commits : ℕ) (texts : Table → List ℕ) (standing
   pub base : Tables
   pub loaded : IsLoadedFor commits texts base
   pub many : MayHaveTooManyGroups base standing
-
--- the same for a warehouse whose history is kept whole beside it
-abbrev pub MayNotStand : (Table → List ℕ) → List (Query × List Value) → Type 0
-MayNotStand texts standing = MayNotStandFor standard_commits texts standing
 
 -- the same for one that is served live
 abbrev pub MayNotStandToServe : (Table → List ℕ) → List (Query × List Value) → Type 0

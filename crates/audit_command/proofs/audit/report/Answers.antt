@@ -15,20 +15,17 @@ returns-in_err-trace-clause-against g c =
 pub returns-clause-legal : goal.returns-clause-legal
 returns-clause-legal g c =
     on_ok_from c.write_verdict.result _ _ _ c.write_verdict.ensures.written
-    (λ written texts bytes are known. record {
+    (λ written bytes known. record {
       trace = c.in_ok-trace.trace;
-      legal = c.in_ok-trace.ensures.legal
-          texts bytes are known;
+      legal = c.in_ok-trace.ensures.legal bytes known;
       appends = written;
     })
 
 pub returns-clause-part : goal.returns-clause-part
 returns-clause-part g c =
     on_err_from c.write_verdict.result _ _ _ c.write_verdict.ensures.written
-    (λ written. inr (λ texts bytes are
-    known. record {
+    (λ written. inr (λ bytes known. record {
       trace = c.in_ok-trace.trace;
-      legal = c.in_ok-trace.ensures.legal texts bytes are known;
-      appends
-          = written;
+      legal = c.in_ok-trace.ensures.legal bytes known;
+      appends = written;
     }))

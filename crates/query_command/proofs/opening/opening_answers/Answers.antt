@@ -8,9 +8,11 @@ use Rattle.query_command.proofs.opening.opening_answers.Goals as goal
 
 pub returns : goal.returns
 returns g c =
+    let base = c.args.sourced.base in
+    let after = c.args.sourced.after in
     let state = c.in_ok-columns.ensures.loaded in
-    let rows = c.in_ok-rows.ensures [] (loaded_stands c.in_ok-columns.columns c.args.base state) in
+    let rows = c.in_ok-rows.ensures [] (loaded_stands c.in_ok-columns.columns base state) in
     if_ok_from c.answers_of.result _ _ c.answers_of.ensures
-    (λ answers are. are ∙ ap (map opened) (rows
-    ∙ ap (λ base. answers_after base [] c.args.questions.now) (loaded_base c.in_ok-columns.columns c.args.base state))
-    ∙ opened_rows c.args.base c.args.questions.now)
+    (λ answers are. are ∙ ap (map (opened after)) (rows
+    ∙ ap (λ base. answers_after base [] c.args.questions.now) (loaded_base c.in_ok-columns.columns base state))
+    ∙ opened_rows base after c.args.questions.now)

@@ -1,42 +1,23 @@
-use Rattle.std.proofs.Common.{◌≡◌, Err, inr, rules}
-use Rattle.query_command.specs.Reported.{HaveReport}
+use Rattle.std.proofs.Common.{◌≡◌, ◌∙◌, MatchResult, subst}
+use Rattle.std.proofs.lemmas.Result.{err_from_is_err_and}
+use Rattle.std.specs.Io.KnownBytes.{Appends}
+use Rattle.ssb_files.proofs.FlushedLaws.{nothing_part}
 use Rattle.ssb_formats.specs.Formats.{answers_shown}
-use Rattle.query_command.proofs.ReportLaws.{report_of_answers}
-use Rattle.ssb_files.proofs.ResultLaws.{on_ok_from, on_err_from, is_no_refusal, is_no_word}
+use Rattle.ssb_text.specs.Written.{AppendsPart}
+use Rattle.query_command.specs.Reported.{answers_over}
 use Rattle.query_command.proofs.query.report.Goals as goal
 
-pub returns-clause-report : goal.returns-clause-report
-returns-clause-report g c =
-    on_ok_from c.write.result _ _ _ c.write.ensures.written (λ written texts are.
-    let format = c.args.settings.format in
-    let questions = c.args.questions.now in
-    let has : HaveReport format texts questions (answers_shown format c.as_slice.result.now) = rw
-    c.as_slice.ensures.value (report_of_answers format texts questions c.in_ok-answers.answers.items
-    (c.in_ok-answers.ensures.answers texts are)) in
-    (answers_shown format c.as_slice.result.now, has, written))
+pub returns-clause-written : goal.returns-clause-written
+returns-clause-written g c =
+    let old = g.W.Write.contents c.args.out.now in
+    let new = g.W.Write.contents c.write.new.out in
+    let are : c.as_slice.result.now ≡ answers_over c.args.sourced.base c.args.sourced.after c.args.questions.now
+    = c.as_slice.ensures.value ∙ c.in_ok-answers.ensures in
+    subst (λ answers. MatchResult c.write.result
+    (λ _. Appends old new (answers_shown c.args.settings.format answers))
+    (λ _. AppendsPart old new (answers_shown c.args.settings.format answers))) are c.write.ensures.written
 
-pub returns-clause-fault : goal.returns-clause-fault
-returns-clause-fault g c =
-    on_err_from c.write.result _ _ _ c.write.ensures.written (λ written. inr (λ texts are.
-    let format = c.args.settings.format in
-    let questions = c.args.questions.now in
-    let has : HaveReport format texts questions (answers_shown format c.as_slice.result.now) = rw
-    c.as_slice.ensures.value (report_of_answers format texts questions c.in_ok-answers.answers.items
-    (c.in_ok-answers.ensures.answers texts are)) in
-    (answers_shown format c.as_slice.result.now, has, written)))
-
-pub returns-clause-data : goal.returns-clause-data
-returns-clause-data g c = is_no_refusal c.write.result _ c.write.ensures.fault
-
-pub returns-clause-later : goal.returns-clause-later
-returns-clause-later g c = is_no_word c.write.result c.write.ensures.fault
-
-pub returns-in_err-answers-clause-data : goal.returns-in_err-answers-clause-data
-returns-in_err-answers-clause-data g c =
-    let is : c.from_residual.result ≡ Err c.in_err-answers.field-0.0 = search rules in
-    rw is c.in_err-answers.ensures.data
-
-pub returns-in_err-answers-clause-later : goal.returns-in_err-answers-clause-later
-returns-in_err-answers-clause-later g c =
-    let is : c.from_residual.result ≡ Err c.in_err-answers.field-0.0 = search rules in
-    rw is c.in_err-answers.ensures.later
+pub returns-in_err-answers-clause-written : goal.returns-in_err-answers-clause-written
+returns-in_err-answers-clause-written g c =
+    let failed = err_from_is_err_and c.from_residual.result c.from_residual.ensures.1 in
+    rw failed.1 (nothing_part (g.W.Write.contents c.args.out.now) _)

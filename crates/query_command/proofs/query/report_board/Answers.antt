@@ -1,46 +1,28 @@
-use Rattle.std.proofs.Common.{◌≡◌, Err, inr, rules}
+use Rattle.std.proofs.Common.{inr}
 use Rattle.query_command.proofs.AskedReportsLaws.{reports_under}
-use Rattle.ssb_files.proofs.ResultLaws.{on_ok_from, on_err_from, is_no_refusal, is_no_word}
+use Rattle.ssb_files.proofs.ResultLaws.{on_ok_from, on_err_from}
 use Rattle.query_command.proofs.query.report_board.Goals as goal
 
 pub returns-clause-report : goal.returns-clause-report
 returns-clause-report g c =
-    on_ok_from c.write_titled.result _ _ _ c.write_titled.ensures.written (λ written texts are. (
+    on_ok_from c.write_titled.result _ _ _ c.write_titled.ensures.written (λ written. (
       _,
-      reports_under c.args.settings.format texts c.args.board.now.titles.items c.args.board.now.asked.items
-          c.as_slice-titles.result.now c.as_slice-asked.result.now c.in_ok-answers.answers.items
-          c.as_slice.result.now c.in_ok-reports.reports.items c.as_slice-2.result.now
+      reports_under c.args.settings.format c.args.sourced.base c.args.sourced.after c.args.board.now.titles.items
+          c.args.board.now.asked.items c.as_slice-titles.result.now c.as_slice-asked.result.now
+          c.in_ok-answers.answers.items c.as_slice.result.now c.in_ok-reports.reports.items c.as_slice-2.result.now
           c.as_slice-titles.ensures.value c.as_slice-asked.ensures.value c.as_slice.ensures.value
-          c.as_slice-2.ensures.value (c.in_ok-answers.ensures.answers texts are)
-          (c.in_ok-reports.ensures.reports texts),
+          c.as_slice-2.ensures.value c.in_ok-answers.ensures c.in_ok-reports.ensures,
       written,
     ))
 
-pub returns-clause-fault : goal.returns-clause-fault
-returns-clause-fault g c =
-    on_err_from c.write_titled.result _ _ _ c.write_titled.ensures.written (λ written. inr (λ texts are. (
+pub returns-clause-part : goal.returns-clause-part
+returns-clause-part g c =
+    on_err_from c.write_titled.result _ _ _ c.write_titled.ensures.written (λ written. inr (
       _,
-      reports_under c.args.settings.format texts c.args.board.now.titles.items c.args.board.now.asked.items
-          c.as_slice-titles.result.now c.as_slice-asked.result.now c.in_ok-answers.answers.items
-          c.as_slice.result.now c.in_ok-reports.reports.items c.as_slice-2.result.now
+      reports_under c.args.settings.format c.args.sourced.base c.args.sourced.after c.args.board.now.titles.items
+          c.args.board.now.asked.items c.as_slice-titles.result.now c.as_slice-asked.result.now
+          c.in_ok-answers.answers.items c.as_slice.result.now c.in_ok-reports.reports.items c.as_slice-2.result.now
           c.as_slice-titles.ensures.value c.as_slice-asked.ensures.value c.as_slice.ensures.value
-          c.as_slice-2.ensures.value (c.in_ok-answers.ensures.answers texts are)
-          (c.in_ok-reports.ensures.reports texts),
+          c.as_slice-2.ensures.value c.in_ok-answers.ensures c.in_ok-reports.ensures,
       written,
-    )))
-
-pub returns-clause-data : goal.returns-clause-data
-returns-clause-data g c = is_no_refusal c.write_titled.result _ c.write_titled.ensures.fault
-
-pub returns-clause-later : goal.returns-clause-later
-returns-clause-later g c = is_no_word c.write_titled.result c.write_titled.ensures.fault
-
-pub returns-in_err-answers-clause-data : goal.returns-in_err-answers-clause-data
-returns-in_err-answers-clause-data g c =
-    let is : c.from_residual.result ≡ Err c.in_err-answers.field-0.0 = search rules in
-    rw is c.in_err-answers.ensures.data
-
-pub returns-in_err-answers-clause-later : goal.returns-in_err-answers-clause-later
-returns-in_err-answers-clause-later g c =
-    let is : c.from_residual.result ≡ Err c.in_err-answers.field-0.0 = search rules in
-    rw is c.in_err-answers.ensures.later
+    ))

@@ -1,4 +1,4 @@
-use Rattle.std.proofs.Common.{◌≡◌, ◌∙◌, List, [], ◌∷◌, ◌++◌, ap, append-nil, sym}
+use Rattle.std.proofs.Common.{◌∙◌, List, ◌++◌, ap, append-nil, sym}
 use Rattle.dimension_index.proofs.CodeLaws.{distinct_push}
 use Rattle.dimension_index.specs.Codes.{distinct}
 use Rattle.ssb_questions.specs.declared.value.Value.{Value}

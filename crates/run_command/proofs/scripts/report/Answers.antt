@@ -9,18 +9,18 @@ returns-in_err-run-clause-refused g c =
 
 pub returns-clause-served : goal.returns-clause-served
 returns-clause-served g c =
-    ok_then c.tell_run.result _ _ c.tell_run.ensures.told (λ told texts are. record {
+    ok_then c.tell_run.result _ _ c.tell_run.ensures.told (λ told. record {
       reports = map (λ report. report.items) c.in_ok-run.run'.reports.items;
       trace = c.in_ok-run.run'.trace;
-      served = c.in_ok-run.ensures.run texts are;
+      served = c.in_ok-run.ensures.run;
       told = told;
     })
 
 pub returns-clause-part : goal.returns-clause-part
 returns-clause-part g c =
-    err_then c.tell_run.result _ _ c.tell_run.ensures.part (λ told. inr (λ texts are. record {
+    err_then c.tell_run.result _ _ c.tell_run.ensures.part (λ told. inr (record {
       reports = map (λ report. report.items) c.in_ok-run.run'.reports.items;
       trace = c.in_ok-run.run'.trace;
-      served = c.in_ok-run.ensures.run texts are;
+      served = c.in_ok-run.ensures.run;
       told = told;
     }))
