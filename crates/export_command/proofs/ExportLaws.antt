@@ -1,6 +1,6 @@
 -- What an export leaves, of what was loaded, kept and written.
 use Rattle.std.proofs.Common.{◌≡◌, ◌∙◌, ℕ, List, [], length, Option, Result, Ok, Err, OnOk, ap, subst, refl, sym, arith}
-use Rattle.std.proofs.Common.{inl, inr}
+use Rattle.std.proofs.Common.{Bool, false, inl, inr, true}
 use Rattle.std.specs.Prelude.{IfSome, None, Some}
 use Rattle.ssb_base.specs.Base.{IsSound, Tables}
 use Rattle.ssb_base.specs.Limits.{limits_of}
@@ -129,6 +129,11 @@ pub has_so_many : (marks : List TableMark) (file : List ℕ) (kept : KeptCommits
 has_so_many marks file kept count (inl new) many = grind arith
 has_so_many marks file kept count (inr is) many = grind arith
 
+-- a file of which all commits are asked for is read to its end
+pub is_whole : (whole : Bool) → (whole ≡ false → false ≡ true) → whole ≡ true
+is_whole true part = refl
+is_whole false part = part refl
+
 -- the tables after the commits that were made again as a file was read, which are what it keeps
 pub of_file : (base held : Tables) (marks head : List TableMark) (file torn : List ℕ) (kept : KeptCommits)
     (tables : Tables) (store : Warehouse) (commits : List CommitRecord) (bytes : ℕ)
@@ -155,6 +160,7 @@ find_fault_tells texts known Taken Missing (job.Program why) is = λ one. absurd
 find_fault_tells texts known Taken Missing (job.Found (refusal.Folder why)) is = tt
 find_fault_tells texts known Taken Missing (job.Found (refusal.CannotWrite path)) is = tt
 find_fault_tells texts known Taken Missing (job.Found (refusal.Journal why)) is = absurd is
+find_fault_tells texts known Taken Missing (job.Found (refusal.Commit why)) is = absurd is
 
 pub file_fault_tells : (texts : Table → List ℕ) (known : Option (List ℕ)) (Taken Missing : Type 0) (why : OpenError)
     → (why ≡ open_error.InUse → Taken) → TellsMissing Missing why
@@ -198,4 +204,6 @@ read_fault_tells texts known Taken Missing base held marks (job.Found (refusal.J
 read_fault_tells texts known Taken Missing base held marks (job.Found (refusal.CannotWrite path))
     loaded marked checked same is = absurd is.is
 read_fault_tells texts known Taken Missing base held marks (job.Found (refusal.Folder why))
+    loaded marked checked same is = absurd is.is
+read_fault_tells texts known Taken Missing base held marks (job.Found (refusal.Commit why))
     loaded marked checked same is = absurd is.is

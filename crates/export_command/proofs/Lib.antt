@@ -7,3 +7,5 @@ pub mod FollowLaws
 pub mod NextLaws
 pub mod StepLaws
 pub mod ExportLaws
+pub mod FaultlessLaws
+pub mod HistoryLaws

@@ -91,6 +91,7 @@ IsReadFault (job.Found (refusal.Journal (opening.File why))) = ⊥
 IsReadFault (job.Found (refusal.Journal (opening.HasBytes path))) = ⊥
 IsReadFault (job.Found (refusal.CannotWrite path)) = ⊥
 IsReadFault (job.Found (refusal.Folder why)) = ⊥
+IsReadFault (job.Found (refusal.Commit why)) = ⊥
 
 -- why there are no tables after a journal's file: of the file, which is the known one, where one is known, this is told;
 -- or memory ran out
@@ -107,6 +108,7 @@ IsFillFault (job.Program why) = status_of why ≡ 4
 IsFillFault (job.Found (refusal.Journal why)) = ⊥
 IsFillFault (job.Found (refusal.CannotWrite path)) = Unit {0}
 IsFillFault (job.Found (refusal.Folder why)) = ⊥
+IsFillFault (job.Found (refusal.Commit why)) = ⊥
 
 -- why a folder was not found: it takes no tables, or a call of the system failed, or memory ran out
 abbrev pub IsFindFault : JobFault ExportRefusal → Type 0
@@ -114,6 +116,7 @@ IsFindFault (job.Program why) = status_of why ≡ 4
 IsFindFault (job.Found (refusal.Folder why)) = Unit {0}
 IsFindFault (job.Found (refusal.CannotWrite path)) = ⊥
 IsFindFault (job.Found (refusal.Journal why)) = ⊥
+IsFindFault (job.Found (refusal.Commit why)) = ⊥
 
 -- the five texts spell a base; of the journal's file, which is the known one, where one is known, this is told over it
 pub record TellsOverTexts (texts : Table → List ℕ) (known : Option (List ℕ)) (why : JobFault ExportRefusal) : Type 0
@@ -142,6 +145,7 @@ TellsExportFault texts known Taken Missing (job.Found (refusal.Journal (opening.
     TellsOverTexts texts known (job.Found (refusal.Journal (opening.Replay why)))
 TellsExportFault texts known Taken Missing (job.Found (refusal.Folder why)) = Unit {0}
 TellsExportFault texts known Taken Missing (job.Found (refusal.CannotWrite path)) = Unit {0}
+TellsExportFault texts known Taken Missing (job.Found (refusal.Commit why)) = ⊥
 
 -- texts are read back as these tables, of which nothing is refused
 pub record AreReadBack (texts : Table → List ℕ) (tables : Tables) : Type 0 where

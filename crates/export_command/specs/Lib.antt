@@ -2,3 +2,4 @@ pub mod After
 pub mod Standing
 pub mod Status
 pub mod Exported
+pub mod Histories

@@ -1,17 +1,20 @@
 //! `export`: the tables after a journal's commits, into a folder.
 
-ghost use Rattle.std.specs.Prelude.{◌≡◌, ◌≢◌, ℕ, [], List, true, IfOk, IfErr, MatchResult, OnOk};
+ghost use Rattle.std.specs.Prelude.{◌≡◌, ◌≢◌, ℕ, [], List, IfOk, IfErr, MatchResult, OnOk};
 ghost use Rattle.journal_opening.specs.Kept.{IsKnown};
 ghost use Rattle.export_command.specs.Exported.{Exports, IsExport, IsFillFault, IsFindFault, IsJournalRefusal};
 ghost use Rattle.export_command.specs.Exported.{HasSoMany, LeftNoneOrExport, TellsExportFault};
-ghost use Rattle.export_command.specs.Standing.{Follows};
 ghost use Rattle.export_command.specs.Status.{export_status};
 ghost use Rattle.ssb_schema.specs.declared.table.Table.{Table};
 ghost use Rattle.ssb_text.specs.Layouts.{AreRows};
+ghost use Rattle.ssb_text.specs.RoundTrip.{AreTableRows};
+ghost use Rattle.ssb_text.specs.TableText.{base_texts};
 ghost use Rattle.table_folder.specs.FilesFolder.{IsUntouched, calls_on};
+ghost use Rattle.table_folder.specs.Filled.{HasAll, LeftNoneOrAll};
 
 use crate::fault::ExportRefusal::Journal;
 use crate::fault::{ExportFault, ExportRefusal, NotEmpty};
+use crate::replaying::replay_first;
 use crate::standing_orders::StandingOrders;
 use crate::tables_after::TablesAfter;
 use journal::{Disk, Found as FoundFile, UnreadDisk};
@@ -20,7 +23,7 @@ use row_store::RowStore;
 use ssb_base::Base;
 use ssb_files::JobFault::{Found, Program};
 use ssb_files::{Fault, LoadedFor, TableBytes, checked_base_of};
-use ssb_journal::{HeadForm, JournalReader, OpenedJournal, TableMark, open, replay};
+use ssb_journal::{HeadForm, OpenedJournal, TableMark, open};
 use ssb_text::{TableFiles, tables_are_read_back};
 use std::alloc::Global;
 use std::hash::RandomState;
@@ -89,43 +92,6 @@ impl<'a, D: Disk> JournalTables<'a, D> {
     }
 }
 
-// Makes the commits of a journal's file again, as that is read, and forgets them but for the orders that stand.
-fn replay_all<'a, U: UnreadDisk + Drop>(
-    rt: &(impl Threads + Sync),
-    alloc: Global,
-    store: &mut RowStore,
-    orders: &mut StandingOrders,
-    journal: JournalReader<'a, U>,
-) -> Result<JournalReader<'a, U>, ExportFault>
-    requires commits { store.old.log ≡ journal.commits }
-    requires orders { Follows store.old.base store.old.log orders.old }
-    ensures store { IfOk result (λ read. store.new ≡ record { base = store.old.base; log = read.commits }) }
-    ensures orders { OnOk result (Follows store.new.base store.new.log orders.new) }
-    ensures marks { IfOk result (λ read. read.marks ≡ journal.entry.marks) }
-    ensures known { IfOk result (λ read. U.holds read.unread ≡ U.holds journal.entry.unread) }
-    ensures end { IfOk result (λ read. read.is_done ≡ true) }
-    ensures fault { IfErr result (IsJournalRefusal store.old.base journal.entry.marks (U.holds journal.entry.unread)) }
-{
-    let mut journal = journal;
-    loop {
-        let (next, found) = match journal.next(rt, alloc) {
-            Ok(next) => next,
-            Err((fault, _)) => return Err(Found(Journal(OpeningFault::Kept(fault)))),
-        };
-        let Some(commits) = found else {
-            return Ok(next);
-        };
-        if let Err(fault) = replay(store, &commits) {
-            return Err(Found(Journal(OpeningFault::Replay(fault))));
-        }
-        store.soundness();
-        let count = store.len();
-        orders.follow(&commits)?;
-        store.forget(count as u64);
-        journal = next;
-    }
-}
-
 /// The tables after the commits of a journal's file, which are applied as that is read. Of two faults the first in the
 /// file is told. Nothing is written.
 pub fn read_journal<'a, U: UnreadDisk + Drop>(
@@ -149,13 +115,13 @@ pub fn read_journal<'a, U: UnreadDisk + Drop>(
     let shared = Arc::try_clone(&base)?;
     let mut store = RowStore::new(alloc, shared, hashing)?;
     let mut orders = StandingOrders::new(alloc, hashing);
-    let journal = match replay_all(rt, alloc, &mut store, &mut orders, journal) {
-        Ok(journal) => journal,
+    let part = match replay_first(rt, alloc, &mut store, &mut orders, journal, None) {
+        Ok(part) => part,
         Err(fault) => return Err(fault),
     };
     store.soundness();
     let tables = TablesAfter::new(store, orders);
-    let OpenedJournal { found, kept, torn } = journal.finish();
+    let OpenedJournal { found, kept, torn } = part.journal.finish();
     Ok(JournalTables {
         base,
         marks,
@@ -205,6 +171,28 @@ fn not_filled(alloc: Global, path: &str, fault: &FillFault) -> ExportFault
     }
 }
 
+/// Writes the tables after a history into a folder on which no call was made.
+///
+/// At `Ok` the folder has the five texts, and each crash from then on leaves them. A crash at any moment, also before
+/// an `Err`, leaves no `lineorder`, or all five.
+pub fn fill_folder<T: TableFolder>(
+    alloc: Global,
+    tables: &TablesAfter,
+    folder: &mut T,
+) -> Result<(), ExportFault>
+    requires new { T.calls folder.old ≡ [] }
+    ensures all { OnOk result (HasAll (base_texts tables.now) (T.calls folder.new)) }
+    ensures known { OnOk result ((t : Table) → AreTableRows tables.now t) }
+    ensures any_moment { LeftNoneOrAll (base_texts tables.now) (T.calls folder.new) }
+    ensures status { IfErr result (λ fault. export_status fault ≡ 4) }
+    ensures fault { IfErr result IsFillFault }
+{
+    match fill(alloc, folder, tables) {
+        Ok(()) => Ok(()),
+        Err(fault) => Err(not_filled(alloc, folder.path(), &fault)),
+    }
+}
+
 /// Writes the tables after a journal's commits into a folder on which no call was made, and tells on `err` what is to
 /// be told of the journal.
 ///
@@ -226,14 +214,14 @@ pub fn export_into<D: Disk + Drop, T: TableFolder, E: Write>(
     tell_read(err, &read, tells_commits);
     read.tables.soundness();
     tables_are_read_back();
-    match fill(alloc, folder, &read.tables) {
+    match fill_folder(alloc, &read.tables, folder) {
         Ok(()) => Ok(()),
-        Err(fault) => Err(not_filled(alloc, folder.path(), &fault)),
+        Err(fault) => Err(fault),
     }
 }
 
-// The folder of this path, where it is not there or is empty. Nothing is made.
-fn find_folder<'a, F: Files>(
+/// The folder of this path, where it is not there or is empty. Nothing is made.
+pub fn find_folder<'a, F: Files>(
     files: &'a F,
     alloc: Global,
     path: &'a str,

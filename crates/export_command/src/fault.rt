@@ -3,7 +3,7 @@
 ghost use Rattle.std.specs.Prelude.{◌≡◌};
 ghost use Rattle.export_command.specs.Status.{refusal_status};
 
-use journal_opening::OpeningFault;
+use journal_opening::{NoSuchCommit, OpeningFault};
 use ssb_files::{Finding, JobFault};
 use std::fmt;
 use thiserror::Error;
@@ -22,6 +22,8 @@ pub enum ExportRefusal {
     CannotWrite(String),
     /// The journal's commits are not at hand.
     Journal(OpeningFault),
+    /// There is no such commit: it came before the journal's, or these are fewer.
+    Commit(NoSuchCommit),
 }
 
 impl Finding for ExportRefusal {
@@ -29,7 +31,7 @@ impl Finding for ExportRefusal {
 
     fn status(&self) -> u8 {
         match self {
-            ExportRefusal::Folder(_) => 1,
+            ExportRefusal::Folder(_) | ExportRefusal::Commit(_) => 1,
             ExportRefusal::CannotWrite(_) => 4,
             ExportRefusal::Journal(fault) => fault.status(),
         }
@@ -42,6 +44,7 @@ impl fmt::Display for ExportRefusal {
             ExportRefusal::Folder(fault) => write!(f, "export: {fault}"),
             ExportRefusal::CannotWrite(path) => write!(f, "cannot write {path}"),
             ExportRefusal::Journal(fault) => write!(f, "{fault}"),
+            ExportRefusal::Commit(fault) => write!(f, "journal: {fault}"),
         }
     }
 }

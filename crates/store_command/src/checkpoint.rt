@@ -1,13 +1,13 @@
 //! `checkpoint`: newer tables of a store's closed segments.
 
 use crate::fault::{StoreJobFault, StoreRefusal, of_export};
+use crate::finding::find;
 use crate::making::written;
 use crate::putting::{free_folder, put_sizes, sync_tables};
+use crate::reading::read_commits;
 use crate::tables::{LoadedTables, load_tables};
-use export_command::ExportRefusal::Journal;
-use export_command::{ExportSource, JournalTables, export_into, read_journal};
+use export_command::{JournalTables, export_into};
 use journal_file::{FileDisk, JournalFile, OpenError};
-use journal_opening::{OpeningFault, OpensJournal};
 use ssb_base::Base;
 use ssb_files::JobFault::Found;
 use ssb_journal::TableMark;
@@ -16,11 +16,10 @@ use std::fs::{self, OpenFile, OpenOptions};
 use std::hash::RandomState;
 use std::io::{self, ErrorKind, Write};
 use std::rt::Files;
-use std::sync::Arc;
 use std::thread::Threads;
 use store_folder::{
     FoundStore, Sizes, StoreFault, StoreFile, StoreNumbers, StorePlace, StoreUse,
-    checkpoint_lock_path, find_store, list_store, segment_path, sizes_path, tables_path,
+    checkpoint_lock_path, list_store, segment_path, sizes_path, tables_path,
 };
 
 // What a checkpoint has done: after how many commits the newer tables are, and how many segments they are of.
@@ -75,15 +74,9 @@ fn read_closed<'m, 'f, R: Threads + Sync + AllocGlobal, F: Files>(
 where
     F::File: JournalFile,
 {
-    let alloc = rt.alloc();
-    let base = Arc::new(alloc, base)?;
-    let file = match journal.open(alloc) {
-        Ok(file) => file,
-        Err(error) => return Err(of_export(Found(Journal(OpeningFault::File(error))))),
-    };
-    let read = match read_journal(rt, alloc, hashing, ExportSource { base, marks, file }) {
+    let read = match read_commits(rt, hashing, journal, base, marks) {
         Ok(read) => read,
-        Err(fault) => return Err(of_export(fault)),
+        Err(fault) => return Err(fault),
     };
     let last = journal.found.last();
     if journal.found.after().checked_add(read.commits()) != Some(last) {
@@ -165,30 +158,43 @@ fn drop_tables<F: Files>(files: &F, alloc: Global, folder: &str, after: u64) -> 
     files.remove_dir_all(alloc, tables.as_str())
 }
 
-// The number of the whole tables before the newest ones, where there are any.
+// The number of the oldest tables that are kept: of the whole ones before the newest, these are the first that are after
+// at most so many commits, or the oldest.
 fn kept_from<F: Files>(
     files: &F,
     alloc: Global,
     folder: &str,
     tables: &[u64],
     newest: u64,
+    most: u64,
 ) -> Result<u64, AllocError> {
+    let mut kept = newest;
     for after in tables.iter().rev() {
         if *after < newest {
             let sizes = sizes_path(alloc, folder, *after)?;
             if fs::metadata(files, sizes.as_str()).is_ok() {
-                return Ok(*after);
+                kept = *after;
+                if kept <= most {
+                    return Ok(kept);
+                }
             }
         }
     }
-    Ok(newest)
+    Ok(kept)
 }
 
-// Takes away what lies before the newest tables and those before them. These stay with all segments behind them: a
-// start that has found them may load them still.
-fn drop_older<F: Files>(files: &F, alloc: Global, folder: &str, newest: u64) -> io::Result<()> {
+// Takes away what lies before the newest tables and those before them, or before those of a commit from which on all is
+// kept. What is kept stays with all segments behind it: a start that has found older tables may load them still.
+fn drop_older<F: Files>(
+    files: &F,
+    alloc: Global,
+    folder: &str,
+    newest: u64,
+    keep_from: Option<u64>,
+) -> io::Result<()> {
     let StoreNumbers { tables, segments } = list_store(files, alloc, folder)?;
-    let kept = kept_from(files, alloc, folder, &tables, newest)?;
+    let most = keep_from.unwrap_or(u64::MAX);
+    let kept = kept_from(files, alloc, folder, &tables, newest, most)?;
     // A checkpoint that was cut off may have named them, and no more.
     sync_tables(files, alloc, folder, kept)?;
     for after in &tables {
@@ -205,22 +211,25 @@ fn drop_older<F: Files>(files: &F, alloc: Global, folder: &str, newest: u64) -> 
     fs::open(files, folder)?.sync_all()
 }
 
-fn find<F: Files>(files: &F, alloc: Global, folder: &str) -> Result<FoundStore, StoreJobFault>
-where
-    F::File: JournalFile,
-{
-    match find_store(files, alloc, folder) {
-        Ok(found) => Ok(found),
-        Err(fault) => Err(Found(StoreRefusal::Store(fault))),
-    }
+/// Which store gets newer tables, what is kept of it, and what is told.
+#[derive(Drop)]
+pub struct CheckpointPlace<'a, F: Files> {
+    /// The files among which the store is.
+    pub files: &'a F,
+    /// The store's folder.
+    pub folder: &'a str,
+    /// A commit from which on all moments are kept, by its number: the tables that are after at most so many commits
+    /// stay, and all behind them.
+    pub keep_from: Option<u64>,
+    /// Whether it is told what was done.
+    pub tells: bool,
 }
 
 // Makes newer tables, where a segment is closed, and takes away what no start needs.
 fn checkpoint<R, F, E: Write>(
     rt: &R,
     hashing: RandomState,
-    files: &F,
-    folder: &str,
+    place: &CheckpointPlace<'_, F>,
     err: &mut E,
 ) -> Result<Option<Folded>, StoreJobFault>
 where
@@ -229,10 +238,11 @@ where
     F::File: JournalFile,
 {
     let alloc = rt.alloc();
+    let (files, folder) = (place.files, place.folder);
     // The lock's file is made in a store alone; behind it no other checkpoint changes what is found.
-    find(files, alloc, folder)?;
+    find(files, alloc, folder, None)?;
     let held = lock(files, alloc, folder)?;
-    let found = find(files, alloc, folder)?;
+    let found = find(files, alloc, folder, None)?;
     let folded = if found.closed().is_empty() {
         None
     } else {
@@ -242,24 +252,39 @@ where
         Some(folded) => folded.after,
         None => found.after(),
     };
-    let dropped = drop_older(files, alloc, folder, newest);
+    let dropped = drop_older(files, alloc, folder, newest, place.keep_from);
     held.drop();
     written(alloc, folder, dropped)?;
     Ok(folded)
 }
 
+// Tells what was done.
+fn tell_folded<E: Write>(err: &mut E, folded: Option<Folded>) {
+    let _ = match folded {
+        Some(Folded { after, segments: 1 }) => {
+            writeln!(
+                err,
+                "ssb_live: checkpoint: tables after {after} commits, 1 segment"
+            )
+        }
+        Some(Folded { after, segments }) => writeln!(
+            err,
+            "ssb_live: checkpoint: tables after {after} commits, {segments} segments"
+        ),
+        None => writeln!(err, "ssb_live: checkpoint: nothing to fold"),
+    };
+}
+
 /// Makes newer tables of a store's newest ones and its closed segments, and takes away what lies before the newest
-/// tables and those before them, beside a server of the store too; and tells on `err` what it has done, where that is
-/// asked for, and a fault.
+/// tables and those before them, and before those of a commit from which on all is kept, beside a server of the store
+/// too; and tells on `err` what it has done, where that is asked for, and a fault.
 ///
 /// The exit status is 0 where the store has no closed segment any more, 1 where the store is refused or another
 /// checkpoint is under way, and else 4: then nothing is lost.
 pub fn run_checkpoint<R, F, E: Write>(
     rt: &R,
     hashing: RandomState,
-    files: &F,
-    folder: &str,
-    tells: bool,
+    place: &CheckpointPlace<'_, F>,
     err: &mut E,
 ) -> u8
 where
@@ -267,24 +292,12 @@ where
     F: Files + AllocGlobal,
     F::File: JournalFile,
 {
-    let folded = match checkpoint(rt, hashing, files, folder, err) {
+    let folded = match checkpoint(rt, hashing, place, err) {
         Ok(folded) => folded,
         Err(fault) => return fault.tell(err),
     };
-    if tells {
-        let _ = match folded {
-            Some(Folded { after, segments: 1 }) => {
-                writeln!(
-                    err,
-                    "ssb_live: checkpoint: tables after {after} commits, 1 segment"
-                )
-            }
-            Some(Folded { after, segments }) => writeln!(
-                err,
-                "ssb_live: checkpoint: tables after {after} commits, {segments} segments"
-            ),
-            None => writeln!(err, "ssb_live: checkpoint: nothing to fold"),
-        };
+    if place.tells {
+        tell_folded(err, folded);
     }
     0
 }

@@ -1,12 +1,20 @@
-//! Why a store was not made, or has no newer tables.
+//! Why a store was not made or read, or has no newer tables.
+
+ghost use Rattle.std.specs.Prelude.{◌≡◌};
+ghost use Rattle.export_command.specs.Status.{export_status};
+ghost use Rattle.store_command.specs.Status.{store_status};
 
 use export_command::{ExportFault, ExportRefusal, NotEmpty};
+use journal::DiskError;
+use journal_file::OpenError;
 use journal_opening::OpeningFault;
 use ssb_files::{Finding, JobFault};
+use ssb_journal::{JournalFault, JournalOpenFault, ReplayFault};
 use std::fmt;
+use std::io::ErrorKind;
 use store_folder::StoreFault;
 
-/// Why a store was not made, or has no newer tables.
+/// Why a store was not made or read, or has no newer tables.
 #[derive(Debug, Drop)]
 pub enum StoreRefusal {
     /// The folder takes no store: it has something in it, or is none.
@@ -36,25 +44,43 @@ impl Finding for StoreRefusal {
     }
 }
 
+// Whether it is told as want of memory, whatever the job.
+fn lacks_memory(fault: &OpeningFault) -> bool {
+    match fault {
+        OpeningFault::Kept(JournalOpenFault::Journal(JournalFault::OutOfMemory))
+        | OpeningFault::Kept(JournalOpenFault::Disk(DiskError::OutOfMemory))
+        | OpeningFault::Replay(ReplayFault::OutOfMemory) => true,
+        OpeningFault::File(OpenError::Io(error)) => error.kind() == ErrorKind::OutOfMemory,
+        _ => false,
+    }
+}
+
 impl fmt::Display for StoreRefusal {
     fn fmt<W: fmt::Write>(&self, f: &mut fmt::Formatter<W>) -> fmt::Result {
         match self {
             StoreRefusal::Folder(fault) => write!(f, "store: {fault}"),
             StoreRefusal::CannotWrite(path) => write!(f, "cannot write {path}"),
+            StoreRefusal::Store(StoreFault::OutOfMemory) => f.write_str("out of memory"),
             StoreRefusal::Store(fault) => write!(f, "store: {fault}"),
             StoreRefusal::InUse => write!(f, "store: 94 InUse"),
+            StoreRefusal::Tables(ExportRefusal::Journal(fault)) if lacks_memory(fault) => {
+                f.write_str("out of memory")
+            }
             StoreRefusal::Tables(ExportRefusal::Journal(fault)) => write!(f, "store: {fault}"),
+            StoreRefusal::Tables(ExportRefusal::Commit(fault)) => write!(f, "store: {fault}"),
             StoreRefusal::Tables(fault) => write!(f, "{fault}"),
         }
     }
 }
 
-/// Why a store was not made, or has no newer tables. The exit status is 1 where the data or the store is refused, and
-/// else 4.
+/// Why a store was not made or read, or has no newer tables. The exit status is 1 where the data or the store is
+/// refused, and else 4.
 pub type StoreJobFault = JobFault<StoreRefusal>;
 
 /// The fault of a job that meets this one of an export.
-pub(crate) fn of_export(fault: ExportFault) -> StoreJobFault {
+pub(crate) fn of_export(fault: ExportFault) -> StoreJobFault
+    ensures { store_status result ≡ export_status fault }
+{
     match fault {
         JobFault::Program(fault) => JobFault::Program(fault),
         JobFault::Found(fault) => JobFault::Found(StoreRefusal::Tables(fault)),

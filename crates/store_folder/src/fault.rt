@@ -4,6 +4,7 @@ ghost use Rattle.std.specs.Prelude.{◌≡◌};
 ghost use Rattle.store_folder.specs.Status.{fault_status};
 ghost use Rattle.store_folder.specs.declared.fault.StoreFault.TheVariants.{OutOfMemory};
 
+use journal_opening::NoSuchCommit;
 use std::alloc::{AllocError, AllocFailed};
 use std::io::{self, ErrorKind};
 use thiserror::Error;
@@ -18,6 +19,9 @@ pub enum StoreFault {
     /// and no segment follows.
     #[error("88 Gap {0}")]
     Gap(u64),
+    /// All whole tables are after more commits than are asked for.
+    #[error(transparent)]
+    NoSuchCommit(NoSuchCommit),
     /// A file of this name is damaged, or is of another store.
     #[error("{0}: 93 Damaged 0")]
     Damaged(String),
@@ -51,7 +55,8 @@ impl StoreFault {
         ensures { result ≡ fault_status self.now }
     {
         match self {
-            StoreFault::NoStore | StoreFault::Gap(_) | StoreFault::Damaged(_) => 1,
+            StoreFault::NoStore | StoreFault::Gap(_) => 1,
+            StoreFault::NoSuchCommit(_) | StoreFault::Damaged(_) => 1,
             StoreFault::CannotRead(_) | StoreFault::OutOfMemory => 4,
         }
     }

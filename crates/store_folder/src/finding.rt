@@ -8,6 +8,7 @@ use crate::file_name::{SEGMENT, TABLES, number_in, sizes_path};
 use crate::segment::{open_any, open_segment};
 use crate::sizes::Sizes;
 use journal_file::JournalFile;
+use journal_opening::NoSuchCommit;
 use std::alloc::{AllocError, Global};
 use std::fs;
 use std::io::{self, BufReader, ErrorKind, Read};
@@ -55,10 +56,10 @@ pub fn list_store<F: Files>(files: &F, alloc: Global, folder: &str) -> io::Resul
     Ok(numbers)
 }
 
-/// What a start finds in a store: the newest tables, and the segments behind them.
+/// What a start finds in a store: the newest tables, or those that it asks for, and the segments behind them.
 #[derive(Drop)]
 pub struct FoundStore {
-    // What is told of the newest tables.
+    // What is told of the tables.
     sizes: Sizes,
     // The segments behind them that are closed, in order, and the one that a server goes on with.
     closed: Vec<u64>,
@@ -67,17 +68,17 @@ pub struct FoundStore {
 }
 
 impl FoundStore {
-    /// What is told of the newest tables.
+    /// What is told of the tables.
     pub fn sizes(&self) -> &Sizes {
         &self.sizes
     }
 
-    /// After how many commits of the store the newest tables are.
+    /// After how many commits of the store the tables are.
     pub fn after(&self) -> u64 {
         self.sizes.after
     }
 
-    /// The segments behind the newest tables that are closed, in order.
+    /// The segments behind the tables that are closed, in order.
     pub fn closed(&self) -> &[u64] {
         &self.closed
     }
@@ -111,19 +112,38 @@ fn read_sizes<F: Files>(
     }
 }
 
-// What is told of the newest tables that are whole.
+// What is told of the newest tables that are whole and after at most so many commits.
 fn newest<F: Files>(
     files: &F,
     alloc: Global,
     folder: &str,
     tables: &[u64],
+    most: u64,
 ) -> Result<Sizes, StoreFault> {
     for after in tables.iter().rev() {
-        if let Some(sizes) = read_sizes(files, alloc, folder, *after)? {
-            return Ok(sizes);
+        if *after <= most {
+            if let Some(sizes) = read_sizes(files, alloc, folder, *after)? {
+                return Ok(sizes);
+            }
         }
     }
     Err(StoreFault::NoStore)
+}
+
+// The same; where whole tables are there, and all of them are after more commits, there is no such commit.
+fn newest_up_to<F: Files>(
+    files: &F,
+    alloc: Global,
+    folder: &str,
+    tables: &[u64],
+    number: u64,
+) -> Result<Sizes, StoreFault> {
+    match newest(files, alloc, folder, tables, number) {
+        Err(StoreFault::NoStore) => {}
+        result => return result,
+    }
+    newest(files, alloc, folder, tables, u64::MAX)?;
+    Err(StoreFault::NoSuchCommit(NoSuchCommit { number }))
 }
 
 // How long the segment of this number is, where it has commits, behind one that is so long.
@@ -181,7 +201,12 @@ where
 }
 
 // Finds them, where what is listed is there as it is read.
-fn find_once<F: Files>(files: &F, alloc: Global, folder: &str) -> Result<FoundStore, StoreFault>
+fn find_once<F: Files>(
+    files: &F,
+    alloc: Global,
+    folder: &str,
+    at: Option<u64>,
+) -> Result<FoundStore, StoreFault>
 where
     F::File: JournalFile,
 {
@@ -192,25 +217,30 @@ where
             return Err(StoreFault::of_path(String::from_str(alloc, folder)?, error));
         }
     };
-    let sizes = newest(files, alloc, folder, &numbers.tables)?;
+    let sizes = match at {
+        Some(number) => newest_up_to(files, alloc, folder, &numbers.tables, number)?,
+        None => newest(files, alloc, folder, &numbers.tables, u64::MAX)?,
+    };
     chain(files, alloc, folder, sizes, &numbers.segments)
 }
 
-/// Finds the newest tables of a store, and the segments behind them. Nothing is written.
+/// Finds the newest tables of a store, or the newest that are after at most so many commits, and the segments behind
+/// them. Nothing is written.
 pub fn find_store<F: Files>(
     files: &F,
     alloc: Global,
     folder: &str,
+    at: Option<u64>,
 ) -> Result<FoundStore, StoreFault>
 where
     F::File: JournalFile,
 {
     // A checkpoint may take away what was listed: newer tables are there then.
     for _ in 0..MORE_LOOKS {
-        match find_once(files, alloc, folder) {
+        match find_once(files, alloc, folder, at) {
             Err(StoreFault::NoStore | StoreFault::CannotRead(_)) => {}
             result => return result,
         }
     }
-    find_once(files, alloc, folder)
+    find_once(files, alloc, folder, at)
 }

@@ -10,12 +10,13 @@
 //! A segment is a file of groups, as a journal is (`journal`), behind a head of its own ([`SegmentHead`]). `sizes`
 //! tells by what a journal's head knows the tables ([`Sizes`]); it is named last, and tables without it are not there.
 //!
-//! [`find_store`] finds the newest tables and the segments behind them: that of their number, and each later one that
-//! has commits, which is so where the gate behind its head is open. To all else the commits behind the newest tables
-//! are one journal over these: a [`StoreFile`] is one file, of the head that such a journal has and of the groups of
-//! the segments, one behind another. So whoever goes on with a journal goes on with a store ([`StorePlace`]), and what
-//! is proved of it is proved of a store. A server begins the next segment where its own has as many commits as it may
-//! have: the closed gate at the end of the old one is the gate that the new one begins with.
+//! [`find_store`] finds the newest tables, or the newest that are after at most so many commits, and the segments
+//! behind them: that of their number, and each later one that has commits, which is so where the gate behind its head is
+//! open. To all else the commits behind these tables are one journal over them: a [`StoreFile`] is one file, of the head
+//! that such a journal has and of the groups of the segments, one behind another. So whoever goes on with a journal goes
+//! on with a store ([`StorePlace`]), and what is proved of it is proved of a store. A server begins the next segment
+//! where its own has as many commits as it may have: the closed gate at the end of the old one is the gate that the new
+//! one begins with.
 //!
 //! A turn that is cut off leaves a file without a whole head, or a segment without commits. Neither is ever written
 //! again: a later segment has a greater number, since a server goes on in the segment before.

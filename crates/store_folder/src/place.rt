@@ -28,7 +28,7 @@ pub enum StoreUse {
     Folding,
 }
 
-/// A store as the place of a journal: the commits behind its newest tables.
+/// A store as the place of a journal: the commits behind the tables that were found.
 #[derive(Drop)]
 pub struct StorePlace<'a, F: Files> {
     pub files: &'a F,
@@ -88,7 +88,7 @@ where
 
     // Another server may have gone on with the store since it was found, in a later segment.
     fn check_last(&self) -> Result<(), OpenError> {
-        match find_store(self.files, self.alloc, self.folder) {
+        match find_store(self.files, self.alloc, self.folder, None) {
             Ok(found) if found.last() == self.found.last() => Ok(()),
             Ok(_) => Err(OpenError::InUse),
             Err(fault) => Err(OpenError::Io(open_error(fault))),
@@ -155,7 +155,7 @@ where
         })
     }
 
-    // The segments as one file, behind the head of a journal over the newest tables.
+    // The segments as one file, behind the head of a journal over the tables.
     fn file(&self, lock: Option<F::File>) -> io::Result<StoreFile<'a, F>> {
         let head = open_block(self.alloc, &self.found.sizes().journal_head(self.alloc)?)?;
         let begin = head.len() as u64;

@@ -1,4 +1,4 @@
-//! The commits behind a store's newest tables as one file.
+//! The commits behind tables of a store as one file.
 
 ghost use Rattle.std.specs.Io.{ReadsAtMost};
 ghost use Rattle.std.specs.Prelude.{◌≤◌, length};
@@ -66,15 +66,15 @@ pub(crate) struct SegmentRule<'a, F: Files> {
     pub(crate) folder: &'a str,
     /// Which store it is.
     pub(crate) of: Vec<u8>,
-    /// After how many commits the newest tables are.
+    /// After how many commits the tables are.
     pub(crate) after: u64,
     pub(crate) most: u64,
     /// Which take note of a segment that cannot be made.
     pub(crate) turns: Option<&'a SegmentTurns>,
 }
 
-/// The commits behind a store's newest tables as one file: the head of a journal over these tables, and the groups of
-/// the segments, one behind another. It is written in its last segment alone. A closed one is opened as it is read, so
+/// The commits behind tables of a store as one file: the head of a journal over these tables, and the groups of the
+/// segments, one behind another. It is written in its last segment alone. A closed one is opened as it is read, so
 /// that its space is free once a checkpoint has taken it away.
 #[derive(Drop)]
 pub struct StoreFile<'a, F: Files> {
@@ -86,7 +86,7 @@ pub struct StoreFile<'a, F: Files> {
     pub(crate) last: Option<LastSegment<F::File>>,
     /// The number of the last segment.
     pub(crate) last_number: u64,
-    /// How many commits behind the newest tables the last segment begins, or the one that could not be made.
+    /// How many commits behind the tables the last segment begins, or the one that could not be made.
     pub(crate) begun: u64,
     /// What is read next.
     pub(crate) place: u64,

@@ -14,10 +14,10 @@ pub returns-in-Ok-clause-any_moment : goal.returns-in-Ok-clause-any_moment
 returns-in-Ok-clause-any_moment g c =
     left_export _ _ _ _ _
     (subst (λ (read : ReadJournal). AreTablesAfter read.base read.marks read.file c.read.inside.tables)
-    c.read.view_is c.read.invariant.after) c.fill.ensures.any_moment
+    c.read.view_is c.read.invariant.after) c.fill_folder.ensures.any_moment
 
 pub returns-clause-any_moment : goal.returns-clause-any_moment
 returns-clause-any_moment g c =
     left_export _ _ _ _ _
     (subst (λ (read : ReadJournal). AreTablesAfter read.base read.marks read.file c.read.inside.tables)
-    c.read.view_is c.read.invariant.after) c.fill.ensures.any_moment
+    c.read.view_is c.read.invariant.after) c.fill_folder.ensures.any_moment

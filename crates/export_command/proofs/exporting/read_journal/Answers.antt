@@ -5,7 +5,7 @@ use Rattle.ssb_files.specs.declared.fault.Fault.TheVariants as common
 use Rattle.ssb_files.specs.declared.job.JobFault.TheVariants as job
 use Rattle.export_command.specs.Standing.{Follows}
 use Rattle.export_command.specs.declared.fault.ExportRefusal.TheVariants as refusal
-use Rattle.export_command.proofs.ExportLaws.{lacks_memory, of_file, refused_reading}
+use Rattle.export_command.proofs.ExportLaws.{is_whole, lacks_memory, of_file, refused_reading}
 use Rattle.export_command.proofs.exporting.read_journal.Goals as goal
 
 pub returns-in-Err-clause-fault : goal.returns-in-Err-clause-fault
@@ -29,19 +29,23 @@ returns-in_err-store-clause-fault g c =
     rw is (lacks_memory c.args.source.base.value c.args.source.marks.now (g.U.UnreadDisk.holds c.args.source.file)
     common.OutOfMemory refl)
 
-pub replay_all-requires-clause-orders : goal.replay_all-requires-clause-orders
-replay_all-requires-clause-orders g c lifetimes within =
+pub replay_first-requires-clause-orders : goal.replay_first-requires-clause-orders
+replay_first-requires-clause-orders g c lifetimes within =
     subst (λ (store : Warehouse). Follows store.base store.log c.new-orders.result) (sym c.in_ok-store.ensures)
     (c.new-orders.ensures c.in_ok-shared.shared.value)
+
+pub finish-found-requires : goal.finish-found-requires
+finish-found-requires g c =
+    c.in-Ok-replay_first.ensures.end (is_whole c.in-Ok-replay_first.part.is_whole c.in-Ok-replay_first.ensures.enough)
 
 pub invariant_of-result : goal.invariant_of-result
 invariant_of-result g c =
     let shared : c.in_ok-shared.shared.value ≡ c.args.source.base.value = search rules in
     let base : c.in_ok-store.store.base ≡ c.args.source.base.value =
     ap (λ (store : Warehouse). store.base) c.in_ok-store.ensures ∙ shared in
-    of_file c.args.source.base.value c.in_ok-store.store.base c.args.source.marks.now c.in-Ok-replay_all.journal.marks
+    of_file c.args.source.base.value c.in_ok-store.store.base c.args.source.marks.now c.in-Ok-replay_first.part.journal.marks
     (g.U.Whole.Disk.seen c.finish-found.result.found) c.finish-found.result.torn.items c.finish-found.result.kept
-    c.new-tables.result c.replay_all.new.store c.in-Ok-replay_all.journal.commits c.len.result
-    c.in-Ok-replay_all.ensures.store base c.finish-found.ensures.commits
-    (c.in-Ok-replay_all.ensures.marks ∙ c.in-Ok.ensures.marks) c.finish-found.ensures.kept c.soundness.ensures.legal
+    c.new-tables.result c.replay_first.new.store c.in-Ok-replay_first.part.journal.commits c.len.result
+    c.in-Ok-replay_first.ensures.store base c.finish-found.ensures.commits
+    (c.in-Ok-replay_first.ensures.marks ∙ c.in-Ok.ensures.marks) c.finish-found.ensures.kept c.soundness.ensures.legal
     c.new-tables.ensures c.finish-found.ensures.torn (search rules)

@@ -1,0 +1,28 @@
+//! The store of a folder.
+
+ghost use Rattle.std.specs.Prelude.{◌≢◌, IfErr};
+ghost use Rattle.store_command.specs.Status.{store_status};
+
+use crate::fault::{StoreJobFault, StoreRefusal};
+use journal_file::JournalFile;
+use ssb_files::JobFault::Found;
+use std::alloc::Global;
+use std::rt::Files;
+use store_folder::{FoundStore, find_store};
+
+/// The store in this folder: its newest tables, or the newest that are after at most so many commits.
+pub(crate) fn find<F: Files>(
+    files: &F,
+    alloc: Global,
+    folder: &str,
+    at: Option<u64>,
+) -> Result<FoundStore, StoreJobFault>
+where
+    F::File: JournalFile,
+    ensures words { IfErr result (λ fault. store_status fault ≢ 2) }
+{
+    match find_store(files, alloc, folder, at) {
+        Ok(found) => Ok(found),
+        Err(fault) => Err(Found(StoreRefusal::Store(fault))),
+    }
+}
