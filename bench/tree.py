@@ -177,7 +177,7 @@ class Tree:
     def _words_of_the_program(self):
         sources = [text for path, text in self.text_of.items() if "arguments" in path.parts]
         text = "\n".join(sources)
-        commands = set(re.findall(r'(?:over_tables(?:_or_store)?|Command::new)\(\s*alloc,\s*"([a-z]+)"', text))
+        commands = set(re.findall(r'name: "([a-z]+)",\s*about:', text))
         flags = set(re.findall(r'"([a-z][a-z-]*)"', text)) | {"help", "version"}
         return commands, flags
 

@@ -60,6 +60,9 @@ with tables and bars.
 With --board it prints the reports that FILE asks for, in order, each under its title. A line of FILE is 'Title|NAME',
 'Title|NAME|CONSTANT..' or 'Title|sql|TEXT'; there are 1 to 64.
 
+With --store FOLDER the tables are those of a store after its commits on the disk, beside its server too, and the number
+of commits is theirs; with --at N those after its first N commits, as far as the store still has them.
+
 With --sql it prints the rows of statements of SQL: one SELECT each, of group columns, COUNT, SUM and AVG over lineorder
 and its dimensions, with WHERE, GROUP BY, HAVING, ORDER BY and LIMIT.
 
@@ -78,6 +81,7 @@ Examples:
   ssb_live query --data tables --sql 'SELECT d_year, sum(lo_revenue), count(*) FROM lineorder JOIN date
     ON lo_orderdate = d_datekey GROUP BY d_year ORDER BY 2 DESC LIMIT 3'
   ssb_live query --data tables --format table --sql - < morning.sql
+  ssb_live query --store warehouse --at 1204 Q4.1
   ssb_live query --explain Q2.1
   ssb_live query --explain --sql postgresql star COUNT C_REGION"
 );
@@ -96,6 +100,9 @@ records, and 'withdraw|KEY', then 'commit' is one refresh, which is accepted who
 With --standing the questions of FILE stand: each keeps totals that follow the commits, and is answered from these. The
 reports are the same without it.
 
+With --store FOLDER the tables are those of a store after its commits on the disk, or with --at N after its first N. The
+store is not changed: numbers count the commits of the run, from 0.
+
 Examples:
   ssb_live run --data tables morning.txt
   ssb_live run --data tables --dispatchers 2 --trace run.trace orders.txt questions.txt
@@ -108,8 +115,11 @@ accepted after those before it, each answer has the rows of its question after i
 after fewer commits than its client's answer before it. It prints 'ok C A', the number of commits and the number of
 answers, or reports the first error found (status 3).
 
-Example:
-  ssb_live audit --data tables run.trace";
+With --store FOLDER --at N it checks the trace of a run over the tables of a store after its first N commits.
+
+Examples:
+  ssb_live audit --data tables run.trace
+  ssb_live audit --store warehouse --at 1204 run.trace";
 
 /// What `serve --help` shows.
 pub const SERVE_HELP: &str = "\
@@ -161,7 +171,7 @@ commits. Other programs can load these tables, and a new journal can begin with 
 The tables are written under other names, and renamed when they are on the disk, lineorder.tbl last: a folder that has
 lineorder.tbl has all five. If an export fails, delete by hand what it has left in FOLDER.
 
-With --store the tables and the commits are those of a store, as they are on the disk now.
+With --store the tables and the commits are those of a store, as they are on the disk now; with --at N its first N.
 
 Examples:
   ssb_live export --data tables --journal orders.journal --to tables-2
@@ -184,6 +194,37 @@ Examples:
   ssb_live changes --data tables --journal orders.journal --base
   ssb_live changes --data tables --journal orders.journal --after 1204
   ssb_live ship --journal orders.journal | ssb_live changes --data tables --feed -";
+
+/// What `ship --help` shows.
+pub const SHIP_HELP: &str = "\
+Prints the commits that 'ssb_live serve --journal' keeps in FILE, as they come, for a second machine. A server may go on
+with FILE meanwhile; it is not changed. What is printed is on the disk before, and is a journal for whoever keeps all of
+it. After each second without a commit comes a group without commits, as a sign of life.
+
+With --after N those that end with commit N or before are left out: behind the head stands a group 'after|M', and the
+groups behind it begin with commit M + 1. With --once the command ends when it has printed what is there.
+
+Examples:
+  ssb_live ship --journal orders.journal | ssh second 'cat > copy.journal'
+  ssb_live ship --journal orders.journal --after 1204 --once";
+
+/// What `store --help` shows.
+pub const STORE_HELP: &str = "\
+Loads the five table files of a folder, and makes a store of them in FOLDER, which is created if it does not exist, and
+must be empty: a copy of the tables, and a journal behind them. 'ssb_live serve --store FOLDER' goes on with it, and
+'ssb_live checkpoint --store FOLDER' keeps it small.
+
+Example:
+  ssb_live store --data tables --store warehouse";
+
+/// What `checkpoint --help` shows.
+pub const CHECKPOINT_HELP: &str = "\
+Makes newer tables of those of a store and of its closed segments, which are all but the last, and deletes the tables
+and the segments that no start needs any more. A server may go on with the store meanwhile. What it had told is kept,
+whatever ends this. With --keep-from N the tables that '--at N' and later numbers are read from stay.
+
+Example:
+  ssb_live checkpoint --store warehouse";
 
 /// What the word `help` shows on the terminal of a live session.
 pub const TERMINAL_HELP: &str = help_with_questions!(

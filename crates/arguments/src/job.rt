@@ -4,7 +4,8 @@ use crate::grammar::{command, width_of};
 use crate::notice::Notice;
 use crate::ship::{ShipWords, ship_words};
 use crate::store::{
-    CheckpointWords, StoreWord, StoreWords, checkpoint_words, store_of, store_words,
+    CheckpointWords, FilesWord, SourceWord, StoreWord, StoreWords, StoredWord, checkpoint_words,
+    files_of, source_of, store_of, store_words, stored_of,
 };
 use clap::ArgMatches;
 use clap::error::ErrorKind;
@@ -107,8 +108,7 @@ impl HintsWord {
 /// The words of `query`.
 #[derive(Drop)]
 pub struct QueryWords<'a> {
-    pub data: &'a str,
-    pub layout: TableLayout,
+    pub source: SourceWord<'a>,
     pub all: bool,
     /// The file of the questions; none where the words have them.
     pub board: Option<&'a str>,
@@ -140,8 +140,7 @@ pub struct ExplainWords<'a> {
 /// The words of `run`.
 #[derive(Drop)]
 pub struct RunWords<'a> {
-    pub data: &'a str,
-    pub layout: TableLayout,
+    pub source: SourceWord<'a>,
     pub scripts: Vec<&'a str>,
     pub trace: Option<&'a str>,
     pub standing: Option<StandingWord<'a>>,
@@ -175,21 +174,25 @@ pub struct ServeWords<'a> {
 /// The words of `audit`.
 #[derive(Drop)]
 pub struct AuditWords<'a> {
-    pub data: &'a str,
-    pub layout: TableLayout,
+    pub source: SourceWord<'a>,
     pub trace: &'a str,
     pub quiet: bool,
     pub hints: HintsWord,
 }
 
+/// What is exported.
+#[derive(Clone, Copy)]
+pub enum ExportedWord<'a> {
+    /// Table files, after the commits of the journal at this path.
+    Journal(FilesWord<'a>, &'a str),
+    /// The tables of a store.
+    Store(StoredWord<'a>),
+}
+
 /// The words of `export`.
 #[derive(Drop)]
 pub struct ExportWords<'a> {
-    /// Empty where a store is exported, as the journal.
-    pub data: &'a str,
-    pub layout: TableLayout,
-    pub store: Option<&'a str>,
-    pub journal: &'a str,
+    pub exported: ExportedWord<'a>,
     pub folder: &'a str,
     pub quiet: bool,
     pub hints: HintsWord,
@@ -371,8 +374,7 @@ fn query_words<'a>(
     columns: Option<&str>,
 ) -> Result<QueryWords<'a>, Notice> {
     Ok(QueryWords {
-        data: word_of(matches, "data"),
-        layout: layout_of(alloc, matches)?,
+        source: source_of(alloc, matches)?,
         all: matches.get_flag("all"),
         board: matches.get_str("board"),
         sql: matches.get_str("sql"),
@@ -430,8 +432,7 @@ fn query_job<'a>(
 
 fn run_words<'a>(alloc: Global, matches: &ArgMatches<'a>) -> Result<RunWords<'a>, Notice> {
     Ok(RunWords {
-        data: word_of(matches, "data"),
-        layout: layout_of(alloc, matches)?,
+        source: source_of(alloc, matches)?,
         scripts: words_of(alloc, matches, "scripts")?,
         trace: matches.get_str("trace"),
         standing: standing_of(matches),
@@ -457,7 +458,7 @@ fn serve_words<'a>(alloc: Global, matches: &ArgMatches<'a>) -> Result<ServeWords
     Ok(ServeWords {
         data: word_of(matches, "data"),
         layout: layout_of(alloc, matches)?,
-        store: store_of(matches),
+        store: store_of(alloc, matches)?,
         clients: words_of(alloc, matches, "clients")?,
         keep: matches.get_flag("keep"),
         journal: journal_of(matches),
@@ -472,20 +473,23 @@ fn serve_words<'a>(alloc: Global, matches: &ArgMatches<'a>) -> Result<ServeWords
 
 fn audit_words<'a>(alloc: Global, matches: &ArgMatches<'a>) -> Result<AuditWords<'a>, Notice> {
     Ok(AuditWords {
-        data: word_of(matches, "data"),
-        layout: layout_of(alloc, matches)?,
+        source: source_of(alloc, matches)?,
         trace: word_of(matches, "trace"),
         quiet: matches.get_flag("quiet"),
         hints: hints_of(matches),
     })
 }
 
+fn exported_of<'a>(alloc: Global, matches: &ArgMatches<'a>) -> Result<ExportedWord<'a>, Notice> {
+    match stored_of(alloc, matches)? {
+        Some(store) => Ok(ExportedWord::Store(store)),
+        None => Ok(ExportedWord::Journal(files_of(alloc, matches)?, word_of(matches, "journal"))),
+    }
+}
+
 fn export_words<'a>(alloc: Global, matches: &ArgMatches<'a>) -> Result<ExportWords<'a>, Notice> {
     Ok(ExportWords {
-        data: word_of(matches, "data"),
-        layout: layout_of(alloc, matches)?,
-        store: matches.get_str("store"),
-        journal: word_of(matches, "journal"),
+        exported: exported_of(alloc, matches)?,
         folder: word_of(matches, "to"),
         quiet: matches.get_flag("quiet"),
         hints: hints_of(matches),

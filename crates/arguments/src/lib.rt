@@ -10,7 +10,7 @@
 //!
 //! ```text
 //! match job_of(alloc, words.as_slice(), None) {             // ssb_live query --data tables Q4.1
-//!     Ok(Job::Query(words)) => ..                     // words.data: tables, words.name: Q4.1
+//!     Ok(Job::Query(words)) => ..                     // words.source: the files of tables, words.name: Q4.1
 //!     Err(notice) => write!(err, "{notice}")
 //! }
 //! ```
@@ -22,12 +22,13 @@ mod job;
 mod notice;
 mod ship;
 mod store;
+mod word;
 
 pub use help::{REFRESH_HELP, STAR_HELP, TERMINAL_HELP};
 pub use job::{
-    AuditWords, ChangesWords, ExplainWords, ExportWords, FormatWord, GroupsWord, HintsWord, Job,
-    JournalWord, QueryWords, RunWords, ServeWords, StandingWord, StartWord, job_of,
+    AuditWords, ChangesWords, ExplainWords, ExportWords, ExportedWord, FormatWord, GroupsWord,
+    HintsWord, Job, JournalWord, QueryWords, RunWords, ServeWords, StandingWord, StartWord, job_of,
 };
 pub use notice::Notice;
 pub use ship::ShipWords;
-pub use store::{CheckpointWords, StoreWord, StoreWords};
+pub use store::{CheckpointWords, FilesWord, SourceWord, StoreWord, StoreWords, StoredWord};
