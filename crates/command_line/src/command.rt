@@ -22,20 +22,24 @@ use crate::querying::statements_on;
 use crate::seconds_view::NamedSeconds;
 use crate::shipping::ship_journal;
 use crate::stores::ServedStore;
-use crate::stores::export_store;
 use crate::stores::fold_store;
 use crate::stores::make_store;
+use crate::stores::push_store;
 use crate::stores::serve_store;
+use crate::stores::stored_source;
 use crate::streams::Streams;
 use crate::streams::tell;
 use crate::terminal_view::TerminalView;
+use arguments::FilesWord;
 use arguments::HintsWord;
 use arguments::Job;
 use arguments::JournalWord;
 use arguments::RunWords;
 use arguments::ServeWords;
+use arguments::SourceWord;
 use arguments::StandingWord;
 use arguments::job_of;
+use base_source::BaseSource;
 use confirmed_commits::Seconds;
 use journal_file::JournalFile;
 use journal_file::torn_path;
@@ -86,6 +90,7 @@ use ssb_text::Tables;
 use std::alloc::AllocError;
 use std::alloc::Global;
 use std::fs;
+use std::fs::OpenFile;
 use std::hash::RandomState;
 use std::io;
 use std::io::BufWriter;
@@ -170,13 +175,27 @@ fn questions_of<I: Read + Drop>(
     }
 }
 
-// The files of a run, opened, and how its scripts are served.
+// The files of a run but for its tables, opened, and how its scripts are served.
 #[derive(Drop)]
 struct OpenedRun<O: Write + Drop> {
     settings: RunSettings,
-    tables: Tables<O>,
     scripts: Vec<O>,
     trace: Option<BufWriter<O>>,
+}
+
+// The files that the base of a run comes from.
+fn source_paths<F: Files + AllocGlobal>(
+    files: &F,
+    source: SourceWord<'_>,
+) -> Result<Vec<UsedPath>, Fault> {
+    match source {
+        SourceWord::Files(FilesWord { data, layout: _ }) => find_tables(files, data),
+        SourceWord::Store(store) => {
+            let mut paths = Vec::new(files.alloc());
+            push_store(files, store.folder, &mut paths)?;
+            Ok(paths)
+        }
+    }
 }
 
 // Looks whether the trace of a run would be written over a file that the run reads.
@@ -185,7 +204,7 @@ fn check_trace_path<F: Files + AllocGlobal>(
     words: &RunWords<'_>,
     trace: &str,
 ) -> Result<(), Fault> {
-    let mut paths = find_tables(files, words.data)?;
+    let mut paths = source_paths(files, words.source)?;
     for script in &words.scripts {
         paths.push(UsedPath::find(files, script, PathUse::Read)?)?;
     }
@@ -194,8 +213,8 @@ fn check_trace_path<F: Files + AllocGlobal>(
     check_paths(paths.as_slice())
 }
 
-// Opens the files of a run, and reads the questions that are to stand. The trace is made after that, and where it is
-// none of the other files.
+// Opens the files of a run behind its tables, and reads the questions that are to stand. The trace is made after that,
+// and where it is none of the other files.
 fn open_run<R: RandomSource, F: Files + AllocGlobal>(
     rt: &R,
     files: &F,
@@ -204,7 +223,6 @@ fn open_run<R: RandomSource, F: Files + AllocGlobal>(
 where
     F::File: JournalFile,
 {
-    let tables = open_tables(files, words.data)?;
     let scripts = open_files(files, words.scripts.as_slice())?;
     let source = open_standing(files, words.standing)?;
     if let Some(path) = words.trace {
@@ -224,13 +242,41 @@ where
     };
     Ok(OpenedRun {
         settings,
-        tables,
         scripts,
         trace,
     })
 }
 
-// Serves scripts at once over the files of a folder.
+// Serves scripts at once over the base of a source.
+fn report_over<
+    R,
+    O: Read + Write + OpenFile + Drop,
+    S: BaseSource + Drop,
+    P: Print,
+    W: Write,
+    E: Write,
+>(
+    rt: &R,
+    opened: OpenedRun<O>,
+    tables: S,
+    screen: Option<&Screen<'_, R, P>>,
+    out: &mut W,
+    err: &mut E,
+) -> Result<u8, Fault>
+where
+    R: Clock + Threads + Sync + Wait + AllocGlobal,
+{
+    let OpenedRun {
+        settings,
+        scripts,
+        mut trace,
+    } = opened;
+    let sources = watch_scripts(rt.alloc(), screen, scripts)?;
+    let input = RunInput { tables, sources };
+    Ok(run_scripts(rt, settings, input, out, &mut trace, err))
+}
+
+// Serves scripts at once over the files of a folder, or over a store.
 fn report_scripts<R, F: Files + AllocGlobal, P: Print, W: Write, E: Write>(
     rt: &R,
     files: &F,
@@ -243,24 +289,24 @@ where
     R: Clock + RandomSource + Threads + Sync + Wait + AllocGlobal,
     F::File: JournalFile,
 {
-    let opened = open_run(rt, files, words)?;
-    let OpenedRun {
-        settings,
-        tables,
-        scripts,
-        mut trace,
-    } = opened;
-    let screen = screen_of(rt, words.quiet, terminal);
-    let scripts = watch_scripts(rt.alloc(), screen.as_ref(), scripts)?;
-    let tables = TableFiles {
-        tables: watch_tables(screen.as_ref(), tables),
-        layout: words.layout,
-    };
-    let input = RunInput {
-        tables,
-        sources: scripts,
-    };
-    Ok(run_scripts(rt, settings, input, out, &mut trace, err))
+    match words.source {
+        SourceWord::Files(FilesWord { data, layout }) => {
+            let tables = open_tables(files, data)?;
+            let opened = open_run(rt, files, words)?;
+            let screen = screen_of(rt, words.quiet, terminal);
+            let tables = TableFiles {
+                tables: watch_tables(screen.as_ref(), tables),
+                layout,
+            };
+            report_over(rt, opened, tables, screen.as_ref(), out, err)
+        }
+        SourceWord::Store(store) => {
+            let opened = open_run(rt, files, words)?;
+            let screen = screen_of(rt, words.quiet, terminal);
+            let tables = stored_source(rt, files, store)?;
+            report_over(rt, opened, tables, screen.as_ref(), out, err)
+        }
+    }
 }
 
 // The ends of the clients that the words name, each IN and OUT in turn.
@@ -299,6 +345,9 @@ fn check_server_paths<F: Files + AllocGlobal>(
     }
     for by in &words.confirmed {
         paths.push(UsedPath::find(files, by, PathUse::Input)?)?;
+    }
+    if let Some(store) = words.store {
+        push_store(files, store.folder, &mut paths)?;
     }
     if let Some(word) = words.journal {
         let journal = word.path();
@@ -390,14 +439,19 @@ fn view_of<'a, 't, R, F: Files>(
     files: &'a F,
     settings: &ServeSettings,
     words: &ServeWords<'t>,
-    seconds: &Arc<Seconds>,
+    parts: &PlaceParts<'_, F>,
+    journal: Option<&NamedJournal>,
 ) -> Result<TerminalView<'a, 't, R, F>, AllocError>
 where
     R: AllocGlobal,
 {
-    let tables = Some(job_help::tables_of(words));
-    let seconds = Some(NamedSeconds::of(rt.alloc(), words, seconds)?);
-    TerminalView::of(rt, files, settings, tables, seconds, words.hints)
+    let mut view = TerminalView::of(rt, files, settings, words.hints)?;
+    view.tables = Some(job_help::tables_of(words));
+    view.seconds = Some(NamedSeconds::of(rt.alloc(), words, &parts.seconds)?);
+    if let Some(NamedJournal::Store(store)) = journal {
+        view.store = Some(Arc::try_clone(store)?);
+    }
+    Ok(view)
 }
 
 // Serves the person at a terminal over tables that are loaded now. Where hints are told, a fault has help below it.
@@ -487,7 +541,7 @@ where
         return attend_clients(rt, settings, tables, place, clients, errors);
     }
     if streams.is_typed {
-        let Ok(view) = view_of(rt, files, &settings, words, &parts.seconds) else {
+        let Ok(view) = view_of(rt, files, &settings, words, &parts, journal.as_ref()) else {
             return Fault::OutOfMemory.tell(&mut io::writer(errors));
         };
         return serve_typed(rt, settings, tables, place, &view, streams);
@@ -541,7 +595,7 @@ where
         Ok(locks) => locks,
         Err(fault) => return fault.tell(&mut io::writer(errors)),
     };
-    let metrics = match MetricsFile::named_by(files, words, &settings.figures) {
+    let metrics = match MetricsFile::named_by(files, words, journal.as_ref(), &settings.figures) {
         Ok(metrics) => metrics,
         Err(fault) => return fault.tell(&mut io::writer(errors)),
     };
@@ -582,7 +636,7 @@ where
         figures: Arc::new(rt.alloc(), LiveFigures::new())?,
         tells_ready: false,
     };
-    let view = TerminalView::of(rt, files, &settings, None, None, hints)?;
+    let view = TerminalView::of(rt, files, &settings, hints)?;
     let parts = PlaceParts {
         path: named_journal::served_journal(files, None)?,
         seconds: Arc::new(rt.alloc(), Seconds::new(rt.alloc(), 0)?)?,
@@ -645,10 +699,7 @@ where
             None => Ok(serve_live(rt, files, words, None, terminal, streams)),
         },
         Job::Audit(words) => check_trace(rt, files, words, terminal, &mut streams.output, err),
-        Job::Export(words) => match words.store {
-            Some(folder) => export_store(rt, files, words, folder, terminal, err),
-            None => export_tables(rt, files, words, terminal, err),
-        },
+        Job::Export(words) => export_tables(rt, files, words, terminal, err),
         Job::Changes(words) => {
             write_changes(rt, files, words, streams.input, &mut streams.output, err)
         }

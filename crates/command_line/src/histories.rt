@@ -3,25 +3,29 @@
 
 use crate::command::{hashing_of, screen_of};
 use crate::named_journal;
-use arguments::{AuditWords, ChangesWords, ExportWords, GroupsWord, StartWord};
+use crate::stores::{export_store, stored_source};
+use arguments::{
+    AuditWords, ChangesWords, ExportWords, ExportedWord, FilesWord, GroupsWord, SourceWord,
+    StartWord,
+};
 use audit_command::run_audit;
 use changes_command::{
     ChangesFault, ChangesPlace, ChangesRefusal, ChangesStart, FeedPlace, run_changes, run_feed,
 };
 use export_command::{ExportFault, ExportPlace, ExportRefusal, run_export};
 use journal_file::JournalFile;
-use journal_opening::{OpensJournal, ReadPath};
+use journal_opening::ReadPath;
 use ssb_files::{
     Fault, InputSource, TableBytes, count_tables, open_file, open_tables, watch, watch_tables,
 };
-use ssb_text::{TableFiles, TableLayout, Tables};
+use ssb_text::TableFiles;
 use std::io::{Print, Read, Write};
 use std::random::RandomSource;
 use std::rt::Files;
 use std::thread::Threads;
 use std::time::Clock;
 
-/// Checks a trace over the files of a folder.
+/// Checks a trace over the files of a folder, or over a store.
 pub(crate) fn check_trace<R, F: Files + AllocGlobal, P: Print, W: Write, E: Write>(
     rt: &R,
     files: &F,
@@ -32,33 +36,36 @@ pub(crate) fn check_trace<R, F: Files + AllocGlobal, P: Print, W: Write, E: Writ
 ) -> Result<u8, Fault>
 where
     R: Clock + RandomSource + Threads + Sync + AllocGlobal,
+    F::File: JournalFile,
 {
-    let tables = open_tables(files, words.data)?;
-    let trace = open_file(files, words.trace)?;
-    let hashing = hashing_of(rt)?;
-    let screen = screen_of(rt, words.quiet, terminal);
-    let tables = TableFiles {
-        tables: watch_tables(screen.as_ref(), tables),
-        layout: words.layout,
-    };
-    let trace = watch(screen.as_ref(), InputSource::Trace, trace);
-    Ok(run_audit(rt, hashing, tables, trace, out, err))
+    match words.source {
+        SourceWord::Files(FilesWord { data, layout }) => {
+            let tables = open_tables(files, data)?;
+            let trace = open_file(files, words.trace)?;
+            let hashing = hashing_of(rt)?;
+            let screen = screen_of(rt, words.quiet, terminal);
+            let tables = TableFiles {
+                tables: watch_tables(screen.as_ref(), tables),
+                layout,
+            };
+            let trace = watch(screen.as_ref(), InputSource::Trace, trace);
+            Ok(run_audit(rt, hashing, tables, trace, out, err))
+        }
+        SourceWord::Store(store) => {
+            let trace = open_file(files, words.trace)?;
+            let hashing = hashing_of(rt)?;
+            let tables = stored_source(rt, files, store)?;
+            Ok(run_audit(rt, hashing, tables, trace, out, err))
+        }
+    }
 }
 
-/// What is exported: tables that are opened, and the commits behind them.
-#[derive(Drop)]
-pub(crate) struct Exported<'j, O: Drop, J> {
-    pub(crate) tables: Tables<O>,
-    pub(crate) layout: TableLayout,
-    pub(crate) journal: &'j J,
-}
-
-/// Exports tables after the commits behind them.
-pub(crate) fn export_opened<R, F: Files + AllocGlobal, J: OpensJournal, P: Print, E: Write>(
+// Exports the tables of a folder after the commits of the journal at this path.
+fn export_kept<R, F: Files + AllocGlobal, P: Print, E: Write>(
     rt: &R,
     files: &F,
     words: &ExportWords<'_>,
-    exported: Exported<'_, F::File, J>,
+    kept: (FilesWord<'_>, &str),
     terminal: Option<&P>,
     err: &mut E,
 ) -> Result<u8, Fault>
@@ -66,11 +73,11 @@ where
     R: Clock + RandomSource + Threads + Sync + AllocGlobal,
     F::File: JournalFile,
 {
-    let Exported {
-        tables,
-        layout,
-        journal,
-    } = exported;
+    let (FilesWord { data, layout }, path) = kept;
+    let tables = open_tables(files, data)?;
+    if let Err(fault) = named_journal::check_is_there(files, path) {
+        return Ok(ExportFault::Found(ExportRefusal::Journal(fault)).tell(err));
+    }
     let hashing = hashing_of(rt)?;
     let screen = screen_of(rt, words.quiet, terminal);
     let tables = watch_tables(screen.as_ref(), tables);
@@ -79,8 +86,9 @@ where
         tables: count_tables(&bytes, tables),
         layout,
     };
+    let journal = ReadPath { files, path };
     let place = ExportPlace {
-        journal,
+        journal: &journal,
         files,
         folder: words.folder,
         bytes: &bytes,
@@ -89,7 +97,7 @@ where
     Ok(run_export(rt, hashing, tables, &place, err).status)
 }
 
-/// Exports the tables after a journal's commits, over the files of a folder.
+/// Exports the tables after a journal's commits, over the files of a folder, or those of a store.
 pub(crate) fn export_tables<R, F: Files + AllocGlobal, P: Print, E: Write>(
     rt: &R,
     files: &F,
@@ -101,20 +109,12 @@ where
     R: Clock + RandomSource + Threads + Sync + AllocGlobal,
     F::File: JournalFile,
 {
-    let tables = open_tables(files, words.data)?;
-    if let Err(fault) = named_journal::check_is_there(files, words.journal) {
-        return Ok(ExportFault::Found(ExportRefusal::Journal(fault)).tell(err));
+    match words.exported {
+        ExportedWord::Journal(tables, journal) => {
+            export_kept(rt, files, words, (tables, journal), terminal, err)
+        }
+        ExportedWord::Store(store) => export_store(rt, files, words, store, terminal, err),
     }
-    let journal = ReadPath {
-        files,
-        path: words.journal,
-    };
-    let exported = Exported {
-        tables,
-        layout: words.layout,
-        journal: &journal,
-    };
-    export_opened(rt, files, words, exported, terminal, err)
 }
 
 fn start_of(word: StartWord) -> ChangesStart {

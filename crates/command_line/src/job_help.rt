@@ -1,15 +1,50 @@
 //! Help about what a job names.
 
-use arguments::{ChangesWords, Job, QueryWords, ServeWords, StandingWord};
+use arguments::{
+    ChangesWords, ExportedWord, FilesWord, Job, QueryWords, ServeWords, SourceWord, StandingWord,
+};
+use journal_file::JournalFile;
 use ssb_hints::{
     FaultLines, Named, NamedTables, ObservedFiles, Reports, STANDARD_INPUT, write_help, write_notes,
 };
 use ssb_text::TableLayout;
 use std::io::{Print, Write};
 use std::rt::Files;
+use store_folder::{find_store, tables_path};
 
 fn tables_named(folder: &str, layout: TableLayout) -> NamedTables<'_> {
     NamedTables { folder, layout }
+}
+
+// The table files of a source, where no store stands in their place.
+fn files_named<'a>(source: SourceWord<'a>) -> Option<NamedTables<'a>> {
+    source
+        .files()
+        .map(|FilesWord { data, layout }| tables_named(data, layout))
+}
+
+// The table files that are exported, where no store is.
+fn exported_files<'a>(exported: ExportedWord<'a>) -> Option<NamedTables<'a>> {
+    match exported {
+        ExportedWord::Journal(files, _) => Some(tables_named(files.data, files.layout)),
+        ExportedWord::Store(_) => None,
+    }
+}
+
+// The journal whose commits are exported, where no store is.
+fn exported_journal<'a>(exported: ExportedWord<'a>) -> Option<&'a str> {
+    match exported {
+        ExportedWord::Journal(_, journal) => Some(journal),
+        ExportedWord::Store(_) => None,
+    }
+}
+
+// The store that is exported, where one is.
+fn exported_store<'a>(exported: ExportedWord<'a>) -> Option<&'a str> {
+    match exported {
+        ExportedWord::Journal(_, _) => None,
+        ExportedWord::Store(store) => Some(store.folder),
+    }
 }
 
 /// The tables of a live server.
@@ -58,7 +93,8 @@ fn named_by<'a>(job: &'a Job<'_>) -> Named<'a> {
     match job {
         Job::Script => nothing,
         Job::Query(words) => Named {
-            data: Some(tables_named(words.data, words.layout)),
+            data: files_named(words.source),
+            store: words.source.store(),
             query: query_named(words),
             constants: words.constants.as_slice(),
             statement: statements_named(words),
@@ -72,7 +108,8 @@ fn named_by<'a>(job: &'a Job<'_>) -> Named<'a> {
             ..nothing
         },
         Job::Run(words) => Named {
-            data: Some(tables_named(words.data, words.layout)),
+            data: files_named(words.source),
+            store: words.source.store(),
             scripts: words.scripts.as_slice(),
             standing: standing_path(words.standing),
             trace: words.trace,
@@ -87,14 +124,15 @@ fn named_by<'a>(job: &'a Job<'_>) -> Named<'a> {
             ..nothing
         },
         Job::Audit(words) => Named {
-            data: Some(tables_named(words.data, words.layout)),
+            data: files_named(words.source),
+            store: words.source.store(),
             trace: Some(words.trace),
             ..nothing
         },
         Job::Export(words) => Named {
-            data: tables_if_named(words.data, words.layout),
-            journal: path_if_named(words.journal),
-            store: words.store,
+            data: exported_files(words.exported),
+            journal: exported_journal(words.exported),
+            store: exported_store(words.exported),
             folder: Some(words.folder),
             ..nothing
         },
@@ -139,12 +177,34 @@ pub(crate) fn tell_help<F: Files, P: Print, E: Write>(
     write_help(files, &named_by(job), faults, err);
 }
 
+// The folder of the newest tables of a store. Its dimensions are those of all others.
+fn newest_tables<F: Files>(files: &ObservedFiles<'_, F>, folder: &str) -> Option<String>
+where
+    F::File: JournalFile,
+{
+    let alloc = files.alloc();
+    let found = find_store(files, alloc, folder, None).ok()?;
+    tables_path(alloc, folder, found.after()).ok()
+}
+
 /// Tells what the questions of a job ask for that no row has, and why refreshes of a run were refused.
 pub(crate) fn tell_notes<F: Files, E: Write>(
     files: &ObservedFiles<'_, F>,
     job: &Job<'_>,
     reports: &Reports,
     err: &mut E,
-) {
-    write_notes(files, &named_by(job), reports, err);
+)
+where
+    F::File: JournalFile,
+{
+    let named = named_by(job);
+    let newest = match (named.data, named.store) {
+        (None, Some(folder)) => newest_tables(files, folder),
+        _ => None,
+    };
+    let data = match &newest {
+        Some(folder) => Some(tables_named(folder.as_str(), TableLayout::benchmark())),
+        None => named.data,
+    };
+    write_notes(files, &Named { data, ..named }, reports, err);
 }

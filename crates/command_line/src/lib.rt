@@ -33,6 +33,7 @@ mod pipes;
 mod querying;
 mod seconds_view;
 mod shipping;
+mod store_figures;
 mod stores;
 mod streams;
 mod terminal_view;

@@ -4,7 +4,10 @@ ghost use Rattle.std.specs.Prelude.{◌≡◌};
 
 use crate::end_bell::EndBell;
 use crate::memory::resident;
+use crate::named_journal::NamedJournal;
 use crate::seconds_view::NamedSeconds;
+use crate::store_figures::{StoreCommits, StoreFigures};
+use crate::stores::ServedStore;
 use arguments::ServeWords;
 use serve_command::MOST_CLIENTS;
 use server_figures::{LiveFigures, Metrics, NotMetrics, SIGN_LENGTH, may_be_replaced};
@@ -105,25 +108,25 @@ pub(crate) struct MetricsFile<'a, F: Files> {
     path: String,
     // That of the file which is written and then renamed.
     new: String,
-    // That of the journal, where there is one.
-    journal: Option<String>,
+    // The journal, where there is one.
+    journal: Option<NamedJournal>,
     figures: Arc<LiveFigures>,
 }
 
 impl<'a, F: Files + AllocGlobal> MetricsFile<'a, F> {
-    // The file of this path, for these figures and for how large this journal is. Nothing is written. A file that has
+    // The file of this path, for these figures and for what this journal has. Nothing is written. A file that has
     // something else is refused.
     fn find(
         files: &'a F,
         path: &str,
-        journal: Option<&str>,
+        journal: Option<&NamedJournal>,
         figures: &Arc<LiveFigures>,
     ) -> Result<MetricsFile<'a, F>, MetricsFault> {
         let new = new_path(files.alloc(), path)?;
         check(files, path)?;
         check(files, new.as_str())?;
         let journal = match journal {
-            Some(path) => Some(String::from_str(files.alloc(), path)?),
+            Some(journal) => Some(journal.share()?),
             None => None,
         };
         Ok(MetricsFile {
@@ -140,11 +143,11 @@ impl<'a, F: Files + AllocGlobal> MetricsFile<'a, F> {
     pub(crate) fn named_by(
         files: &'a F,
         words: &ServeWords<'_>,
+        journal: Option<&NamedJournal>,
         figures: &Arc<LiveFigures>,
     ) -> Result<Option<MetricsFile<'a, F>>, MetricsFault> {
         match words.metrics {
             Some(path) if words.clients.len() / 2 <= MOST_CLIENTS => {
-                let journal = words.journal.map(|word| word.path());
                 let file = MetricsFile::find(files, path, journal, figures)?;
                 Ok(Some(file))
             }
@@ -152,22 +155,47 @@ impl<'a, F: Files + AllocGlobal> MetricsFile<'a, F> {
         }
     }
 
-    // How many bytes the journal has, where there is one.
-    fn journal_bytes(&self) -> Option<u64> {
-        let path = self.journal.as_ref()?;
-        let metadata = fs::metadata(self.files, path.as_str()).ok()?;
-        Some(metadata.len())
+    // The store, where there is one.
+    fn store(&self) -> Option<&ServedStore> {
+        self.journal.as_ref()?.store()
+    }
+
+    // How many bytes the journal's file has, where there is one.
+    fn file_bytes(&self) -> Option<u64> {
+        match self.journal.as_ref()? {
+            NamedJournal::File(path, _) => {
+                let metadata = fs::metadata(self.files, path.as_str()).ok()?;
+                Some(metadata.len())
+            }
+            NamedJournal::Store(_) => None,
+        }
+    }
+
+    // Writes the figures as they are now, and those of the store, where there is one.
+    fn write_figures<W: Write>(&self, out: &mut W) -> io::Result<()> {
+        let figures = self.figures.now();
+        let resident_bytes = resident(self.files);
+        let Some(store) = self.store() else {
+            let metrics = Metrics {
+                figures,
+                journal_bytes: self.file_bytes(),
+                resident_bytes,
+            };
+            return write!(out, "{metrics}");
+        };
+        let folder = StoreFigures::of(self.files, store.folder())?;
+        let metrics = Metrics {
+            figures: StoreCommits::of(store, figures).counted(figures),
+            journal_bytes: Some(folder.journal_bytes()),
+            resident_bytes,
+        };
+        write!(out, "{metrics}{folder}")
     }
 
     // Writes the figures as they are now into a file of another name, and renames it: so nobody reads a part of them.
     fn write<R: Wait>(&self, rt: &R, seconds: &NamedSeconds<'_>) -> io::Result<()> {
-        let metrics = Metrics {
-            figures: self.figures.now(),
-            journal_bytes: self.journal_bytes(),
-            resident_bytes: resident(self.files),
-        };
         let mut text = Vec::new(self.files.alloc());
-        write!(text, "{metrics}")?;
+        self.write_figures(&mut text)?;
         seconds.write_metrics(rt, &mut text)?;
         let mut file = fs::create(self.files, self.new.as_str())?;
         file.write_all(text.as_slice())?;

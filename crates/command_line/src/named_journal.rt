@@ -43,6 +43,22 @@ impl NamedJournal {
         let path = String::from_str(files.alloc(), word.path())?;
         Ok(Some(NamedJournal::File(path, start)))
     }
+
+    /// Another one that names the same.
+    pub(crate) fn share(&self) -> Result<NamedJournal, AllocError> {
+        match self {
+            NamedJournal::File(path, start) => Ok(NamedJournal::File(path.clone()?, *start)),
+            NamedJournal::Store(store) => Ok(NamedJournal::Store(Arc::try_clone(store)?)),
+        }
+    }
+
+    /// The store, where it is one.
+    pub(crate) fn store(&self) -> Option<&ServedStore> {
+        match self {
+            NamedJournal::File(_, _) => None,
+            NamedJournal::Store(store) => Some(&**store),
+        }
+    }
 }
 
 /// Looks whether the journal of this path, which is gone on with, is there: before tables are loaded and anything is

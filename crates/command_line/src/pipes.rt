@@ -1,6 +1,6 @@
 //! The pipes that a job waits for: what is told of them, and their locks.
 
-use arguments::Job;
+use arguments::{ExportedWord, Job};
 use journal_file::JournalFile;
 use serve_command::{EndPaths, MOST_CLIENTS, PipeFault, PipeLocks};
 use ssb_files::{Fault, report_table_pipes};
@@ -11,12 +11,15 @@ use std::rt::Files;
 fn loaded_folder<'a>(job: &Job<'a>) -> Option<&'a str> {
     let (folder, quiet) = match job {
         Job::Script | Job::Ship(_) | Job::Checkpoint(_) => return None,
-        Job::Query(words) => (words.data, words.quiet),
+        Job::Query(words) => (words.source.files()?.data, words.quiet),
         Job::Explain(words) => (words.data?, words.quiet),
-        Job::Run(words) => (words.data, words.quiet),
+        Job::Run(words) => (words.source.files()?.data, words.quiet),
         Job::Serve(words) => (words.data, words.quiet),
-        Job::Audit(words) => (words.data, words.quiet),
-        Job::Export(words) => (words.data, words.quiet),
+        Job::Audit(words) => (words.source.files()?.data, words.quiet),
+        Job::Export(words) => match words.exported {
+            ExportedWord::Journal(tables, _) => (tables.data, words.quiet),
+            ExportedWord::Store(_) => return None,
+        },
         Job::Changes(words) => (words.data, words.quiet),
         Job::Store(words) => (words.data, words.quiet),
     };

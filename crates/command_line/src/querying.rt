@@ -1,7 +1,10 @@
 //! `query`: one question, all, those of a board, or statements; and what a question says, explained.
 
 use crate::command::{hashing_of, screen_of};
-use arguments::{ExplainWords, FormatWord, QueryWords};
+use crate::stores::stored_source;
+use arguments::{ExplainWords, FilesWord, FormatWord, QueryWords, SourceWord};
+use base_source::BaseSource;
+use journal_file::JournalFile;
 use query_command::{
     NoStatement, QuestionWords, Settings, run_all, run_board, run_explain, run_explain_over,
     run_query, run_statements, statements_text,
@@ -60,7 +63,45 @@ pub(crate) fn statements_on<I: Read + Drop>(
     }
 }
 
-/// Answers one question, all, those of a board, or statements, over the files of a folder.
+// Answers one question, all, those of a board, or statements, over the base of a source.
+fn answer_over<R, F: Files + AllocGlobal, S: BaseSource + Drop, W: Write, E: Write>(
+    rt: &R,
+    files: &F,
+    asked: AskedWords<'_, '_>,
+    source: S,
+    out: &mut W,
+    err: &mut E,
+) -> Result<u8, Fault>
+where
+    R: Clock + RandomSource + Threads + Sync + AllocGlobal,
+{
+    let words = asked.words;
+    let board = open_board(files, words)?;
+    let settings = Settings {
+        hashing: hashing_of(rt)?,
+        times: words.times,
+        format: format_of(words.format),
+    };
+    if let Some(board) = board {
+        return Ok(run_board(rt, settings, board, source, out, err));
+    }
+    if words.all {
+        return Ok(run_all(rt, settings, source, out, err));
+    }
+    if let Some(text) = &asked.read {
+        return Ok(run_statements(rt, settings, source, text.as_str(), out, err));
+    }
+    if let Some(text) = words.sql {
+        return Ok(run_statements(rt, settings, source, text, out, err));
+    }
+    let question = QuestionWords {
+        name: words.name,
+        constants: words.constants.as_slice(),
+    };
+    Ok(run_query(rt, settings, source, question, out, err))
+}
+
+/// Answers one question, all, those of a board, or statements, over the files of a folder or over a store.
 pub(crate) fn answer_query<R, F: Files + AllocGlobal, P: Print, W: Write, E: Write>(
     rt: &R,
     files: &F,
@@ -71,38 +112,23 @@ pub(crate) fn answer_query<R, F: Files + AllocGlobal, P: Print, W: Write, E: Wri
 ) -> Result<u8, Fault>
 where
     R: Clock + RandomSource + Threads + Sync + AllocGlobal,
+    F::File: JournalFile,
 {
-    let words = asked.words;
-    let tables = open_tables(files, words.data)?;
-    let board = open_board(files, words)?;
-    let hashing = hashing_of(rt)?;
-    let screen = screen_of(rt, words.quiet, terminal);
-    let tables = TableFiles {
-        tables: watch_tables(screen.as_ref(), tables),
-        layout: words.layout,
-    };
-    let settings = Settings {
-        hashing,
-        times: words.times,
-        format: format_of(words.format),
-    };
-    if let Some(source) = board {
-        return Ok(run_board(rt, settings, source, tables, out, err));
+    match asked.words.source {
+        SourceWord::Files(FilesWord { data, layout }) => {
+            let tables = open_tables(files, data)?;
+            let screen = screen_of(rt, asked.words.quiet, terminal);
+            let source = TableFiles {
+                tables: watch_tables(screen.as_ref(), tables),
+                layout,
+            };
+            answer_over(rt, files, asked, source, out, err)
+        }
+        SourceWord::Store(store) => {
+            let source = stored_source(rt, files, store)?;
+            answer_over(rt, files, asked, source, out, err)
+        }
     }
-    if words.all {
-        return Ok(run_all(rt, settings, tables, out, err));
-    }
-    if let Some(text) = &asked.read {
-        return Ok(run_statements(rt, settings, tables, text.as_str(), out, err));
-    }
-    if let Some(text) = words.sql {
-        return Ok(run_statements(rt, settings, tables, text, out, err));
-    }
-    let question = QuestionWords {
-        name: words.name,
-        constants: words.constants.as_slice(),
-    };
-    Ok(run_query(rt, settings, tables, question, out, err))
 }
 
 /// Explains one question; over the files of a folder where the words name one.

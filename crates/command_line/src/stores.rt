@@ -4,13 +4,14 @@ ghost use Rattle.std.specs.Thread.{IsSend};
 
 use crate::command::{hashing_of, screen_of, serve_live};
 use crate::end_bell::EndBell;
-use crate::histories::{Exported, export_opened};
 use crate::streams::Streams;
-use arguments::{CheckpointWords, ExportWords, ServeWords, StoreWord, StoreWords};
+use arguments::{CheckpointWords, ExportWords, ServeWords, StoreWord, StoreWords, StoredWord};
 use journal_file::JournalFile;
 use serve_command::Past;
 use ssb_files::JobFault::Found;
-use ssb_files::{Fault, TableBytes, count_tables, open_tables, watch_tables};
+use ssb_files::{
+    Fault, PathUse, TableBytes, UsedPath, count_tables, find_tables, open_tables, watch_tables,
+};
 use ssb_text::{TableFiles, TableLayout};
 use std::alloc::{AllocError, Global};
 use std::hash::RandomState;
@@ -21,9 +22,13 @@ use std::sync::{Arc, Wait};
 use std::thread::Threads;
 use std::time::{Clock, Duration};
 use std::{io, thread};
-use store_command::{StoreJobFault, StoreRefusal, run_checkpoint, run_store};
+use store_command::{
+    CheckpointPlace, StoreExport, StoreJobFault, StoreRefusal, StoreSource, run_checkpoint,
+    run_store, run_store_export,
+};
 use store_folder::{
-    FoundStore, SegmentTurns, StoreFault, StorePlace, StoreUse, find_store, sizes_path, tables_path,
+    FoundStore, SegmentTurns, StoreFault, StorePlace, StoreUse, checkpoint_lock_path, find_store,
+    list_store, lock_path, segment_path, sizes_path, tables_path,
 };
 
 // How often it is looked whether a segment could not be made, in seconds.
@@ -61,7 +66,17 @@ impl ServedStore {
         })
     }
 
-    /// How many commits of the store came before those behind its newest tables.
+    /// Its folder.
+    pub(crate) fn folder(&self) -> &str {
+        self.folder.as_str()
+    }
+
+    /// After how many commits of the store its newest tables were, as it was found.
+    pub(crate) fn after(&self) -> u64 {
+        self.found.after()
+    }
+
+    /// The same, as a session counts them.
     pub(crate) fn past(&self) -> Past {
         self.past
     }
@@ -111,15 +126,69 @@ fn refused(fault: StoreFault) -> StoreJobFault {
     Found(StoreRefusal::Store(fault))
 }
 
-// The store in this folder.
-fn find<F: Files>(files: &F, alloc: Global, folder: &str) -> Result<FoundStore, StoreJobFault>
+// The store in this folder: its newest tables, or the newest that are after at most so many commits.
+fn find<F: Files>(
+    files: &F,
+    alloc: Global,
+    folder: &str,
+    at: Option<u64>,
+) -> Result<FoundStore, StoreJobFault>
 where
     F::File: JournalFile,
 {
-    match find_store(files, alloc, folder) {
+    match find_store(files, alloc, folder, at) {
         Ok(found) => Ok(found),
         Err(fault) => Err(refused(fault)),
     }
+}
+
+/// The tables of a store that is read.
+pub(crate) fn stored_source<'a, R: RandomSource, F: Files>(
+    rt: &R,
+    files: &'a F,
+    word: StoredWord<'a>,
+) -> Result<StoreSource<'a, F>, Fault> {
+    Ok(StoreSource {
+        files,
+        folder: word.folder,
+        hashing: hashing_of(rt)?,
+        at: word.at,
+    })
+}
+
+// Puts a path to those that a command reads.
+fn push_read<F: Files + AllocGlobal>(
+    files: &F,
+    path: &str,
+    paths: &mut Vec<UsedPath>,
+) -> Result<(), Fault> {
+    paths.push(UsedPath::find(files, path, PathUse::Read)?)?;
+    Ok(())
+}
+
+/// Puts the files of a store to those that a command reads. One that cannot be listed has none.
+pub(crate) fn push_store<F: Files + AllocGlobal>(
+    files: &F,
+    folder: &str,
+    paths: &mut Vec<UsedPath>,
+) -> Result<(), Fault> {
+    let alloc = files.alloc();
+    let Ok(numbers) = list_store(files, alloc, folder) else {
+        return Ok(());
+    };
+    push_read(files, lock_path(alloc, folder)?.as_str(), paths)?;
+    push_read(files, checkpoint_lock_path(alloc, folder)?.as_str(), paths)?;
+    for after in &numbers.segments {
+        push_read(files, segment_path(alloc, folder, *after)?.as_str(), paths)?;
+    }
+    for after in &numbers.tables {
+        push_read(files, sizes_path(alloc, folder, *after)?.as_str(), paths)?;
+        let tables = tables_path(alloc, folder, *after)?;
+        for path in find_tables(files, tables.as_str())? {
+            paths.push(path)?;
+        }
+    }
+    Ok(())
 }
 
 /// Makes a store of the files of a folder.
@@ -158,15 +227,21 @@ where
     F::File: JournalFile,
 {
     let hashing: RandomState = hashing_of(rt)?;
-    Ok(run_checkpoint(rt, hashing, files, words.folder, !words.quiet, err))
+    let place = CheckpointPlace {
+        files,
+        folder: words.folder,
+        keep_from: words.keep_from,
+        tells: !words.quiet,
+    };
+    Ok(run_checkpoint(rt, hashing, &place, err))
 }
 
-/// Exports the tables of a store after all of its commits.
+/// Exports the tables of a store after all of its commits, or the first of them.
 pub(crate) fn export_store<R, F: Files + AllocGlobal, P: Print, E: Write>(
     rt: &R,
     files: &F,
     words: &ExportWords<'_>,
-    folder: &str,
+    store: StoredWord<'_>,
     terminal: Option<&P>,
     err: &mut E,
 ) -> Result<u8, Fault>
@@ -174,19 +249,30 @@ where
     R: Clock + RandomSource + Threads + Sync + AllocGlobal,
     F::File: JournalFile,
 {
-    let found = match find(files, files.alloc(), folder) {
+    let found = match find(files, files.alloc(), store.folder, store.at) {
         Ok(found) => found,
         Err(fault) => return Ok(fault.tell(err)),
     };
-    let data = tables_path(files.alloc(), folder, found.after())?;
+    let data = tables_path(files.alloc(), store.folder, found.after())?;
     let tables = open_tables(files, data.as_str())?;
-    let journal = StorePlace::new(files, files.alloc(), folder, &found, StoreUse::Reading)?;
-    let exported = Exported {
-        tables,
+    let hashing = hashing_of(rt)?;
+    let screen = screen_of(rt, words.quiet, terminal);
+    let tables = watch_tables(screen.as_ref(), tables);
+    let bytes = TableBytes::new();
+    let tables = TableFiles {
+        tables: count_tables(&bytes, tables),
         layout: TableLayout::benchmark(),
-        journal: &journal,
     };
-    export_opened(rt, files, words, exported, terminal, err)
+    let place = StoreExport {
+        files,
+        store: store.folder,
+        found: &found,
+        at: store.at,
+        folder: words.folder,
+        bytes: &bytes,
+        tells: !words.quiet,
+    };
+    Ok(run_store_export(rt, hashing, tables, &place, err))
 }
 
 // The store of a server.
@@ -198,7 +284,7 @@ fn found_store<F: Files>(
 where
     F::File: JournalFile,
 {
-    let found = find(files, alloc, store.folder)?;
+    let found = find(files, alloc, store.folder, None)?;
     ServedStore::of(alloc, store, found)
 }
 

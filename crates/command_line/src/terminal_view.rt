@@ -2,6 +2,8 @@
 
 use crate::memory::resident;
 use crate::seconds_view::NamedSeconds;
+use crate::store_figures::StoreCommits;
+use crate::stores::ServedStore;
 use arguments::{HintsWord, REFRESH_HELP, STAR_HELP, TERMINAL_HELP};
 use serve_command::ServeSettings;
 use server_figures::{LiveFigures, ServerStatus};
@@ -21,22 +23,22 @@ pub(crate) struct TerminalView<'a, 't, R, F: Files> {
     figures: Arc<LiveFigures>,
     // How many questions stand.
     standing: u64,
-    // The tables' files; none where they are built in.
-    tables: Option<NamedTables<'t>>,
-    // The second servers, where there are some.
-    seconds: Option<NamedSeconds<'t>>,
+    /// The tables' files; none where they are built in.
+    pub(crate) tables: Option<NamedTables<'t>>,
+    /// The second servers, where there are some.
+    pub(crate) seconds: Option<NamedSeconds<'t>>,
+    /// The store, where there is one.
+    pub(crate) store: Option<Arc<ServedStore>>,
     /// What the words say of help below a fault.
     pub(crate) hints: HintsWord,
 }
 
 impl<'a, 't, R, F: Files> TerminalView<'a, 't, R, F> {
-    /// That of a server which is served so.
+    /// That of a server which is served so, over built-in tables.
     pub(crate) fn of(
         rt: &'a R,
         files: &'a F,
         settings: &ServeSettings,
-        tables: Option<NamedTables<'t>>,
-        seconds: Option<NamedSeconds<'t>>,
         hints: HintsWord,
     ) -> Result<TerminalView<'a, 't, R, F>, AllocError> {
         Ok(TerminalView {
@@ -44,8 +46,9 @@ impl<'a, 't, R, F: Files> TerminalView<'a, 't, R, F> {
             files,
             figures: Arc::try_clone(&settings.figures)?,
             standing: settings.standing.len() as u64,
-            tables,
-            seconds,
+            tables: None,
+            seconds: None,
+            store: None,
             hints,
         })
     }
@@ -71,13 +74,24 @@ impl<'a, 't, R: Wait, F: Files + AllocGlobal> ShowsOnDemand for TerminalView<'a,
     }
 
     fn show_status<E: Write>(&self, since_reply: Option<Duration>, screen: &mut E) {
+        let figures = self.figures.now();
+        let commits = match &self.store {
+            Some(store) => Some(StoreCommits::of(&**store, figures)),
+            None => None,
+        };
         let status = ServerStatus {
-            figures: self.figures.now(),
+            figures: match commits {
+                Some(commits) => commits.counted(figures),
+                None => figures,
+            },
             standing: self.standing,
             resident_bytes: resident(self.files),
             since_reply: since_reply.map(|time| time.as_secs()),
         };
         let _ = write!(screen, "{status}");
+        if let Some(commits) = commits {
+            let _ = write!(screen, "{commits}");
+        }
         if let Some(seconds) = &self.seconds {
             seconds.write_status(self.rt, screen);
         }
