@@ -311,6 +311,7 @@ impl ListsFaults for StoreFault {
         match self {
             StoreFault::NoStore => Some(StoreFault::Gap(3)),
             StoreFault::Gap(_)
+            | StoreFault::NoSuchCommit(_)
             | StoreFault::Damaged(_)
             | StoreFault::CannotRead(_)
             | StoreFault::OutOfMemory => None,

@@ -295,7 +295,8 @@ impl ListsFaults for JournalHelp<'static> {
     fn next(&self) -> Option<JournalHelp<'static>> {
         Some(match self {
             JournalHelp::NoJournal => JournalHelp::FewerCommits("answers"),
-            JournalHelp::FewerCommits(path) => JournalHelp::NewerForm(path, "3"),
+            JournalHelp::FewerCommits(path) => JournalHelp::Segment(path),
+            JournalHelp::Segment(path) => JournalHelp::NewerForm(path, "3"),
             JournalHelp::NewerForm(path, _) => JournalHelp::NotAJournal(path),
             JournalHelp::NotAJournal(path) => JournalHelp::OtherTables(path, "customer"),
             JournalHelp::OtherTables(path, _) => JournalHelp::Refused(path),
@@ -337,7 +338,8 @@ impl ListsFaults for StoreHelp<'static> {
             StoreHelp::NothingBefore(path) => StoreHelp::Damaged(path),
             StoreHelp::Damaged(_) => StoreHelp::InCheckpoint("tables"),
             StoreHelp::InCheckpoint(folder) => StoreHelp::InUse(folder),
-            StoreHelp::InUse(folder) => StoreHelp::OtherTables(folder),
+            StoreHelp::InUse(folder) => StoreHelp::NoSuchCommit(folder),
+            StoreHelp::NoSuchCommit(folder) => StoreHelp::OtherTables(folder),
             StoreHelp::OtherTables(folder) => StoreHelp::Refused(folder),
             StoreHelp::Refused(folder) => StoreHelp::DamagedGroup(folder),
             StoreHelp::DamagedGroup(_) => return None,

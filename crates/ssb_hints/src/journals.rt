@@ -15,6 +15,8 @@ pub enum JournalHelp<'a> {
     NoJournal,
     /// It has fewer commits than those behind which others are asked for.
     FewerCommits(&'a str),
+    /// It is a segment of a store.
+    Segment(&'a str),
     /// It has this form, which is not known yet.
     NewerForm(&'a str, &'a str),
     /// It is another file.
@@ -44,6 +46,10 @@ impl<'a> fmt::Display for JournalHelp<'a> {
                 f,
                 "{path} has fewer commits; look whether it is the journal whose first ones you have, and no older copy of \
                  it"
+            ),
+            JournalHelp::Segment(path) => write!(
+                f,
+                "{path} is a segment of a store, and no journal; name the folder of the store with --store"
             ),
             JournalHelp::NewerForm(path, form) => write!(
                 f,
@@ -127,6 +133,8 @@ pub fn help_with_journal<F: Files, E: Write>(
     match words {
         ["65", ..] => help_with_no_journal(files, path, err),
         ["69", ..] => write_line(err, &JournalHelp::FewerCommits(path)),
+        // The form of the segments of a store.
+        ["66", _, "3"] => write_line(err, &JournalHelp::Segment(path)),
         ["66", _, form] => write_line(err, &JournalHelp::NewerForm(path, form)),
         ["90", ..] => write_line(err, &JournalHelp::NotAJournal(path)),
         ["91", _, table] => write_line(err, &JournalHelp::OtherTables(path, table)),

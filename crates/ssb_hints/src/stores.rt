@@ -24,6 +24,8 @@ pub enum StoreHelp<'a> {
     InCheckpoint(&'a str),
     /// A server has the store.
     InUse(&'a str),
+    /// The store has no tables after so many commits.
+    NoSuchCommit(&'a str),
     /// The newest tables are others.
     OtherTables(&'a str),
     /// The newest tables refuse the commits behind them.
@@ -64,6 +66,11 @@ impl<'a> fmt::Display for StoreHelp<'a> {
             StoreHelp::InUse(folder) => write!(
                 f,
                 "{folder} is open in another server; end that one, or name another store"
+            ),
+            StoreHelp::NoSuchCommit(folder) => write!(
+                f,
+                "{folder} has not so many commits on the disk, or a checkpoint has deleted what its tables after so \
+                 many are read from; checkpoint --keep-from keeps that"
             ),
             StoreHelp::OtherTables(folder) => write!(
                 f,
@@ -129,6 +136,9 @@ pub fn help_with_store<F: Files, E: Write>(
     }
     if let Some(number) = told.strip_prefix("88 Gap ") {
         return help_with_gap(files, folder, number, err);
+    }
+    if told.starts_with("69 ") {
+        return write_line(err, &StoreHelp::NoSuchCommit(folder));
     }
     match told {
         "87 NoStore" => help_with_no_store(files, folder, err),
