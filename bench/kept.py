@@ -1,4 +1,4 @@
-"""What a run of `serve --journal` or of `export` leaves in files, for `failures`: what is wrong with it, by
+"""What a run of `serve --journal`, `export` or `checkpoint` leaves in files, for `failures`: what is wrong with it, by
 docs/FORMATS.md."""
 import re
 import shutil
@@ -92,6 +92,40 @@ class KeptJournal:
             return "the next start leaves another journal"
         beside = contents(self.beside)
         return None if beside.endswith(torn) and self.torn in beside else "what was cut off is not kept"
+
+
+class KeptStore:
+    """The store of a checkpoint, or of a report that changes nothing. Each run begins with a copy of `saved`."""
+
+    ASKED = ["star", "LO_REVENUE", "D_YEAR", "C_NATION"]
+
+    def __init__(self, folder, saved, changes):
+        self.folder, self.saved, self.changes = folder, saved, changes
+        self.answer = self.asked(saved)
+
+    def files(self):
+        return []
+
+    def clear(self):
+        shutil.rmtree(self.folder, ignore_errors=True)
+        shutil.copytree(self.saved, self.folder)
+
+    def asked(self, folder):
+        ended = subprocess.run([LIVE, "query", "--store", folder, *self.ASKED], capture_output=True, text=True,
+                               timeout=PATIENCE)
+        return ended.returncode, ended.stdout, ended.stderr
+
+    @staticmethod
+    def contents(folder):
+        return {file.relative_to(folder): file.read_bytes() for file in folder.rglob("*") if file.is_file()}
+
+    def wrong(self, ended):
+        """What is wrong with it behind a run that ended so: it has to answer as before."""
+        if self.asked(self.folder) != self.answer:
+            return "the store has another answer"
+        if not self.changes and self.contents(self.folder) != self.contents(self.saved):
+            return "a report has changed the store"
+        return None
 
 
 class KeptFolder:
