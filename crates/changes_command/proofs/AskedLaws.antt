@@ -104,13 +104,11 @@ text_of_next start before lines front commit =
     ∙ asked_text start (changes_behind before lines front) own
 
 -- the text of what more commits change comes behind that of others
-pub text_behind : (start : ChangesStart) (base : Tables) (history more : List CommitRecord)
-    → changes_text (asked_of start (changes_behind 0 base.lines (history ++ more)))
-    ≡ changes_text (asked_of start (changes_behind 0 base.lines history))
-    ++ changes_text (asked_of start (changes_behind (length history) (lines_after base history) more))
-text_behind start base history more =
-    let same : 0 + length history ≡ length history = omega arith in
-    ap (λ l. changes_text (asked_of start l)) (behind_both 0 base.lines history more
-    ∙ ap (λ n. changes_behind 0 base.lines history ++ changes_behind n (lines_after base history) more) same)
-    ∙ asked_text start (changes_behind 0 base.lines history)
-    (changes_behind (length history) (lines_after base history) more)
+pub text_behind : (start : ChangesStart) (past : ℕ) (base : Tables) (history more : List CommitRecord)
+    → changes_text (asked_of start (changes_behind past base.lines (history ++ more)))
+    ≡ changes_text (asked_of start (changes_behind past base.lines history))
+    ++ changes_text (asked_of start (changes_behind (past + length history) (lines_after base history) more))
+text_behind start past base history more =
+    ap (λ l. changes_text (asked_of start l)) (behind_both past base.lines history more)
+    ∙ asked_text start (changes_behind past base.lines history)
+    (changes_behind (past + length history) (lines_after base history) more)

@@ -1,5 +1,5 @@
 -- What the faults of reading a journal's file tell.
-use Rattle.std.proofs.Common.{◌≡◌, ◌<◌, ℕ, zero, suc, List, [], ◌∷◌, ◌++◌, length, take, Option, ap, subst, refl}
+use Rattle.std.proofs.Common.{◌≡◌, ◌<◌, ◌+◌, ℕ, zero, suc, List, [], ◌∷◌, ◌++◌, length, take, Option, ap, subst, refl}
 use Rattle.std.proofs.Common.{sym, arith, slice_get, inl, inr}
 use Rattle.std.specs.Prelude.{IfSome, None, Some}
 use Rattle.journal.specs.Disk.{BeginsAsRead}
@@ -25,19 +25,19 @@ use Rattle.ssb_journal.specs.declared.kept.KeptCommits.{KeptCommits}
 use Rattle.ssb_journal.specs.declared.replaying.ReplayFault.{ReplayFault}
 use Rattle.ssb_journal.specs.declared.replaying.ReplayFault.TheVariants as replay
 use Rattle.ssb_schema.specs.declared.table.Table.{Table}
-use Rattle.changes_command.specs.Written.{IsCommitsFault, IsFileRefusal, IsTooFar, TellsChangesFault, TellsFileFault}
-use Rattle.changes_command.specs.Written.{TellsOverTexts}
+use Rattle.changes_command.specs.Written.{IsCommitsFault, IsFileRefusal, IsTooEarly, IsTooFar, TellsChangesFault}
+use Rattle.changes_command.specs.Written.{TellsFileFault, TellsOverTexts}
 use Rattle.changes_command.specs.declared.fault.ChangesRefusal.{ChangesRefusal}
 use Rattle.changes_command.specs.declared.fault.ChangesRefusal.TheVariants as refusal
 use Rattle.changes_command.specs.declared.signed.ChangesStart.{ChangesStart}
 
 -- a file that is refused as it is read, or whose commits are
 pub refused_reading : (base : Tables) (marks : List TableMark) (known now : Option (List ℕ)) (taken : List ℕ)
-    (Ended : Type 0) (start : ChangesStart) (why : JobFault ChangesRefusal) → now ≡ known
+    (Ended : Type 0) (past : ℕ) (start : ChangesStart) (why : JobFault ChangesRefusal) → now ≡ known
     → IfSome now (BeginsAsRead taken Ended)
-    → ((file : List ℕ) → BeginsAsRead taken Ended file → TellsFileFault base marks file start why)
-    → IsFileRefusal base marks known start why
-refused_reading base marks known now taken Ended start why same as_known tells =
+    → ((file : List ℕ) → BeginsAsRead taken Ended file → TellsFileFault base marks file past start why)
+    → IsFileRefusal base marks known past start why
+refused_reading base marks known now taken Ended past start why same as_known tells =
     let read = file_read now taken Ended as_known in
     record {
       file = read.file;
@@ -45,23 +45,42 @@ refused_reading base marks known now taken Ended start why same as_known tells =
       told = tells read.file read.begins;
     }
 
+-- what is told of any file is told of the known one, where one is known
+of_any : (base : Tables) (marks : List TableMark) (known : Option (List ℕ)) (past : ℕ) (start : ChangesStart)
+    (why : JobFault ChangesRefusal) → ((file : List ℕ) → TellsFileFault base marks file past start why)
+    → IsFileRefusal base marks known past start why
+of_any base marks None past start why tells = record { file = []; is_file = tt; told = tells [] }
+of_any base marks (Some file) past start why tells = record { file = file; is_file = refl; told = tells file }
+
 -- that a call failed, or memory ran out, tells nothing of a file
-pub call_failed : (base : Tables) (marks : List TableMark) (known : Option (List ℕ)) (start : ChangesStart) (why : Fault)
-    → status_of why ≡ 4 → IsFileRefusal base marks known start (job.Program why)
-call_failed base marks None start why four = record { file = []; is_file = tt; told = four }
-call_failed base marks (Some file) start why four = record { file = file; is_file = refl; told = four }
+pub call_failed : (base : Tables) (marks : List TableMark) (known : Option (List ℕ)) (past : ℕ) (start : ChangesStart)
+    (why : Fault) → status_of why ≡ 4 → IsFileRefusal base marks known past start (job.Program why)
+call_failed base marks known past start why four = of_any base marks known past start (job.Program why) (λ file. four)
+
+-- nor does a commit that came before the file's
+tells_early : (base : Tables) (marks : List TableMark) (past : ℕ) (start : ChangesStart) (why : JobFault ChangesRefusal)
+    → IsTooEarly past start why → (file : List ℕ) → TellsFileFault base marks file past start why
+tells_early base marks past start (job.Program why) is file = absurd is
+tells_early base marks past start (job.Found (refusal.Journal why)) is file = absurd is
+tells_early base marks past start (job.Found (refusal.Commit why)) is file = (is.0, inl is.1)
+
+pub too_early : (base : Tables) (marks : List TableMark) (known : Option (List ℕ)) (past : ℕ) (start : ChangesStart)
+    (why : JobFault ChangesRefusal) → IsTooEarly past start why → IsFileRefusal base marks known past start why
+too_early base marks known past start why is =
+    of_any base marks known past start why (tells_early base marks past start why is)
 
 -- the fault of commits that a file begins with
-pub of_commits : (base : Tables) (marks : List TableMark) (file : List ℕ) (start : ChangesStart)
+pub of_commits : (base : Tables) (marks : List TableMark) (file : List ℕ) (past : ℕ) (start : ChangesStart)
     (commits : List CommitRecord) (why : JobFault ChangesRefusal) → BeginsWithCommits marks commits file
-    → IsCommitsFault base commits why → TellsFileFault base marks file start why
-of_commits base marks file start commits (job.Program why) begins is = is
-of_commits base marks file start commits (job.Found (refusal.Journal (opening.Replay why))) begins is =
+    → IsCommitsFault base commits why → TellsFileFault base marks file past start why
+of_commits base marks file past start commits (job.Program why) begins is = is
+of_commits base marks file past start commits (job.Found (refusal.Journal (opening.Replay why))) begins is =
     (commits, begins, is)
-of_commits base marks file start commits (job.Found (refusal.Journal (opening.Kept why))) begins is = absurd is
-of_commits base marks file start commits (job.Found (refusal.Journal (opening.File why))) begins is = absurd is
-of_commits base marks file start commits (job.Found (refusal.Journal (opening.HasBytes path))) begins is = absurd is
-of_commits base marks file start commits (job.Found (refusal.Commit why)) begins is = absurd is
+of_commits base marks file past start commits (job.Found (refusal.Journal (opening.Kept why))) begins is = absurd is
+of_commits base marks file past start commits (job.Found (refusal.Journal (opening.File why))) begins is = absurd is
+of_commits base marks file past start commits (job.Found (refusal.Journal (opening.HasBytes path))) begins is =
+    absurd is
+of_commits base marks file past start commits (job.Found (refusal.Commit why)) begins is = absurd is
 
 -- the first commit of some that is refused is the first of more
 there_of_more : {X : Type 0} (xs more : List X) (i : ℕ) (x : X) → slice_get xs i ≡ Some x
@@ -89,13 +108,13 @@ refused_of_more base commits more (replay.Refused number action cause) is =
     }
 
 -- commits that are fewer than come before those that are asked for
-pub of_count : (base : Tables) (marks : List TableMark) (file : List ℕ) (start : ChangesStart)
-    (commits : List CommitRecord) (count : ℕ) (why : JobFault ChangesRefusal) → HasCommits marks commits file
-    → count ≡ length commits → IsTooFar start count why → TellsFileFault base marks file start why
-of_count base marks file start commits count (job.Program why) has many is = absurd is
-of_count base marks file start commits count (job.Found (refusal.Journal why)) has many is = absurd is
-of_count base marks file start commits count (job.Found (refusal.Commit why)) has many is =
-    (is.0, (commits, has, subst (λ n. n < why.number) many is.1))
+pub of_count : (base : Tables) (marks : List TableMark) (file : List ℕ) (past : ℕ) (start : ChangesStart)
+    (commits : List CommitRecord) (after : ℕ) (why : JobFault ChangesRefusal) → HasCommits marks commits file
+    → after ≡ past + length commits → IsTooFar start after why → TellsFileFault base marks file past start why
+of_count base marks file past start commits after (job.Program why) has many is = absurd is
+of_count base marks file past start commits after (job.Found (refusal.Journal why)) has many is = absurd is
+of_count base marks file past start commits after (job.Found (refusal.Commit why)) has many is =
+    (is.0, inr (commits, has, subst (λ n. n < why.number) many is.1))
 
 -- the commits that a file has, which was read to its end
 pub has_kept : (marks : List TableMark) (file : List ℕ) (kept : KeptCommits) → IsKept marks (recovered file) kept
@@ -105,36 +124,36 @@ has_kept marks file kept (inr is) = grind arith
 
 -- what a fault of reading tells of the texts
 over_texts : (texts : Table → List ℕ) (known : Option (List ℕ)) (base held : Tables) (marks : List TableMark)
-    (start : ChangesStart) (why : JobFault ChangesRefusal) → IsLoadedToServe texts base → AreMarks base marks
-    → HaveChecksums texts marks → held ≡ base → IsFileRefusal held marks known start why
-    → TellsOverTexts texts known start why
-over_texts texts known base held marks start why loaded marked checked same is = record {
+    (past : ℕ) (start : ChangesStart) (why : JobFault ChangesRefusal) → IsLoadedToServe texts base
+    → AreMarks base marks → HaveChecksums texts marks → held ≡ base → IsFileRefusal held marks known past start why
+    → TellsOverTexts texts known past start why
+over_texts texts known base held marks past start why loaded marked checked same is = record {
   base = base;
   loaded = loaded;
   marks = marks;
   marked = marked;
   checked = checked;
-  refused = subst (λ (b : Tables). IsFileRefusal b marks known start why) same is;
+  refused = subst (λ (b : Tables). IsFileRefusal b marks known past start why) same is;
 }
 
 pub read_fault_tells : (texts : Table → List ℕ) (known : Option (List ℕ)) (Taken Missing : Type 0) (base held : Tables)
-    (marks : List TableMark) (start : ChangesStart) (why : JobFault ChangesRefusal) → IsLoadedToServe texts base
-    → AreMarks base marks → HaveChecksums texts marks → held ≡ base → IsFileRefusal held marks known start why
-    → TellsChangesFault texts known Taken Missing start why
-read_fault_tells texts known Taken Missing base held marks start (job.Program why) loaded marked checked same is =
+    (marks : List TableMark) (past : ℕ) (start : ChangesStart) (why : JobFault ChangesRefusal)
+    → IsLoadedToServe texts base → AreMarks base marks → HaveChecksums texts marks → held ≡ base
+    → IsFileRefusal held marks known past start why → TellsChangesFault texts known Taken Missing past start why
+read_fault_tells texts known Taken Missing base held marks past start (job.Program why) loaded marked checked same is =
     λ one. absurd (omega (arith, is.told, one))
-read_fault_tells texts known Taken Missing base held marks start (job.Found (refusal.Journal (opening.File why)))
+read_fault_tells texts known Taken Missing base held marks past start (job.Found (refusal.Journal (opening.File why)))
     loaded marked checked same is = absurd is.told
-read_fault_tells texts known Taken Missing base held marks start (job.Found (refusal.Journal (opening.HasBytes path)))
-    loaded marked checked same is = absurd is.told
-read_fault_tells texts known Taken Missing base held marks start (job.Found (refusal.Journal (opening.Kept why)))
+read_fault_tells texts known Taken Missing base held marks past start
+    (job.Found (refusal.Journal (opening.HasBytes path))) loaded marked checked same is = absurd is.told
+read_fault_tells texts known Taken Missing base held marks past start (job.Found (refusal.Journal (opening.Kept why)))
     loaded marked checked same is =
-    over_texts texts known base held marks start (job.Found (refusal.Journal (opening.Kept why))) loaded marked checked
-    same is
-read_fault_tells texts known Taken Missing base held marks start (job.Found (refusal.Journal (opening.Replay why)))
-    loaded marked checked same is =
-    over_texts texts known base held marks start (job.Found (refusal.Journal (opening.Replay why))) loaded marked
+    over_texts texts known base held marks past start (job.Found (refusal.Journal (opening.Kept why))) loaded marked
     checked same is
-read_fault_tells texts known Taken Missing base held marks start (job.Found (refusal.Commit why)) loaded marked checked
-    same is =
-    over_texts texts known base held marks start (job.Found (refusal.Commit why)) loaded marked checked same is
+read_fault_tells texts known Taken Missing base held marks past start (job.Found (refusal.Journal (opening.Replay why)))
+    loaded marked checked same is =
+    over_texts texts known base held marks past start (job.Found (refusal.Journal (opening.Replay why))) loaded marked
+    checked same is
+read_fault_tells texts known Taken Missing base held marks past start (job.Found (refusal.Commit why)) loaded marked
+    checked same is =
+    over_texts texts known base held marks past start (job.Found (refusal.Commit why)) loaded marked checked same is

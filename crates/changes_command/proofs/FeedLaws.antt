@@ -17,9 +17,9 @@ use Rattle.changes_command.specs.declared.signed.ChangesStart.{ChangesStart}
 -- what is told of a file is told of a stream
 pub as_of_file : (base : Tables) (marks : List TableMark) (known : Option (List ℕ)) (start : ChangesStart)
     (why : JobFault ChangesRefusal) (told : JobFault FeedRefusal)
-    → ((b : Tables) (m : List TableMark) (stream : List ℕ) (s : ChangesStart) → TellsFileFault b m stream s why
+    → ((b : Tables) (m : List TableMark) (stream : List ℕ) (s : ChangesStart) → TellsFileFault b m stream 0 s why
     → TellsStreamFault b m stream s told)
-    → IsFileRefusal base marks known start why → IsFeedRefusal base marks known start told
+    → IsFileRefusal base marks known 0 start why → IsFeedRefusal base marks known start told
 as_of_file base marks known start why told same is = record {
   stream = is.file;
   is_stream = is.is_file;
@@ -30,7 +30,7 @@ as_of_file base marks known start why told same is = record {
 pub feeds_of : (texts : Table → List ℕ) (known held_known : Option (List ℕ)) (base held : Tables) (marks : List TableMark)
     (stream : List ℕ) (start : ChangesStart) (old new : Option (List ℕ)) → IsLoadedToServe texts base → AreMarks base marks
     → HaveChecksums texts marks → held_known ≡ known → IsKnown held_known stream → held ≡ base → EndsWhole stream
-    → IsWritten held marks stream start old new → Feeds texts known start old new
+    → IsWritten held marks stream 0 start old new → Feeds texts known start old new
 feeds_of texts known held_known base held marks stream start old new loaded marked checked whose is_stream same whole
     written = record {
       base = base;
@@ -42,7 +42,7 @@ feeds_of texts known held_known base held marks stream start old new loaded mark
         stream = stream;
         is_stream = subst (λ (k : Option (List ℕ)). IsKnown k stream) whose is_stream;
         whole = whole;
-        is = subst (λ (t : Tables). IsWritten t marks stream start old new) same written;
+        is = subst (λ (t : Tables). IsWritten t marks stream 0 start old new) same written;
       };
     }
 

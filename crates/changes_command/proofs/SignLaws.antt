@@ -183,16 +183,14 @@ after_commits before (suc more) holds lines (commit ∷ later) =
     omega (arith, rest, here, came, went)
 
 pub signs_add_up : SignsAddUp
-signs_add_up base history count holds =
-    let later = after_commits 0 count holds base.lines history in
-    let commits = changes_behind 0 base.lines history in
-    let sum : (p : SignedLine → Bool) → count_by p (signed_lines base history)
-    ≡ count_by p (signed 0 Came base.lines) + count_by p commits = λ p. count_both p (signed 0 Came base.lines) commits in
-    let loaded = came_within count 0 holds base.lines (omega arith) in
-    let none = went_of_came count 0 holds base.lines in
-    let same : 0 + count ≡ count = omega arith in
-    let after : count_by (came_by count holds) commits + count_by holds base.lines
-    ≡ count_by (went_by count holds) commits + count_by holds (lines_after base (take count history))
-    = subst (λ n. count_by (came_by n holds) commits + count_by holds base.lines ≡ count_by (went_by n holds) commits
-    + count_by holds (lines_after base (take count history))) same later in
-    omega (arith, after, sum (came_by count holds), sum (went_by count holds), loaded, none)
+signs_add_up past base history count holds =
+    let commits = changes_behind past base.lines history in
+    let sum : (p : SignedLine → Bool) → count_by p (signed_lines past base history)
+    ≡ count_by p (signed past Came base.lines) + count_by p commits
+    = λ p. count_both p (signed past Came base.lines) commits in
+    let loaded = came_within (past + count) past holds base.lines (omega arith) in
+    let none = went_of_came (past + count) past holds base.lines in
+    let after : count_by (came_by (past + count) holds) commits + count_by holds base.lines
+    ≡ count_by (went_by (past + count) holds) commits + count_by holds (lines_after base (take count history))
+    = after_commits past count holds base.lines history in
+    omega (arith, after, sum (came_by (past + count) holds), sum (went_by (past + count) holds), loaded, none)

@@ -35,11 +35,12 @@ abbrev pub IsNoFeed : List TableMark → List ℕ → Type 0
 IsNoFeed marks stream =
     TellsOpenFault marks stream (Journal NotAJournal) ⊎ TellsOpenFault marks stream (Journal (Damaged 1))
 
--- what is told of a stream over tables: what is told of a journal's file, or that it is no feed, or was cut off
+-- what is told of a stream over tables: what is told of a journal's file, before whose commits none came, or that it is
+-- no feed, or was cut off
 abbrev pub TellsStreamFault : Tables → List TableMark → List ℕ → ChangesStart → JobFault FeedRefusal → Type 0
 TellsStreamFault base marks stream start (job.Program why) = status_of why ≡ 4
 TellsStreamFault base marks stream start (job.Found (feed.Changes why)) =
-    TellsFileFault base marks stream start (job.Found why)
+    TellsFileFault base marks stream 0 start (job.Found why)
 TellsStreamFault base marks stream start (job.Found (feed.Feed NotAFeed)) = IsNoFeed marks stream
 TellsStreamFault base marks stream start (job.Found (feed.Feed FeedEnded)) = IsCutOff marks stream
 
@@ -50,14 +51,14 @@ pub record IsFeedRefusal (base : Tables) (marks : List TableMark) (known : Optio
   pub is_stream : IsKnown known stream
   pub told : TellsStreamFault base marks stream start why
 
--- what is asked for of the signed lines of a stream was written, all of it; the stream is the known one, where one is
--- known
+-- what is asked for of the signed lines of a stream was written, all of it, where no commits came before; the stream is
+-- the known one, where one is known
 pub record IsFed (base : Tables) (marks : List TableMark) (known : Option (List ℕ)) (start : ChangesStart)
     (old new : Option (List ℕ)) : Type 0 where
   pub stream : List ℕ
   pub is_stream : IsKnown known stream
   pub whole : EndsWhole stream
-  pub is : IsWritten base marks stream start old new
+  pub is : IsWritten base marks stream 0 start old new
 
 -- the five texts spell a base, and this holds over it and the marks of its tables
 pub record OverTexts (texts : Table → List ℕ) (Holds : Tables → List TableMark → Type 0) : Type 0 where

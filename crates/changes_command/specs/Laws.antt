@@ -20,8 +20,10 @@ abbrev pub went_by : ℕ → (LineFields → Bool) → SignedLine → Bool
 went_by count holds l = not (is_came l.sign) && (nat_le l.commit count && holds l.line)
 
 -- the signs add up: of the lines of which something holds, whatever it is, as many came by the first commits as went by
--- them and are among the lines after them. So of each line: what holds of it may be that it is this line
+-- them and are among the lines after them, however many commits came before. So of each line: what holds of it may be
+-- that it is this line
 abbrev pub SignsAddUp : Type 0
-SignsAddUp = (base : Tables) (history : List CommitRecord) (count : ℕ) (holds : LineFields → Bool)
-    → count_by (came_by count holds) (signed_lines base history) ≡ count_by (went_by count holds)
-    (signed_lines base history) + count_by holds (lines_after base (take count history))
+SignsAddUp = (past : ℕ) (base : Tables) (history : List CommitRecord) (count : ℕ) (holds : LineFields → Bool)
+    → count_by (came_by (past + count) holds) (signed_lines past base history)
+    ≡ count_by (went_by (past + count) holds) (signed_lines past base history)
+    + count_by holds (lines_after base (take count history))

@@ -15,7 +15,11 @@ use Rattle.changes_command.specs.declared.signed.ChangesStart.TheVariants.{Loade
 use Rattle.changes_command.specs.declared.signed.Sign.{Sign}
 use Rattle.changes_command.specs.declared.signed.Sign.TheVariants.{Came, Went}
 
--- a line, whether it came or went, and by which commit; the loaded lines came by commit 0
+-- the most commits that may come before those of a journal: 2^62
+abbrev pub most_past : ℕ
+most_past = 4611686018427387904
+
+-- a line, whether it came or went, and by which commit; the loaded lines came by the last one before the journal's
 pub record SignedLine : Type 0 where
   pub commit : ℕ
   pub sign : Sign
@@ -48,9 +52,9 @@ changes_behind before lines (commit ∷ later) =
     changes_by_all (before + 1) lines commit.actions
     ++ changes_behind (before + 1) (lines_after_refresh lines commit.actions) later
 
--- a history: the loaded lines, and then what its commits change
-abbrev pub signed_lines : Tables → List CommitRecord → List SignedLine
-signed_lines base history = signed 0 Came base.lines ++ changes_behind 0 base.lines history
+-- a history, where so many commits came before it: the loaded lines, and then what its commits change
+abbrev pub signed_lines : ℕ → Tables → List CommitRecord → List SignedLine
+signed_lines past base history = signed past Came base.lines ++ changes_behind past base.lines history
 
 -- whether the changes of a commit are asked for
 abbrev pub is_asked : ChangesStart → ℕ → Bool

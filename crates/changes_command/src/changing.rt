@@ -1,15 +1,15 @@
 //! `changes`: the changes of a journal's commits, over table files.
 
-ghost use Rattle.std.specs.Prelude.{◌≡◌, ◌≢◌, ℕ, List, IfErr, OnOk};
+ghost use Rattle.std.specs.Prelude.{◌≡◌, ◌≢◌, ℕ, List, IfErr, IfOk, OnOk};
 ghost use Rattle.ssb_schema.specs.declared.table.Table.{Table};
 ghost use Rattle.ssb_text.specs.Layouts.{AreRows};
 ghost use Rattle.changes_command.specs.Status.{changes_status};
-ghost use Rattle.changes_command.specs.Written.{Changes, TellsChangesFault};
+ghost use Rattle.changes_command.specs.Written.{Changes, ChangesUpTo, TellsChangesFault};
 
+use crate::asked::AskedChanges;
 use crate::fault::ChangesFault;
 use crate::fault::ChangesRefusal::Journal;
 use crate::history::{ChangesSource, ReadHistory, hand_on, write_history};
-use crate::signed::ChangesStart;
 use journal::Disk;
 use journal_opening::{OpeningFault, OpensJournal, table_marks, tell_form};
 use ssb_files::JobFault::Found;
@@ -29,7 +29,7 @@ pub struct ChangesPlace<'j, 'b, P> {
     /// The bytes of the tables, which are counted while these are loaded.
     pub bytes: &'b TableBytes,
     /// Which changes are written.
-    pub start: ChangesStart,
+    pub asked: AskedChanges,
     /// Whether it is told how many commits the journal has.
     pub tells: bool,
 }
@@ -55,28 +55,21 @@ pub(crate) fn tell_read<D: Disk, E: Write>(
     };
 }
 
-/// Writes the changes of a journal's commits that are asked for over the base that the tables spell, as signed lines,
-/// and tells on `err` how many commits the journal has. The tables are read first, and then the journal, which is as it
-/// was.
-pub fn changes<
-    R: Threads + Sync + AllocGlobal,
-    P: OpensJournal,
-    I: Read + Drop,
-    W: Write,
-    E: Write,
->(
+/// Writes the changes of a journal's commits that are asked for over the base that the tables spell, as signed lines.
+/// The tables are read first, and then the journal, which is as it was.
+pub fn write_changes<R: Threads + Sync + AllocGlobal, P: OpensJournal, I: Read + Drop, W: Write>(
     rt: &R,
     hashing: RandomState,
     tables: TableFiles<I>,
     place: &ChangesPlace<'_, '_, P>,
     out: &mut W,
-    err: &mut E,
-) -> Result<(), ChangesFault>
-    ensures written { OnOk result ((texts : Table → List ℕ) → AreRows I.remaining tables texts
-        → Changes texts (P.holds place.now.journal.now) place.now.start (W.contents out.old) (W.contents out.new)) }
+) -> Result<ReadHistory<P::Disk>, ChangesFault>
+    ensures written { IfOk result (λ read. (texts : Table → List ℕ) → AreRows I.remaining tables texts
+        → ChangesUpTo texts (P.holds place.now.journal.now) place.now.asked.past place.now.asked.start read.after
+        (W.contents out.old) (W.contents out.new)) }
     ensures fault { IfErr result (λ fault. (texts : Table → List ℕ) → AreRows I.remaining tables texts
         → TellsChangesFault texts (P.holds place.now.journal.now) (P.is_taken place.now.journal.now)
-        (P.is_missing place.now.journal.now) place.now.start fault) }
+        (P.is_missing place.now.journal.now) place.now.asked.past place.now.asked.start fault) }
     ensures words { IfErr result (λ fault. changes_status fault ≢ 2) }
     ensures trace { IfErr result (λ fault. changes_status fault ≢ 3) }
 {
@@ -96,17 +89,49 @@ pub fn changes<
         file,
         together: MOST_TOGETHER,
     };
-    match write_history(rt, alloc, hashing, source, place.start, out) {
+    match write_history(rt, alloc, hashing, source, place.asked, out) {
         Ok(read) => {
             hand_on(out)?;
-            tell_read(err, &read, place.tells);
-            Ok(())
+            Ok(read)
         }
         Err(fault) => {
             // What commits before the fault changed is handed on.
             let _ = hand_on(out);
             Err(fault)
         }
+    }
+}
+
+/// Writes the changes, as `write_changes` does, and tells on `err` how many commits the journal has.
+pub fn changes<
+    R: Threads + Sync + AllocGlobal,
+    P: OpensJournal,
+    I: Read + Drop,
+    W: Write,
+    E: Write,
+>(
+    rt: &R,
+    hashing: RandomState,
+    tables: TableFiles<I>,
+    place: &ChangesPlace<'_, '_, P>,
+    out: &mut W,
+    err: &mut E,
+) -> Result<(), ChangesFault>
+    ensures written { OnOk result ((texts : Table → List ℕ) → AreRows I.remaining tables texts
+        → Changes texts (P.holds place.now.journal.now) place.now.asked.past place.now.asked.start
+        (W.contents out.old) (W.contents out.new)) }
+    ensures fault { IfErr result (λ fault. (texts : Table → List ℕ) → AreRows I.remaining tables texts
+        → TellsChangesFault texts (P.holds place.now.journal.now) (P.is_taken place.now.journal.now)
+        (P.is_missing place.now.journal.now) place.now.asked.past place.now.asked.start fault) }
+    ensures words { IfErr result (λ fault. changes_status fault ≢ 2) }
+    ensures trace { IfErr result (λ fault. changes_status fault ≢ 3) }
+{
+    match write_changes(rt, hashing, tables, place, out) {
+        Ok(read) => {
+            tell_read(err, &read, place.tells);
+            Ok(())
+        }
+        Err(fault) => Err(fault),
     }
 }
 
@@ -129,7 +154,8 @@ pub fn run_changes<
     err: &mut E,
 ) -> u8
     ensures written { result ≡ 0 → (texts : Table → List ℕ) → AreRows I.remaining tables texts
-        → Changes texts (P.holds place.now.journal.now) place.now.start (W.contents out.old) (W.contents out.new) }
+        → Changes texts (P.holds place.now.journal.now) place.now.asked.past place.now.asked.start
+        (W.contents out.old) (W.contents out.new) }
     ensures others { result ≢ 0 → result ≢ 1 → result ≡ 4 }
 {
     match changes(rt, hashing, tables, place, out, err) {

@@ -10,6 +10,7 @@ ghost use Rattle.changes_command.specs.Fed.{EndsWhole, Feeds, IsFeedRefusal, Tel
 ghost use Rattle.changes_command.specs.Status.{feeding_status};
 ghost use Rattle.changes_command.specs.Written.{IsWritten, TellsFileFault};
 
+use crate::asked::AskedChanges;
 use crate::changing::tell_read;
 use crate::fault::ChangesFault;
 use crate::fault::ChangesRefusal::Journal;
@@ -45,7 +46,7 @@ pub struct FeedPlace<'b, G: Read + Drop> {
 // What is told of a stream where this is told of a journal's file.
 fn of_file(fault: ChangesFault) -> FeedJobFault
     ensures { (base : Tables) (marks : List TableMark) (stream : List ℕ) (start : ChangesStart)
-        → TellsFileFault base marks stream start fault → TellsStreamFault base marks stream start result }
+        → TellsFileFault base marks stream 0 start fault → TellsStreamFault base marks stream start result }
 {
     match fault {
         Program(fault) => Program(fault),
@@ -70,13 +71,14 @@ pub fn write_feed<'a, U: UnreadDisk + Drop, W: Write>(
 ) -> Result<ReadHistory<U::Whole>, FeedJobFault>
     requires unread { U.taken source.file ≡ [] }
     ensures written { IfOk result (λ read. IsWritten source.entry.base.value source.entry.marks.now
-        (U.Whole.seen read.found) start (W.contents out.old) (W.contents out.new)) }
+        (U.Whole.seen read.found) 0 start (W.contents out.old) (W.contents out.new)) }
     ensures whole { IfOk result (λ read. EndsWhole (U.Whole.seen read.found)) }
     ensures known { IfOk result (λ read. IsKnown (U.holds source.entry.file) (U.Whole.seen read.found)) }
     ensures fault { IfErr result (IsFeedRefusal source.entry.base.value source.entry.marks.now
         (U.holds source.entry.file) start) }
 {
-    match write_history(rt, alloc, hashing, source, start, out) {
+    let asked = AskedChanges { past: 0, start };
+    match write_history(rt, alloc, hashing, source, asked, out) {
         Ok(read) if read.torn > 0 => Err(Found(FeedRefusal::Feed(FeedFault::FeedEnded))),
         Ok(read) => Ok(read),
         Err(fault) => Err(of_file(fault)),

@@ -8,8 +8,9 @@ ghost use Rattle.row_store.specs.Refusals.{refusal_of};
 ghost use Rattle.ssb_files.specs.declared.fault.Fault.TheVariants as common;
 ghost use Rattle.ssb_files.specs.declared.job.JobFault.TheVariants as job;
 ghost use Rattle.changes_command.specs.Signed.{asked_of, changes_behind, changes_by_all, changes_text, signed};
-ghost use Rattle.changes_command.specs.Written.{IsCommitsFault, IsFileRefusal, IsTooFar, IsWritten, Reaches, TellsTorn};
+ghost use Rattle.changes_command.specs.Written.{IsCommitsFault, IsFileRefusal, IsTooFar, IsWrittenUpTo, Reaches, TellsTorn};
 
+use crate::asked::AskedChanges;
 use crate::fault::ChangesRefusal::Journal;
 use crate::fault::{ChangesFault, ChangesRefusal};
 use crate::signed::{ChangesStart, Sign};
@@ -41,12 +42,13 @@ pub struct ChangesSource<'a, U: UnreadDisk + Drop> {
     pub together: usize,
 }
 
-/// A journal's file that was read to its end, and is as it was; how many commits it has, the form of its head, and how
-/// many bytes stand behind its last whole group.
+/// A journal's file that was read to its end, and is as it was; how many commits it has, and how many these are with
+/// those that came before; the form of its head, and how many bytes stand behind its last whole group.
 #[derive(Drop)]
 pub struct ReadHistory<D: Disk> {
     pub found: FoundFile<D>,
     pub commits: u64,
+    pub after: u64,
     pub form: HeadForm,
     pub torn: usize,
 }
@@ -72,17 +74,17 @@ struct Reading<'a, U: UnreadDisk> {
 // Writes the loaded lines, where they are asked for, and hands them on.
 fn write_loaded<W: Write>(
     out: &mut W,
-    start: ChangesStart,
+    asked: AskedChanges,
     lines: &[Line],
 ) -> Result<(), ChangesFault>
     ensures written { OnOk result (Appends (W.contents out.old) (W.contents out.new)
-        (changes_text (asked_of start (signed 0 Sign.Came lines.now)))) }
+        (changes_text (asked_of asked.start (signed asked.past Sign.Came lines.now)))) }
     ensures fault { IfErr result (λ fault. fault ≡ job.Program common.WriteFailed) }
 {
-    if !start.asks(0) {
+    if !asked.start.asks(asked.past) {
         return Ok(());
     }
-    match write_lines(out, 0, Sign::Came, lines) {
+    match write_lines(out, asked.past, Sign::Came, lines) {
         Ok(()) => hand_on(out),
         Err(_) => Err(Program(Fault::WriteFailed)),
     }
@@ -91,17 +93,17 @@ fn write_loaded<W: Write>(
 // Writes what the next commit changes, where that is asked for, and the refresh is not refused.
 fn write_accepted<W: Write>(
     out: &mut W,
-    start: ChangesStart,
+    asked: AskedChanges,
     store: &RowStore,
     refresh: &Refresh,
 ) -> Result<(), ChangesFault>
     ensures written { OnOk result (refusal_of store.now.base store.now.log refresh.now ≡ None
-        → Appends (W.contents out.old) (W.contents out.new) (changes_text (asked_of start (changes_by_all
-        (length store.now.log + 1) (lines_after store.now.base store.now.log) refresh.now)))) }
+        → Appends (W.contents out.old) (W.contents out.new) (changes_text (asked_of asked.start (changes_by_all
+        (asked.past + length store.now.log + 1) (lines_after store.now.base store.now.log) refresh.now)))) }
     ensures fault { IfErr result (λ fault. fault ≡ job.Program common.WriteFailed) }
 {
-    let number = store.len() as u64 + 1;
-    if !start.asks(number) {
+    let number = asked.with(store.len() as u64) + 1;
+    if !asked.start.asks(number) {
         return Ok(());
     }
     match store.check(refresh) {
@@ -117,18 +119,19 @@ fn write_accepted<W: Write>(
 // asked for. The first commit that is refused is told.
 fn write_commits<W: Write>(
     out: &mut W,
-    start: ChangesStart,
+    asked: AskedChanges,
     store: &mut RowStore,
     commits: &[Commit],
 ) -> Result<(), ChangesFault>
-    ensures written { OnOk result (Appends (W.contents out.old) (W.contents out.new) (changes_text (asked_of start
-        (changes_behind (length store.old.log) (lines_after store.old.base store.old.log) commits.now)))) }
+    ensures written { OnOk result (Appends (W.contents out.old) (W.contents out.new) (changes_text (asked_of asked.start
+        (changes_behind (asked.past + length store.old.log) (lines_after store.old.base store.old.log)
+        commits.now)))) }
     ensures store { OnOk result (store.new ≡ record { base = store.old.base; log = store.old.log ++ commits.now }) }
     ensures fault { IfErr result (IsCommitsFault store.old.base (store.old.log ++ commits.now)) }
 {
     for place in 0..commits.len() {
         let commit = &commits[place];
-        write_accepted(out, start, store, &commit.refresh)?;
+        write_accepted(out, asked, store, &commit.refresh)?;
         if let Err(fault) = replay(store, &commits[place..place + 1]) {
             return Err(Found(Journal(OpeningFault::Replay(fault))));
         }
@@ -142,20 +145,20 @@ fn write_all<'a, U: UnreadDisk + Drop, W: Write>(
     rt: &(impl Threads + Sync),
     alloc: Global,
     out: &mut W,
-    start: ChangesStart,
+    asked: AskedChanges,
     store: &mut RowStore,
     reading: Reading<'a, U>,
 ) -> Result<JournalReader<'a, U>, ChangesFault>
     requires none { store.old.log ≡ [] }
     requires unread { reading.journal.commits ≡ [] }
-    ensures written { IfOk result (λ read. Appends (W.contents out.old) (W.contents out.new) (changes_text (asked_of start
-        (changes_behind 0 store.old.base.lines read.commits)))) }
+    ensures written { IfOk result (λ read. Appends (W.contents out.old) (W.contents out.new) (changes_text
+        (asked_of asked.start (changes_behind asked.past store.old.base.lines read.commits)))) }
     ensures store { IfOk result (λ read. store.new ≡ record { base = store.old.base; log = read.commits }) }
     ensures marks { IfOk result (λ read. read.marks ≡ reading.entry.journal.marks) }
     ensures known { IfOk result (λ read. U.holds read.unread ≡ U.holds reading.entry.journal.unread) }
     ensures end { IfOk result (λ read. read.is_done ≡ true) }
     ensures fault { IfErr result (IsFileRefusal store.old.base reading.entry.journal.marks
-        (U.holds reading.entry.journal.unread) start) }
+        (U.holds reading.entry.journal.unread) asked.past asked.start) }
 {
     let Reading {
         mut journal,
@@ -169,7 +172,7 @@ fn write_all<'a, U: UnreadDisk + Drop, W: Write>(
         let Some(commits) = found else {
             return Ok(next);
         };
-        write_commits(out, start, store, &commits)?;
+        write_commits(out, asked, store, &commits)?;
         hand_on(out)?;
         let count = store.len();
         store.forget(count as u64);
@@ -191,24 +194,26 @@ fn check_reaches(start: ChangesStart, commits: u64) -> Result<(), ChangesFault>
 }
 
 /// Writes the changes of a journal's commits that are asked for, as its file is read, in the order of the commits, and
-/// hands on those of groups that were read together. Each piece of a line is one `write`, so a caller buffers. The commits are made again over the tables, and forgotten: they
-/// take no memory. Of two faults the first in the file is told; what commits before it change was written.
+/// hands on those of groups that were read together. Each piece of a line is one `write`, so a caller buffers. The
+/// commits are made again over the tables, and forgotten: they take no memory. Of two faults the first in the file is
+/// told; what commits before it change was written. A commit that came before the journal's is refused at first.
 pub fn write_history<'a, U: UnreadDisk + Drop, W: Write>(
     rt: &(impl Threads + Sync),
     alloc: Global,
     hashing: RandomState,
     source: ChangesSource<'a, U>,
-    start: ChangesStart,
+    asked: AskedChanges,
     out: &mut W,
 ) -> Result<ReadHistory<U::Whole>, ChangesFault>
     requires unread { U.taken source.file ≡ [] }
-    ensures written { IfOk result (λ read. IsWritten source.entry.base.value source.entry.marks.now
-        (U.Whole.seen read.found) start (W.contents out.old) (W.contents out.new)) }
+    ensures written { IfOk result (λ read. IsWrittenUpTo source.entry.base.value source.entry.marks.now
+        (U.Whole.seen read.found) asked.past asked.start read.after (W.contents out.old) (W.contents out.new)) }
     ensures known { IfOk result (λ read. IsKnown (U.holds source.entry.file) (U.Whole.seen read.found)) }
     ensures torn { IfOk result (λ read. TellsTorn (U.Whole.seen read.found) read.torn) }
     ensures fault { IfErr result (IsFileRefusal source.entry.base.value source.entry.marks.now
-        (U.holds source.entry.file) start) }
+        (U.holds source.entry.file) asked.past asked.start) }
 {
+    asked.check_begins()?;
     let ChangesSource {
         base,
         marks,
@@ -219,16 +224,18 @@ pub fn write_history<'a, U: UnreadDisk + Drop, W: Write>(
         Ok(journal) => journal,
         Err((fault, _)) => return Err(Found(Journal(OpeningFault::Kept(fault)))),
     };
-    write_loaded(out, start, base.lines())?;
+    write_loaded(out, asked, base.lines())?;
     let mut store = RowStore::new(alloc, base, hashing)?;
     let reading = Reading { journal, together };
-    let journal = write_all(rt, alloc, out, start, &mut store, reading)?;
+    let journal = write_all(rt, alloc, out, asked, &mut store, reading)?;
     store.soundness();
+    let after = asked.with(store.len() as u64);
     let OpenedJournal { found, kept, torn } = journal.finish();
-    check_reaches(start, kept.count)?;
+    check_reaches(asked.start, after)?;
     Ok(ReadHistory {
         found,
         commits: kept.count,
+        after,
         form: kept.form,
         torn: torn.len(),
     })

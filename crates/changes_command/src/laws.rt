@@ -2,8 +2,8 @@
 
 ghost use Rattle.changes_command.specs.Laws.{SignsAddUp};
 
-/// The signs add up: for each line and each n, those up to commit n tell how often the line is among the lines after
-/// the first n commits.
+/// The signs add up: for each line and each n, those up to the nth commit tell how often the line is among the lines
+/// after the first n commits, however many came before these.
 pub fn signs_add_up()
     ensures { SignsAddUp }
 {}

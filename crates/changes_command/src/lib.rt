@@ -7,9 +7,11 @@
 //! ```
 //!
 //! The signed lines of a history (`specs/Signed`: `signed_lines`) are the loaded lines, with commit 0, and then, commit
-//! by commit and action by action, the lines that go and those that come. The law of them is the contract of
-//! [`signs_add_up`] (`specs/Laws`): for each line and each n, its signs up to commit n add up to how often it is among
-//! the lines after the first n commits. So whoever keeps them can tell the lines of every moment.
+//! by commit and action by action, the lines that go and those that come. Where commits came before those of the
+//! journal, as in a store, numbers count these too ([`AskedChanges`]): behind `past` of them the loaded lines are with
+//! commit `past`, and the journal's first commit is `past + 1`. The law of them is the contract of [`signs_add_up`]
+//! (`specs/Laws`): for each line and each n, its signs up to commit `past + n` add up to how often it is among the lines
+//! after the first n commits of the journal. So whoever keeps them can tell the lines of every moment.
 //!
 //! The contract of [`write_history`] (`specs/Written`): what is written is the text of the signed lines that are asked
 //! for, of the commits that the file keeps, which are a legal history over the base; or why it is not. That of
@@ -24,11 +26,13 @@
 //!
 //! ```text
 //! let source = ChangesSource { base, marks: &marks, file, together: MOST_TOGETHER };
-//! let read = write_history(rt, alloc, hashing, source, ChangesStart::Behind(2), &mut out)?;
+//! let asked = AskedChanges::of_journal(ChangesStart::Behind(2));
+//! let read = write_history(rt, alloc, hashing, source, asked, &mut out)?;
 //! // out: 3|1|9|1|3|4|3|19971215|o|0|1|10|10|0|10|2000|0|19971215|AIR
 //! ```
 #![tactic(auto)]
 
+mod asked;
 mod changing;
 mod fault;
 mod feed_fault;
@@ -39,7 +43,8 @@ mod laws;
 mod signed;
 mod writing;
 
-pub use changing::{ChangesPlace, changes, run_changes};
+pub use asked::AskedChanges;
+pub use changing::{ChangesPlace, changes, run_changes, write_changes};
 pub use fault::{ChangesFault, ChangesRefusal};
 pub use feed_fault::{FeedFault, FeedJobFault, FeedRefusal};
 pub use feeding::{FeedPlace, follow, run_feed, write_feed};

@@ -15,14 +15,14 @@ pub enum Sign {
 /// From where on the changes of a history are asked for.
 #[derive(Clone, Copy, Debug, PartialEq, Eq)]
 pub enum ChangesStart {
-    /// From the loaded lines on, which are those of commit 0.
+    /// From the loaded lines on, which came by the last commit before the journal's, or by commit 0.
     Loaded,
-    /// Behind the first commits, so many of them.
+    /// Behind the first commits of the history, so many of them.
     Behind(u64),
 }
 
 impl ChangesStart {
-    /// Whether the changes of this commit are asked for; those of commit 0 are the loaded lines.
+    /// Whether the changes of the commit of this number are asked for.
     pub(crate) fn asks(self, commit: u64) -> bool
         ensures { result ≡ is_asked self commit }
     {

@@ -1,4 +1,4 @@
-use Rattle.std.proofs.Common.{◌≡◌, ◌+◌, false, length, rules, subst, sym, true}
+use Rattle.std.proofs.Common.{◌≡◌, ◌∙◌, ◌+◌, ap, false, length, rules, subst, sym, true}
 use Rattle.std.specs.Io.KnownBytes.{Appends}
 use Rattle.row_store.specs.History.{lines_after}
 use Rattle.ssb_text.proofs.WrittenLaws.{appends_none}
@@ -9,25 +9,33 @@ use Rattle.changes_command.proofs.history.write_accepted.Goals as goal
 pub returns-then-not-asks-clause-written : goal.returns-then-not-asks-clause-written
 returns-then-not-asks-clause-written g c = λ none.
     let a = g.W.Write.contents c.args.out.now in
+    let past = c.args.asked.past in
+    let start = c.args.asked.start in
     let log = c.args.store.now.log in
     let lines = lines_after c.args.store.now.base log in
-    let so_many : is_asked c.args.start (c.len.result + 1) ≡ false = search rules in
-    let unasked : is_asked c.args.start (length log + 1) ≡ false =
-    subst (λ n. is_asked c.args.start (n + 1) ≡ false) c.len.ensures.count so_many in
+    let many : c.with-number.result ≡ past + length log =
+    c.with-number.ensures ∙ ap (λ n. past + n) c.len.ensures.count in
+    let so_many : is_asked start (c.with-number.result + 1) ≡ false = search rules in
+    let unasked : is_asked start (past + length log + 1) ≡ false =
+    subst (λ n. is_asked start (n + 1) ≡ false) many so_many in
     subst (λ changed. Appends a a (changes_text changed))
-    (sym (none_of_commit c.args.start (length log + 1) lines c.args.refresh.now unasked)) (appends_none a)
+    (sym (none_of_commit start (past + length log + 1) lines c.args.refresh.now unasked)) (appends_none a)
 
 pub returns-in-Ok-write_commit-clause-written : goal.returns-in-Ok-write_commit-clause-written
 returns-in-Ok-write_commit-clause-written g c = λ none.
     let a = g.W.Write.contents c.args.out.now in
     let b = g.W.Write.contents c.write_commit.new.out in
+    let past = c.args.asked.past in
+    let start = c.args.asked.start in
     let log = c.args.store.now.log in
     let lines = lines_after c.args.store.now.base log in
-    let so_many : is_asked c.args.start (c.len.result + 1) ≡ true = search rules in
-    let asked : is_asked c.args.start (length log + 1) ≡ true =
-    subst (λ n. is_asked c.args.start (n + 1) ≡ true) c.len.ensures.count so_many in
+    let many : c.with-number.result ≡ past + length log =
+    c.with-number.ensures ∙ ap (λ n. past + n) c.len.ensures.count in
+    let so_many : is_asked start (c.with-number.result + 1) ≡ true = search rules in
+    let asked : is_asked start (past + length log + 1) ≡ true =
+    subst (λ n. is_asked start (n + 1) ≡ true) many so_many in
     subst (λ changed. Appends a b (changes_text changed))
-    (sym (all_of_commit c.args.start (length log + 1) lines c.args.refresh.now asked))
-    (subst (λ n. Appends a b (changes_text (changes_by_all (n + 1) lines c.args.refresh.now))) c.len.ensures.count
-    (subst (λ actions. Appends a b (changes_text (changes_by_all (c.len.result + 1) lines actions)))
+    (sym (all_of_commit start (past + length log + 1) lines c.args.refresh.now asked))
+    (subst (λ n. Appends a b (changes_text (changes_by_all (n + 1) lines c.args.refresh.now))) many
+    (subst (λ actions. Appends a b (changes_text (changes_by_all (c.with-number.result + 1) lines actions)))
     c.actions.ensures.actions c.in-Ok-write_commit.ensures))

@@ -6,8 +6,8 @@ use Rattle.changes_command.proofs.history.write_all.Given as goal
 -- the commits so far were made again, and what they change was written
 abbrev pub invariant-loop-next : goal.invariant-loop-next
 invariant-loop-next g l = record {
-  written : Appends (g.W.Write.contents l.initial.out) (g.W.Write.contents l.out) (changes_text (asked_of l.start
-      (changes_behind 0 l.initial.store.base.lines l.journal.commits)));
+  written : Appends (g.W.Write.contents l.initial.out) (g.W.Write.contents l.out) (changes_text
+      (asked_of l.asked.start (changes_behind l.asked.past l.initial.store.base.lines l.journal.commits)));
   store : l.store ≡ record { base = l.initial.store.base; log = l.journal.commits };
   marks : l.journal.marks ≡ l.initial.journal.marks;
   known : g.U.UnreadDisk.holds l.journal.unread ≡ g.U.UnreadDisk.holds l.initial.journal.unread;

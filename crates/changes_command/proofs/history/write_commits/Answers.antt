@@ -25,10 +25,11 @@ loop-place-preserved g c =
     made_is_accepted store c.replay.new.store (take (i + 1 - i) (drop i commits)) commit c.deref.result.now
     c.in_default.ensures.store part actions c.soundness.ensures.legal in
     record {
-      written = next_written c.args.start c.args.store.now.base c.args.store.now.log commits store i commit
-          c.deref.result.now (contents c.args.out.now) (contents c.loop-place.out) (contents c.write_accepted.new.out)
-          c.loop-place-test.true c.index-commits-place.is c.loop-place.invariant.store actions
-          c.loop-place.invariant.written (c.in_ok-write_accepted.ensures.written accepted);
+      written = next_written c.args.asked.start c.args.asked.past c.args.store.now.base c.args.store.now.log commits
+          store i commit c.deref.result.now (contents c.args.out.now) (contents c.loop-place.out)
+          (contents c.write_accepted.new.out) c.loop-place-test.true c.index-commits-place.is
+          c.loop-place.invariant.store actions c.loop-place.invariant.written
+          (c.in_ok-write_accepted.ensures.written accepted);
       store = next_made c.args.store.now.log commits i commit c.loop-place-test.true c.args.store.now.base store
           c.replay.new.store c.loop-place.invariant.store c.in_default.ensures.store;
     }

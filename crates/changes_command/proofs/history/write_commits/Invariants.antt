@@ -1,4 +1,4 @@
-use Rattle.std.proofs.Common.{◌≡◌, ◌++◌, length, take}
+use Rattle.std.proofs.Common.{◌≡◌, ◌+◌, ◌++◌, length, take}
 use Rattle.std.specs.Io.KnownBytes.{Appends}
 use Rattle.row_store.specs.History.{lines_after}
 use Rattle.changes_command.specs.Signed.{asked_of, changes_behind, changes_text}
@@ -7,7 +7,8 @@ use Rattle.changes_command.proofs.history.write_commits.Given as goal
 -- the first commits were made again, and what they change was written
 abbrev pub invariant-loop-place : goal.invariant-loop-place
 invariant-loop-place g l = record {
-  written : Appends (g.W.Write.contents l.fn.out) (g.W.Write.contents l.out) (changes_text (asked_of l.start
-      (changes_behind (length l.fn.store.log) (lines_after l.fn.store.base l.fn.store.log) (take l.place l.commits))));
+  written : Appends (g.W.Write.contents l.fn.out) (g.W.Write.contents l.out) (changes_text (asked_of l.asked.start
+      (changes_behind (l.asked.past + length l.fn.store.log) (lines_after l.fn.store.base l.fn.store.log)
+      (take l.place l.commits))));
   store : l.store ≡ record { base = l.fn.store.base; log = l.fn.store.log ++ take l.place l.commits };
 }

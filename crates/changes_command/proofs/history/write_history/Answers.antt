@@ -11,51 +11,74 @@ use Rattle.changes_command.specs.Signed.{asked_of, changes_behind, changes_text,
 use Rattle.changes_command.specs.Written.{IsFileRefusal}
 use Rattle.changes_command.specs.declared.fault.ChangesRefusal.TheVariants as refusal
 use Rattle.changes_command.specs.declared.signed.Sign.TheVariants.{Came}
-use Rattle.changes_command.proofs.FaultLaws.{call_failed, refused_reading}
-use Rattle.changes_command.proofs.HistoryLaws.{is_written, too_far}
+use Rattle.changes_command.proofs.FaultLaws.{call_failed, refused_reading, too_early}
+use Rattle.changes_command.proofs.HistoryLaws.{is_written, store_of, too_far}
 use Rattle.changes_command.proofs.history.write_history.Goals as goal
+
+pub returns-in_err-check_begins-clause-fault : goal.returns-in_err-check_begins-clause-fault
+returns-in_err-check_begins-clause-fault g c =
+    let base = c.args.source.base.value in
+    let marks = c.args.source.marks.now in
+    let known = g.U.UnreadDisk.holds c.args.source.file in
+    let past = c.args.asked.past in
+    let start = c.args.asked.start in
+    let why = c.in_err-check_begins.field-0.0 in
+    let is : c.from_residual.result ≡ Err why = search rules in
+    let here : IsFileRefusal base marks known past start why =
+    too_early base marks known past start why c.in_err-check_begins.ensures.fault in
+    rw is here
 
 pub returns-in-Err-clause-fault : goal.returns-in-Err-clause-fault
 returns-in-Err-clause-fault g c =
     let disk = g.U.UnreadDisk in
     let file = c.in-Err.field-0-1 in
     refused_reading c.args.source.base.value c.args.source.marks.now (disk.holds c.args.source.file) (disk.holds file)
-    (disk.taken file) (disk.is_ended file) c.args.start (job.Found (refusal.Journal (opening.Kept c.in-Err.fault)))
-    c.in-Err.ensures.known_err (g.met.U.UnreadDisk.as_known file)
-    (λ whole begins. c.in-Err.ensures.fault whole begins)
+    (disk.taken file) (disk.is_ended file) c.args.asked.past c.args.asked.start
+    (job.Found (refusal.Journal (opening.Kept c.in-Err.fault))) c.in-Err.ensures.known_err
+    (g.met.U.UnreadDisk.as_known file) (λ whole begins. c.in-Err.ensures.fault whole begins)
 
 pub returns-in_err-write_loaded-clause-fault : goal.returns-in_err-write_loaded-clause-fault
 returns-in_err-write_loaded-clause-fault g c =
     let base = c.args.source.base.value in
     let marks = c.args.source.marks.now in
     let known = g.U.UnreadDisk.holds c.args.source.file in
-    let is : c.from_residual.result ≡ Err c.in_err-write_loaded.field-0.0 = search rules in
-    let here : IsFileRefusal base marks known c.args.start c.in_err-write_loaded.field-0.0 =
-    subst (IsFileRefusal base marks known c.args.start) (sym c.in_err-write_loaded.ensures.fault)
-    (call_failed base marks known c.args.start common.WriteFailed refl) in
+    let past = c.args.asked.past in
+    let start = c.args.asked.start in
+    let is : c.from_residual-in_err-write_loaded.result ≡ Err c.in_err-write_loaded.field-0.0 = search rules in
+    let here : IsFileRefusal base marks known past start c.in_err-write_loaded.field-0.0 =
+    subst (IsFileRefusal base marks known past start) (sym c.in_err-write_loaded.ensures.fault)
+    (call_failed base marks known past start common.WriteFailed refl) in
     rw is here
 
 pub returns-in_err-store-clause-fault : goal.returns-in_err-store-clause-fault
 returns-in_err-store-clause-fault g c =
     let is : c.from_residual-in_err-store.result ≡ Err (job.Program common.OutOfMemory) = search rules in
     rw is (call_failed c.args.source.base.value c.args.source.marks.now (g.U.UnreadDisk.holds c.args.source.file)
-    c.args.start common.OutOfMemory refl)
+    c.args.asked.past c.args.asked.start common.OutOfMemory refl)
 
 pub returns-in_err-check_reaches-clause-fault : goal.returns-in_err-check_reaches-clause-fault
 returns-in_err-check_reaches-clause-fault g c =
     let disk = g.U.UnreadDisk in
     let base = c.args.source.base.value in
     let marks = c.args.source.marks.now in
+    let past = c.args.asked.past in
+    let start = c.args.asked.start in
     let file = g.U.Whole.Disk.seen c.finish-found.result.found in
+    let kept = c.finish-found.result.kept in
     let why = c.in_err-check_reaches.field-0.0 in
     let is : c.from_residual-in_err-check_reaches.result ≡ Err why = search rules in
     let known : IsKnown (disk.holds c.args.source.file) file =
     subst (λ k. IsKnown k file) (c.in_ok-journal.ensures.known ∙ c.in-Ok.ensures.known) c.finish-found.ensures.known in
-    let kept : IsKept marks (recovered file) c.finish-found.result.kept =
-    subst (λ m. IsKept m (recovered file) c.finish-found.result.kept)
-    (c.in_ok-journal.ensures.marks ∙ c.in-Ok.ensures.marks) c.finish-found.ensures.kept in
-    let here : IsFileRefusal base marks (disk.holds c.args.source.file) c.args.start why =
-    too_far base marks (disk.holds c.args.source.file) file c.args.start c.finish-found.result.kept why known kept
+    let keeps : IsKept marks (recovered file) kept =
+    subst (λ m. IsKept m (recovered file) kept) (c.in_ok-journal.ensures.marks ∙ c.in-Ok.ensures.marks)
+    c.finish-found.ensures.kept in
+    let store : c.write_all.new.store ≡ record { base = base; log = kept.commits.items } =
+    store_of base c.in_ok-store.store.base c.in_ok-journal.journal.commits kept.commits.items c.write_all.new.store
+    c.in_ok-journal.ensures.store (ap (λ (s : Warehouse). s.base) c.in_ok-store.ensures)
+    (sym c.finish-found.ensures.commits) in
+    let here : IsFileRefusal base marks (disk.holds c.args.source.file) past start why =
+    too_far base marks (disk.holds c.args.source.file) file past start kept c.write_all.new.store c.len.result
+    c.with-after.result why known keeps store c.len.ensures.count c.with-after.ensures
     c.in_err-check_reaches.ensures.fault in
     rw is here
 
@@ -66,22 +89,24 @@ returns-clause-written g c =
     let b = contents c.write_loaded.new.out in
     let e = contents c.write_all.new.out in
     let base = c.args.source.base.value in
-    let start = c.args.start in
+    let past = c.args.asked.past in
+    let start = c.args.asked.start in
     let file = g.U.Whole.Disk.seen c.finish-found.result.found in
     let kept = c.finish-found.result.kept in
     let held : c.in_ok-store.store.base ≡ base = ap (λ (s : Warehouse). s.base) c.in_ok-store.ensures in
     let commits = sym c.finish-found.ensures.commits in
     let store : c.write_all.new.store ≡ record { base = base; log = kept.commits.items } =
-    c.in_ok-journal.ensures.store
-    ∙ ap (λ t. record { base = t; log = c.in_ok-journal.journal.commits }) held
-    ∙ ap (λ l. record { base = base; log = l }) commits in
+    store_of base c.in_ok-store.store.base c.in_ok-journal.journal.commits kept.commits.items c.write_all.new.store
+    c.in_ok-journal.ensures.store held commits in
     let lines : c.lines.result.now ≡ base.lines = search rules in
-    is_written base c.args.source.marks.now file start kept c.write_all.new.store a b e store
+    is_written base c.args.source.marks.now file past start kept c.write_all.new.store c.len.result c.with-after.result a
+    b e store
     (subst (λ m. IsKept m (recovered file) kept) (c.in_ok-journal.ensures.marks ∙ c.in-Ok.ensures.marks)
     c.finish-found.ensures.kept)
-    c.soundness.ensures.legal c.in_ok-check_reaches.ensures.reaches
-    (subst (λ l. Appends a b (changes_text (asked_of start (signed 0 Came l)))) lines
+    c.soundness.ensures.legal c.len.ensures.count c.with-after.ensures c.in_ok-check_begins.ensures.begins
+    c.in_ok-check_reaches.ensures.reaches
+    (subst (λ l. Appends a b (changes_text (asked_of start (signed past Came l)))) lines
     c.in_ok-write_loaded.ensures.written)
-    (subst (λ l. Appends b e (changes_text (asked_of start (changes_behind 0 base.lines l)))) commits
-    (subst (λ t. Appends b e (changes_text (asked_of start (changes_behind 0 t.lines c.in_ok-journal.journal.commits))))
-    held c.in_ok-journal.ensures.written))
+    (subst (λ l. Appends b e (changes_text (asked_of start (changes_behind past base.lines l)))) commits
+    (subst (λ t. Appends b e (changes_text (asked_of start (changes_behind past t.lines
+    c.in_ok-journal.journal.commits)))) held c.in_ok-journal.ensures.written))

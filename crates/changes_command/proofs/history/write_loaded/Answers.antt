@@ -11,8 +11,10 @@ use Rattle.changes_command.proofs.history.write_loaded.Goals as goal
 pub returns-then-not-asks-clause-written : goal.returns-then-not-asks-clause-written
 returns-then-not-asks-clause-written g c =
     let a = g.W.Write.contents c.args.out.now in
-    let unasked : is_asked c.args.start 0 ≡ false = search rules in
-    subst (λ lines. Appends a a (changes_text lines)) (sym (none_asked c.args.start 0 Came c.args.lines.now unasked))
+    let past = c.args.asked.past in
+    let start = c.args.asked.start in
+    let unasked : is_asked start past ≡ false = search rules in
+    subst (λ lines. Appends a a (changes_text lines)) (sym (none_asked start past Came c.args.lines.now unasked))
     (appends_none a)
 
 pub returns-in-Ok-clause-written : goal.returns-in-Ok-clause-written
@@ -20,10 +22,12 @@ returns-in-Ok-clause-written g c =
     let a = g.W.Write.contents c.args.out.now in
     let b = g.W.Write.contents c.write_lines.new.out in
     let h = g.W.Write.contents c.hand_on.new.out in
-    let asked : is_asked c.args.start 0 ≡ true = search rules in
-    let written : Appends a b (changes_text (asked_of c.args.start (signed 0 Came c.args.lines.now))) =
-    subst (Appends a b) (sym (ap changes_text (all_asked c.args.start 0 Came c.args.lines.now asked)
-    ∙ text_of_signed 0 Came c.args.lines.now)) c.in-Ok.ensures in
+    let past = c.args.asked.past in
+    let start = c.args.asked.start in
+    let lines = c.args.lines.now in
+    let asked : is_asked start past ≡ true = search rules in
+    let written : Appends a b (changes_text (asked_of start (signed past Came lines))) =
+    subst (Appends a b) (sym (ap changes_text (all_asked start past Came lines asked) ∙ text_of_signed past Came lines))
+    c.in-Ok.ensures in
     on_ok c.hand_on.result _
-    (appended_kept a b h (changes_text (asked_of c.args.start (signed 0 Came c.args.lines.now))) written
-    c.hand_on.ensures.kept)
+    (appended_kept a b h (changes_text (asked_of start (signed past Came lines))) written c.hand_on.ensures.kept)
