@@ -1,5 +1,5 @@
 -- Streams of groups, and one group more.
-use Rattle.std.proofs.Common.{◌≡◌, ◌⊎◌, inl, inr, ℕ, ◌+◌, ◌<◌, ◌≤◌, true, List, [], ◌∷◌, ◌++◌, length, flat_map, refl, sym}
+use Rattle.std.proofs.Common.{◌≡◌, inl, inr, ℕ, ◌+◌, ◌<◌, ◌≤◌, true, List, [], ◌∷◌, ◌++◌, length, refl, sym}
 use Rattle.std.proofs.Common.{◌∙◌, ap, subst, arith, append_assoc, append-nil, Option, None, Some, Result, Ok, Err, OnOk, OnErr}
 use Rattle.std.specs.Io.KnownBytes.{Appends, Keeps}
 use Rattle.std.proofs.lemmas.List.Concat.{flat_map-append}
@@ -8,7 +8,7 @@ use Rattle.row_store.specs.History.{CommitRecord}
 use Rattle.ssb_journal.specs.Kept.{IsGroupOf}
 use Rattle.ssb_text.proofs.WrittenLaws.{appends_both}
 use Rattle.ssb_text.specs.Written.{AppendsPart}
-use Rattle.ship_command.specs.Stream.{HaveCommits, GoesBeyond, IsBehind, IsStream, Piece, group, alive, piece_block, text_of}
+use Rattle.ship_command.specs.Stream.{HaveCommits, IsStream, Piece, group, alive, piece_block, text_of}
 use Rattle.ship_command.specs.Stream.{groups_of, begin_with_group, BeginsStream, Ships, ShipsPart, mark, sign_of_life}
 use Rattle.ship_command.specs.Taken.{HasCount, IsLeavingOut, PassesBeyond}
 
@@ -74,22 +74,24 @@ have_more (first ∷ groups) count more last commits have spells is =
     (have.0, have.1 + more, have.2, have_more groups have.1 more last commits have.3 spells is, omega (arith, have.4))
 
 -- one group more is left out
-pub leave_more : (after : ℕ) (first old new : List (List ℕ)) (commits more all : ℕ) (last : List ℕ)
-    → IsLeavingOut after first old commits → new ≡ old ++ last ∷ [] → HasCount more last → all ≡ commits + more
-    → all ≤ after → IsLeavingOut after first new all
-leave_more after first old new commits more all last was taken has is within = record {
+pub leave_more : (past after : ℕ) (first old new : List (List ℕ)) (commits more all : ℕ) (last : List ℕ)
+    → IsLeavingOut past after first old commits → new ≡ old ++ last ∷ [] → HasCount more last → all ≡ commits + more
+    → all ≤ after → IsLeavingOut past after first new all
+leave_more past after first old new commits more all last was taken has is within = record {
   out = was.out ++ last ∷ [];
-  counted = subst (λ (count : ℕ). HaveCommits (was.out ++ last ∷ []) count) (sym is)
-      (have_more was.out commits more last has.commits was.counted has.spells has.counted);
+  count = was.count + more;
+  counted = have_more was.out was.count more last has.commits was.counted has.spells has.counted;
+  numbered = omega (arith, is, was.numbered);
   within = within;
   taken = taken ∙ ap (λ (l : List (List ℕ)). l ++ last ∷ []) was.taken ∙ append_assoc first was.out (last ∷ []);
 }
 
 -- a stream of one group more
-pub stream_more : (after : ℕ) (groups stream : List (List ℕ)) (last : List ℕ) → IsStream after groups stream
-    → IsStream after (groups ++ last ∷ []) (stream ++ last ∷ [])
-stream_more after groups stream last (inl all) = inl (all.0, ap (λ (l : List (List ℕ)). l ++ last ∷ []) all.1)
-stream_more after groups stream last (inr behind) =
+pub stream_more : (past after : ℕ) (groups stream : List (List ℕ)) (last : List ℕ) → IsStream past after groups stream
+    → IsStream past after (groups ++ last ∷ []) (stream ++ last ∷ [])
+stream_more past after groups stream last (inl all) =
+    inl (all.0, all.1, ap (λ (l : List (List ℕ)). l ++ last ∷ []) all.2)
+stream_more past after groups stream last (inr behind) =
     let b = behind.1 in
     inr (
       behind.0,
@@ -99,8 +101,10 @@ stream_more after groups stream last (inr behind) =
         sent = b.sent ++ last ∷ [];
         are = ap (λ (l : List (List ℕ)). l ++ last ∷ []) b.are
             ∙ ap (λ (l : List (List ℕ)). b.head ∷ l) (append_assoc b.left_out b.sent (last ∷ []));
-        before = b.before;
+        count = b.count;
         counted = b.counted;
+        before = b.before;
+        numbered = b.numbered;
         within = b.within;
         next = elim b.next [
           | inl same ↦ inl same
@@ -117,9 +121,9 @@ stream_more after groups stream last (inr behind) =
       },
     )
 
-module _ (after : ℕ) (groups : List (List ℕ)) (old mid new : Option (List ℕ)) where
+module _ (past after : ℕ) (groups : List (List ℕ)) (old mid new : Option (List ℕ)) where
   -- nothing more
-  pub ships_kept : Ships after groups old mid → Keeps mid new → Ships after groups old new
+  pub ships_kept : Ships past after groups old mid → Keeps mid new → Ships past after groups old new
   ships_kept ships kept = record {
     stream = ships.stream;
     is = ships.is;
@@ -130,11 +134,11 @@ module _ (after : ℕ) (groups : List (List ℕ)) (old mid new : Option (List �
   }
 
   -- one group more
-  pub ships_more : (last : List ℕ) → Ships after groups old mid → Appends mid new (block last)
-      → Ships after (groups ++ last ∷ []) old new
+  pub ships_more : (last : List ℕ) → Ships past after groups old mid → Appends mid new (block last)
+      → Ships past after (groups ++ last ∷ []) old new
   ships_more last ships written = record {
     stream = ships.stream ++ last ∷ [];
-    is = stream_more after groups ships.stream last ships.is;
+    is = stream_more past after groups ships.stream last ships.is;
     pieces = ships.pieces ++ group last ∷ [];
     are = groups_both ships.pieces (group last ∷ []) ∙ ap (λ (l : List (List ℕ)). l ++ last ∷ []) ships.are;
     first = begin_both ships.pieces (group last ∷ []) ships.first;
@@ -144,14 +148,14 @@ module _ (after : ℕ) (groups : List (List ℕ)) (old mid new : Option (List �
   }
 
   -- a part of one group more
-  pub ships_more_part : (last : List ℕ) → Ships after groups old mid → AppendsPart mid new (block last)
-      → ShipsPart after (groups ++ last ∷ []) old new
+  pub ships_more_part : (last : List ℕ) → Ships past after groups old mid → AppendsPart mid new (block last)
+      → ShipsPart past after (groups ++ last ∷ []) old new
   ships_more_part last ships part = record {
     front = groups ++ last ∷ [];
     more = [];
     taken = sym (append-nil (groups ++ last ∷ []));
     stream = ships.stream ++ last ∷ [];
-    is = stream_more after groups ships.stream last ships.is;
+    is = stream_more past after groups ships.stream last ships.is;
     pieces = ships.pieces ++ group last ∷ [];
     are = groups_both ships.pieces (group last ∷ []) ∙ ap (λ (l : List (List ℕ)). l ++ last ∷ []) ships.are;
     first = begin_both ships.pieces (group last ∷ []) ships.first;
@@ -166,7 +170,7 @@ module _ (after : ℕ) (groups : List (List ℕ)) (old mid new : Option (List �
   }
 
   -- a sign of life
-  pub ships_alive : Ships after groups old mid → Appends mid new (block sign_of_life) → Ships after groups old new
+  pub ships_alive : Ships past after groups old mid → Appends mid new (block sign_of_life) → Ships past after groups old new
   ships_alive ships written = record {
     stream = ships.stream;
     is = ships.is;
@@ -179,8 +183,8 @@ module _ (after : ℕ) (groups : List (List ℕ)) (old mid new : Option (List �
   }
 
   -- a part of a sign of life
-  pub ships_alive_part : Ships after groups old mid → AppendsPart mid new (block sign_of_life)
-      → ShipsPart after groups old new
+  pub ships_alive_part : Ships past after groups old mid → AppendsPart mid new (block sign_of_life)
+      → ShipsPart past after groups old new
   ships_alive_part ships part = record {
     front = groups;
     more = [];
@@ -201,9 +205,9 @@ module _ (after : ℕ) (groups : List (List ℕ)) (old mid new : Option (List �
   }
 
 -- what was shipped is a part, also of what was taken since
-pub ships_part : (after : ℕ) (groups more taken : List (List ℕ)) (old new : Option (List ℕ)) → Ships after groups old new
-    → taken ≡ groups ++ more → ShipsPart after taken old new
-ships_part after groups more taken old new ships are = record {
+pub ships_part : (past after : ℕ) (groups more taken : List (List ℕ)) (old new : Option (List ℕ)) → Ships past after groups old new
+    → taken ≡ groups ++ more → ShipsPart past after taken old new
+ships_part past after groups more taken old new ships are = record {
   front = groups;
   more = more;
   taken = are;
@@ -220,8 +224,8 @@ ships_part after groups more taken old new ships are = record {
   };
 }
 
-module _ (after : ℕ) (groups : List (List ℕ)) (bytes : List ℕ) (old new : Option (List ℕ))
-    (begins : BeginsStream after groups bytes) where
+module _ (past after : ℕ) (groups : List (List ℕ)) (bytes : List ℕ) (old new : Option (List ℕ))
+    (begins : BeginsStream past after groups bytes) where
   abbrev stream : List (List ℕ)
   stream = begins.first ∷ begins.others
 
@@ -229,7 +233,7 @@ module _ (after : ℕ) (groups : List (List ℕ)) (bytes : List ℕ) (old new : 
   same = begins.are ∙ sym (text_of_groups stream)
 
   -- what a stream begins with was written
-  pub ships_start : Appends old new bytes → Ships after groups old new
+  pub ships_start : Appends old new bytes → Ships past after groups old new
   ships_start written = record {
     stream = stream;
     is = begins.is;
@@ -240,7 +244,7 @@ module _ (after : ℕ) (groups : List (List ℕ)) (bytes : List ℕ) (old new : 
   }
 
   -- or a part of it
-  pub ships_start_part : AppendsPart old new bytes → ShipsPart after groups old new
+  pub ships_start_part : AppendsPart old new bytes → ShipsPart past after groups old new
   ships_start_part part = record {
     front = groups;
     more = [];
@@ -254,20 +258,21 @@ module _ (after : ℕ) (groups : List (List ℕ)) (bytes : List ℕ) (old new : 
   }
 
 -- a stream of all groups begins with the head
-pub begins_all : (head : List ℕ) (groups : List (List ℕ)) (bytes : List ℕ) → groups ≡ head ∷ [] → bytes ≡ [] ++ block head
-    → BeginsStream 0 groups bytes
-begins_all head groups bytes are is = record {
+pub begins_all : (past after : ℕ) (head : List ℕ) (groups : List (List ℕ)) (bytes : List ℕ) → past ≤ after → after ≡ 0
+    → groups ≡ head ∷ [] → bytes ≡ [] ++ block head → BeginsStream past after groups bytes
+begins_all past after head groups bytes few none are is = record {
   first = head;
   others = [];
-  is = inl (refl, sym are);
+  is = inl (omega (arith, few, none), none, sym are);
   are = is ∙ sym (append-nil (block head));
 }
 
 -- one behind a commit begins with the head and a mark, where no group follows
-pub begins_marked : (after : ℕ) (head : List ℕ) (old groups out : List (List ℕ)) (commits : ℕ) (bytes : List ℕ)
-    → 0 < after → old ≡ head ∷ [] → groups ≡ old ++ out → HaveCommits out commits → commits ≡ after
-    → bytes ≡ ([] ++ block head) ++ block (mark commits) → BeginsStream after groups bytes
-begins_marked after head old groups out commits bytes asked was are have all is = record {
+pub begins_marked : (past after : ℕ) (head : List ℕ) (old groups out : List (List ℕ)) (count commits : ℕ)
+    (bytes : List ℕ) → 0 < after → old ≡ head ∷ [] → groups ≡ old ++ out → HaveCommits out count
+    → commits ≡ past + count → commits ≡ after → bytes ≡ ([] ++ block head) ++ block (mark commits)
+    → BeginsStream past after groups bytes
+begins_marked past after head old groups out count commits bytes asked was are have numbered all is = record {
   first = head;
   others = mark commits ∷ [];
   is = inr (
@@ -277,8 +282,10 @@ begins_marked after head old groups out commits bytes asked was are have all is 
       left_out = out;
       sent = [];
       are = are ∙ ap (λ (l : List (List ℕ)). l ++ out) was ∙ ap (λ (l : List (List ℕ)). head ∷ l) (sym (append-nil out));
-      before = commits;
+      count = count;
       counted = have;
+      before = commits;
+      numbered = numbered;
       within = omega (arith, all);
       next = inl all;
       stream_is = refl;
@@ -288,11 +295,11 @@ begins_marked after head old groups out commits bytes asked was are have all is 
 }
 
 -- and the group that follows
-pub begins_behind : (after : ℕ) (head : List ℕ) (old groups out : List (List ℕ)) (commits : ℕ) (next bytes : List ℕ)
-    → 0 < after → old ≡ head ∷ [] → groups ≡ old ++ (out ++ next ∷ []) → HaveCommits out commits → commits ≤ after
-    → PassesBeyond after commits next → bytes ≡ (([] ++ block head) ++ block (mark commits)) ++ block next
-    → BeginsStream after groups bytes
-begins_behind after head old groups out commits next bytes asked was are have within passes is = record {
+pub begins_behind : (past after : ℕ) (head : List ℕ) (old groups out : List (List ℕ)) (count commits : ℕ)
+    (next bytes : List ℕ) → 0 < after → old ≡ head ∷ [] → groups ≡ old ++ (out ++ next ∷ []) → HaveCommits out count
+    → commits ≡ past + count → commits ≤ after → PassesBeyond after commits next
+    → bytes ≡ (([] ++ block head) ++ block (mark commits)) ++ block next → BeginsStream past after groups bytes
+begins_behind past after head old groups out count commits next bytes asked was are have numbered within passes is = record {
   first = head;
   others = mark commits ∷ next ∷ [];
   is = inr (
@@ -302,8 +309,10 @@ begins_behind after head old groups out commits next bytes asked was are have wi
       left_out = out;
       sent = next ∷ [];
       are = are ∙ ap (λ (l : List (List ℕ)). l ++ (out ++ next ∷ [])) was;
-      before = commits;
+      count = count;
       counted = have;
+      before = commits;
+      numbered = numbered;
       within = within;
       next = inr (record {
         first = next;

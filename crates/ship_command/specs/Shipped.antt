@@ -1,5 +1,5 @@
 -- What was shipped of a journal's file, and why it ends.
-use Rattle.std.specs.Prelude.{◌≡◌, ◌≢◌, ◌⊎◌, ◌<◌, ℕ, List, [], ◌∷◌, ◌++◌, length, Option}
+use Rattle.std.specs.Prelude.{◌≡◌, ◌≢◌, ◌⊎◌, ◌<◌, ℕ, ◌+◌, List, [], ◌∷◌, ◌++◌, length, Option}
 use Rattle.journal_opening.specs.Kept.{IsKnown}
 use Rattle.journal_opening.specs.declared.fault.OpeningFault.TheVariants as opening
 use Rattle.journal.specs.Groups.{recovered}
@@ -15,12 +15,13 @@ use Rattle.ship_command.specs.declared.fault.ShipRefusal.{ShipRefusal}
 use Rattle.ship_command.specs.declared.fault.ShipRefusal.TheVariants as refusal
 
 -- all of these groups were shipped; where there are none, nothing was
-abbrev pub ShipsAll : ℕ → List (List ℕ) → Option (List ℕ) → Option (List ℕ) → Type 0
-ShipsAll after groups old new = Ships after groups old new ⊎ ((groups ≡ []) × (after ≡ 0) × ShipsNothing old new)
+abbrev pub ShipsAll : ℕ → ℕ → List (List ℕ) → Option (List ℕ) → Option (List ℕ) → Type 0
+ShipsAll past after groups old new =
+    Ships past after groups old new ⊎ ((groups ≡ []) × (after ≡ past) × ShipsNothing old new)
 
 -- whatever ended it: no more than a beginning of a stream of the groups that were taken
-abbrev pub ShipsNoMore : ℕ → List (List ℕ) → Option (List ℕ) → Option (List ℕ) → Type 0
-ShipsNoMore after groups old new = ShipsPart after groups old new ⊎ ShipsNothing old new
+abbrev pub ShipsNoMore : ℕ → ℕ → List (List ℕ) → Option (List ℕ) → Option (List ℕ) → Type 0
+ShipsNoMore past after groups old new = ShipsPart past after groups old new ⊎ ShipsNothing old new
 
 -- no group, and bytes that do not begin with a closed gate
 pub record HasOtherGate (groups : List (List ℕ)) (behind : List ℕ) : Type 0 where
@@ -51,28 +52,28 @@ IsGroupsFault groups behind fault =
     (fault ≡ OutOfMemory) ⊎ (((fault ≡ NotAJournal) × HasOtherGate groups behind)
     ⊎ (EndsWithNoHead groups fault ⊎ EndsWithNoGroup groups fault))
 
--- the file stands for these groups, and they have fewer commits than are to be left out
-pub record HasTooFew (after : ℕ) (file : List ℕ) (groups : List (List ℕ)) : Type 0 where
+-- the file stands for these groups, and with their commits the history has fewer than are to be left out
+pub record HasTooFew (past after : ℕ) (file : List ℕ) (groups : List (List ℕ)) : Type 0 where
   pub all : recovered file ≡ groups
   pub count : ℕ
   pub counted : (groups ≡ []) × (count ≡ 0)
       ⊎ ((head : List ℕ) × (others : List (List ℕ)) × (groups ≡ head ∷ others) × HaveCommits others count)
-  pub fewer : count < after
+  pub fewer : past + count < after
 
 -- what a fault tells of a file, as far as it was read, of the groups that were taken of it, and of the bytes behind
-abbrev pub TellsShipFault : ℕ → List ℕ → List (List ℕ) → List ℕ → JobFault ShipRefusal → Type 0
-TellsShipFault after file groups behind (job.Program why) = status_of why ≡ 4
-TellsShipFault after file groups behind (job.Found (refusal.Journal (opening.Kept (kept.Disk error)))) = Unit {0}
-TellsShipFault after file groups behind (job.Found (refusal.Journal (opening.Kept (kept.Journal fault)))) =
+abbrev pub TellsShipFault : ℕ → ℕ → List ℕ → List (List ℕ) → List ℕ → JobFault ShipRefusal → Type 0
+TellsShipFault past after file groups behind (job.Program why) = status_of why ≡ 4
+TellsShipFault past after file groups behind (job.Found (refusal.Journal (opening.Kept (kept.Disk error)))) = Unit {0}
+TellsShipFault past after file groups behind (job.Found (refusal.Journal (opening.Kept (kept.Journal fault)))) =
     IsGroupsFault groups behind fault
-TellsShipFault after file groups behind (job.Found (refusal.Journal (opening.File error))) = ⊥
-TellsShipFault after file groups behind (job.Found (refusal.Journal (opening.HasBytes path))) = ⊥
-TellsShipFault after file groups behind (job.Found (refusal.Journal (opening.Replay why))) = ⊥
-TellsShipFault after file groups behind (job.Found (refusal.Commit why)) =
-    (why.number ≡ after) × HasTooFew after file groups
+TellsShipFault past after file groups behind (job.Found (refusal.Journal (opening.File error))) = ⊥
+TellsShipFault past after file groups behind (job.Found (refusal.Journal (opening.HasBytes path))) = ⊥
+TellsShipFault past after file groups behind (job.Found (refusal.Journal (opening.Replay why))) = ⊥
+TellsShipFault past after file groups behind (job.Found (refusal.Commit why)) =
+    (why.number ≡ after) × HasTooFew past after file groups
 
 -- the groups that the file stands for were shipped. The file is the known one, where one is known
-pub record ShipsFile (after : ℕ) (known : Option (List ℕ)) (old new : Option (List ℕ)) : Type 0 where
+pub record ShipsFile (past after : ℕ) (known : Option (List ℕ)) (old new : Option (List ℕ)) : Type 0 where
   pub file : List ℕ
   pub is_file : IsKnown known file
-  pub shipped : ShipsAll after (recovered file) old new
+  pub shipped : ShipsAll past after (recovered file) old new

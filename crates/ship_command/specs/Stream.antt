@@ -35,23 +35,25 @@ pub record GoesBeyond (after before : ℕ) (groups : List (List ℕ)) : Type 0 w
   pub spells : IsGroupOf commits first
   pub beyond : after < before + length commits
 
--- a stream of groups behind a commit: the head, a mark that tells how many commits are left out, and the groups behind
--- these, all but those that end with that commit or before
-pub record IsBehind (after : ℕ) (groups stream : List (List ℕ)) : Type 0 where
+-- a stream of groups behind a commit: the head, a mark that tells how many commits of the history come before, and the
+-- groups behind these, all but those that end with that commit or before. So many commits come before all groups
+pub record IsBehind (past after : ℕ) (groups stream : List (List ℕ)) : Type 0 where
   pub head : List ℕ
   pub left_out : List (List ℕ)
   pub sent : List (List ℕ)
   pub are : groups ≡ head ∷ left_out ++ sent
+  pub count : ℕ
+  pub counted : HaveCommits left_out count
   pub before : ℕ
-  pub counted : HaveCommits left_out before
+  pub numbered : before ≡ past + count
   pub within : before ≤ after
   pub next : (before ≡ after) ⊎ GoesBeyond after before sent
   pub stream_is : stream ≡ head ∷ mark before ∷ sent
 
--- a stream of groups: all of them, or those behind a commit
-abbrev pub IsStream : ℕ → List (List ℕ) → List (List ℕ) → Type 0
-IsStream after groups stream =
-    ((after ≡ 0) × (stream ≡ groups)) ⊎ ((0 < after) × IsBehind after groups stream)
+-- a stream of groups, before which so many commits come: all of them, where there are none, or those behind a commit
+abbrev pub IsStream : ℕ → ℕ → List (List ℕ) → List (List ℕ) → Type 0
+IsStream past after groups stream =
+    ((past ≡ 0) × (after ≡ 0) × (stream ≡ groups)) ⊎ ((0 < after) × IsBehind past after groups stream)
 
 -- what is written: a group, or a sign of life
 pub data Piece : Type 0 where
@@ -79,31 +81,31 @@ begin_with_group (group bytes ∷ pieces) = true
 begin_with_group (alive ∷ pieces) = false
 
 -- the bytes of a stream of these groups were written, with signs of life behind the first group
-pub record Ships (after : ℕ) (groups : List (List ℕ)) (old new : Option (List ℕ)) : Type 0 where
+pub record Ships (past after : ℕ) (groups : List (List ℕ)) (old new : Option (List ℕ)) : Type 0 where
   pub stream : List (List ℕ)
-  pub is : IsStream after groups stream
+  pub is : IsStream past after groups stream
   pub pieces : List Piece
   pub are : groups_of pieces ≡ stream
   pub first : begin_with_group pieces ≡ true
   pub written : Appends old new (text_of pieces)
 
 -- a part of that was written, from its beginning on, of a stream of the first of these groups
-pub record ShipsPart (after : ℕ) (groups : List (List ℕ)) (old new : Option (List ℕ)) : Type 0 where
+pub record ShipsPart (past after : ℕ) (groups : List (List ℕ)) (old new : Option (List ℕ)) : Type 0 where
   pub front : List (List ℕ)
   pub more : List (List ℕ)
   pub taken : groups ≡ front ++ more
   pub stream : List (List ℕ)
-  pub is : IsStream after front stream
+  pub is : IsStream past after front stream
   pub pieces : List Piece
   pub are : groups_of pieces ≡ stream
   pub first : begin_with_group pieces ≡ true
   pub written : AppendsPart old new (text_of pieces)
 
 -- the bytes of a stream of these groups, which has some
-pub record BeginsStream (after : ℕ) (groups : List (List ℕ)) (bytes : List ℕ) : Type 0 where
+pub record BeginsStream (past after : ℕ) (groups : List (List ℕ)) (bytes : List ℕ) : Type 0 where
   pub first : List ℕ
   pub others : List (List ℕ)
-  pub is : IsStream after groups (first ∷ others)
+  pub is : IsStream past after groups (first ∷ others)
   pub are : bytes ≡ blocks (first ∷ others)
 
 -- nothing was written

@@ -16,10 +16,13 @@ abbrev pub PassesBeyond : ℕ → ℕ → List ℕ → Type 0
 PassesBeyond after before group =
     (commits : List CommitRecord) × IsGroupOf commits group × (after < before + length commits)
 
--- these groups were left out, which end with a commit or before; the next one does not, where it was taken
-pub record IsLeftOut (after : ℕ) (old new : List (List ℕ)) (left : LeftOut) : Type 0 where
+-- these groups were left out, which end with a commit or before; the next one does not, where it was taken. So many
+-- commits come before them
+pub record IsLeftOut (past after : ℕ) (old new : List (List ℕ)) (left : LeftOut) : Type 0 where
   pub out : List (List ℕ)
-  pub counted : HaveCommits out left.commits
+  pub count : ℕ
+  pub counted : HaveCommits out count
+  pub numbered : left.commits ≡ past + count
   pub within : left.commits ≤ after
   pub next : MatchOption left.next
       ((new ≡ old ++ out) × (left.commits ≡ after))
@@ -34,8 +37,10 @@ abbrev pub IsHeadAlone : List (List ℕ) → Type 0
 IsHeadAlone groups = (head : List ℕ) × (groups ≡ head ∷ [])
 
 -- so far these were left out, which end with a commit or before
-pub record IsLeavingOut (after : ℕ) (old new : List (List ℕ)) (commits : ℕ) : Type 0 where
+pub record IsLeavingOut (past after : ℕ) (old new : List (List ℕ)) (commits : ℕ) : Type 0 where
   pub out : List (List ℕ)
-  pub counted : HaveCommits out commits
+  pub count : ℕ
+  pub counted : HaveCommits out count
+  pub numbered : commits ≡ past + count
   pub within : commits ≤ after
   pub taken : new ≡ old ++ out

@@ -1,6 +1,6 @@
 //! `ship`: a journal's groups on standard output, and the status that it ends with.
 
-ghost use Rattle.std.specs.Prelude.{◌≡◌, ◌≢◌};
+ghost use Rattle.std.specs.Prelude.{◌≡◌, ◌≢◌, ◌≤◌};
 ghost use Rattle.ship_command.specs.Shipped.{ShipsFile};
 
 use crate::fault::ShipFault;
@@ -12,6 +12,7 @@ use crate::taking::ShippedFile;
 use journal_opening::OpeningFault;
 use ssb_files::JobFault::Found;
 use std::alloc::Global;
+use std::cell::Cell;
 use std::io::Write;
 use std::time::Clock;
 
@@ -27,7 +28,8 @@ pub fn run_ship<C: Clock, P: OpensGrowing, W: Write, E: Write>(
     out: &mut W,
     err: &mut E,
 ) -> u8
-    ensures shipped { result ≡ 0 → ShipsFile shipment.after (P.holds place.now) (W.contents out.old)
+    requires { shipment.past ≤ shipment.after }
+    ensures shipped { result ≡ 0 → ShipsFile shipment.past shipment.after (P.holds place.now) (W.contents out.old)
         (W.contents out.new) }
     ensures others { result ≢ 0 → result ≢ 1 → result ≡ 4 }
 {
@@ -38,7 +40,8 @@ pub fn run_ship<C: Clock, P: OpensGrowing, W: Write, E: Write>(
             return fault.tell(err);
         },
     };
-    let mut file = ShippedFile::new(alloc, file);
+    let passed = Cell::new(shipment.past);
+    let mut file = ShippedFile::new(alloc, file, &passed);
     match ship(clock, alloc, &mut file, shipment, out) {
         Ok(()) => 0,
         Err(fault) => {

@@ -1,6 +1,6 @@
 //! The groups of a journal's file, as they are taken of it: each is looked at before it is handed on.
 
-ghost use Rattle.std.specs.Prelude.{◌≡◌, ◌<◌, ◌^◌, ◌++◌, [], ◌∷◌, ℕ, List, length, IfOk, IfErr, MatchOption, OnOk, OnErr};
+ghost use Rattle.std.specs.Prelude.{◌≡◌, ◌<◌, ◌≤◌, ◌^◌, ◌++◌, [], ◌∷◌, ℕ, List, length, IfOk, IfErr, MatchOption, OnOk, OnErr};
 ghost use Rattle.journal.specs.Groups.{recovered};
 ghost use Rattle.journal_opening.specs.declared.fault.OpeningFault.TheVariants as opening;
 ghost use Rattle.ssb_files.specs.declared.job.JobFault.TheVariants as job;
@@ -16,6 +16,7 @@ use journal_opening::{NoSuchCommit, OpeningFault};
 use ssb_files::JobFault::Found;
 use ssb_journal::{JournalFault, JournalOpenFault, commits_of_group, form_of_head};
 use std::alloc::Global;
+use std::cell::Cell;
 
 /// A group of commits, and how many these are.
 #[derive(Drop)]
@@ -24,7 +25,8 @@ pub struct CountedGroup {
     pub commits: u64,
 }
 
-/// How many commits are in the groups that were left out, and the group behind them, where it was taken.
+/// How many commits of the history come before the groups that are not left out, and the first of these, where it was
+/// taken.
 #[derive(Drop)]
 pub struct LeftOut {
     pub commits: u64,
@@ -33,16 +35,19 @@ pub struct LeftOut {
 
 /// A journal's file that grows, and how many groups were taken of it. The first, the head, has number 0.
 #[derive(Drop)]
-pub struct ShippedFile<F: GrowingFile> {
+pub struct ShippedFile<'a, F: GrowingFile> {
     pub followed: Followed<F>,
     pub taken: u64,
+    /// How many commits of the history come before what is taken next, for a file of several parts: by it, it knows
+    /// which one follows.
+    pub passed: &'a Cell<u64>,
     pub ghost counted: { taken ≡ length followed.groups },
 }
 
 // What is told of a file whose disk fails, or for which memory ran out.
 fn disk_fault(error: DiskError) -> ShipFault
-    ensures { (after : ℕ) (file : List ℕ) (groups : List (List ℕ)) (behind : List ℕ)
-        → TellsShipFault after file groups behind result }
+    ensures { (past after : ℕ) (file : List ℕ) (groups : List (List ℕ)) (behind : List ℕ)
+        → TellsShipFault past after file groups behind result }
 {
     Found(Journal(OpeningFault::Kept(JournalOpenFault::Disk(error))))
 }
@@ -54,9 +59,9 @@ fn journal_fault(fault: JournalFault) -> ShipFault
     Found(Journal(OpeningFault::Kept(JournalOpenFault::Journal(fault))))
 }
 
-impl<F: GrowingFile> ShippedFile<F> {
-    /// A file of which nothing was read.
-    pub fn new(alloc: Global, file: F) -> ShippedFile<F>
+impl<'a, F: GrowingFile> ShippedFile<'a, F> {
+    /// A file of which nothing was read, and how many commits of the history come before it.
+    pub fn new(alloc: Global, file: F, passed: &'a Cell<u64>) -> ShippedFile<'a, F>
         requires { F.seen file ≡ [] }
         ensures groups { result.followed.groups ≡ [] }
         ensures known { F.holds result.followed.file ≡ F.holds file }
@@ -64,6 +69,7 @@ impl<F: GrowingFile> ShippedFile<F> {
         ShippedFile {
             followed: Followed::new(alloc, file),
             taken: 0,
+            passed,
         }
     }
 
@@ -77,8 +83,8 @@ impl<F: GrowingFile> ShippedFile<F> {
         ensures none { OnErr result (self.new.followed.groups ≡ self.old.followed.groups) }
         ensures few { length self.new.followed.groups < 2 ^ 60 }
         ensures known { F.holds self.new.followed.file ≡ F.holds self.old.followed.file }
-        ensures fault { IfErr result (λ fault. (after : ℕ) → TellsShipFault after (F.seen self.new.followed.file)
-            self.new.followed.groups self.new.followed.rest fault) }
+        ensures fault { IfErr result (λ fault. (past after : ℕ) → TellsShipFault past after
+            (F.seen self.new.followed.file) self.new.followed.groups self.new.followed.rest fault) }
     {
         self.followed.soundness();
         let next = self.followed.next_group(alloc);
@@ -101,8 +107,8 @@ impl<F: GrowingFile> ShippedFile<F> {
             × F.is_ended self.new.followed.file)
             (λ head. self.new.followed.groups ≡ head.items ∷ [])) }
         ensures known { F.holds self.new.followed.file ≡ F.holds self.old.followed.file }
-        ensures fault { IfErr result (λ fault. (after : ℕ) → TellsShipFault after (F.seen self.new.followed.file)
-            self.new.followed.groups self.new.followed.rest fault) }
+        ensures fault { IfErr result (λ fault. (past after : ℕ) → TellsShipFault past after
+            (F.seen self.new.followed.file) self.new.followed.groups self.new.followed.rest fault) }
     {
         let Some(group) = self.take(alloc)? else {
             let rest = self.followed.rest();
@@ -129,8 +135,8 @@ impl<F: GrowingFile> ShippedFile<F> {
         ensures grown { HaveGrown self.old.followed.groups self.new.followed.groups }
         ensures few { length self.new.followed.groups < 2 ^ 60 }
         ensures known { F.holds self.new.followed.file ≡ F.holds self.old.followed.file }
-        ensures fault { IfErr result (λ fault. (after : ℕ) → TellsShipFault after (F.seen self.new.followed.file)
-            self.new.followed.groups self.new.followed.rest fault) }
+        ensures fault { IfErr result (λ fault. (past after : ℕ) → TellsShipFault past after
+            (F.seen self.new.followed.file) self.new.followed.groups self.new.followed.rest fault) }
     {
         let number = self.taken;
         let Some(group) = self.take(alloc)? else {
@@ -139,23 +145,30 @@ impl<F: GrowingFile> ShippedFile<F> {
         match commits_of_group(alloc, number, &group) {
             Ok(spelled) => {
                 let commits = spelled.len() as u64;
+                self.passed.set(self.passed.get().saturating_add(commits));
                 Ok(Some(CountedGroup { group, commits }))
             },
             Err(fault) => Err(journal_fault(fault)),
         }
     }
 
-    /// Leaves out the groups behind the head that end with this commit or before. Where the file has fewer commits, that
-    /// is told.
-    pub(crate) fn leave_out(&mut self, alloc: Global, after: u64) -> Result<LeftOut, ShipFault>
-        requires { IsHeadAlone self.old.followed.groups }
-        ensures left { IfOk result (IsLeftOut after self.old.followed.groups self.new.followed.groups) }
+    /// Leaves out the groups behind the head that end with this commit of the history or before; so many commits come
+    /// before the file's. Where the history has fewer commits, that is told.
+    pub(crate) fn leave_out(
+        &mut self,
+        alloc: Global,
+        past: u64,
+        after: u64,
+    ) -> Result<LeftOut, ShipFault>
+        requires head { IsHeadAlone self.old.followed.groups }
+        requires behind { past ≤ after }
+        ensures left { IfOk result (IsLeftOut past after self.old.followed.groups self.new.followed.groups) }
         ensures grown { HaveGrown self.old.followed.groups self.new.followed.groups }
         ensures known { F.holds self.new.followed.file ≡ F.holds self.old.followed.file }
-        ensures fault { IfErr result (TellsShipFault after (F.seen self.new.followed.file)
+        ensures fault { IfErr result (TellsShipFault past after (F.seen self.new.followed.file)
             self.new.followed.groups self.new.followed.rest) }
     {
-        let mut commits = 0u64;
+        let mut commits = past;
         loop {
             let Some(next) = self.next(alloc)? else {
                 if commits < after {

@@ -1,4 +1,5 @@
 pub mod Chain
+pub mod Reads
 pub mod Served
 pub mod Status
 pub mod Texts

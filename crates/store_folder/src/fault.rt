@@ -10,7 +10,7 @@ use std::io::{self, ErrorKind};
 use thiserror::Error;
 
 /// Why a folder is not served as a store. Nothing was written.
-#[derive(Debug, Drop, Error)]
+#[derive(Clone, Debug, Drop, Error)]
 pub enum StoreFault {
     /// There are no whole tables in it.
     #[error("87 NoStore")]

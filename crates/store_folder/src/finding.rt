@@ -1,6 +1,6 @@
 //! What a start finds in a store.
 
-ghost use Rattle.std.specs.Prelude.{◌++◌, ◌∷◌, []};
+ghost use Rattle.std.specs.Prelude.{◌≡◌, ◌≤◌, ◌++◌, ◌∷◌, [], IfOk, IfSome};
 ghost use Rattle.store_folder.specs.Chain.{IsChainFrom};
 
 use crate::fault::StoreFault;
@@ -74,7 +74,9 @@ impl FoundStore {
     }
 
     /// After how many commits of the store the tables are.
-    pub fn after(&self) -> u64 {
+    pub fn after(&self) -> u64
+        ensures { result ≡ self.now.sizes.after }
+    {
         self.sizes.after
     }
 
@@ -95,7 +97,9 @@ fn read_sizes<F: Files>(
     alloc: Global,
     folder: &str,
     after: u64,
-) -> Result<Option<Sizes>, StoreFault> {
+) -> Result<Option<Sizes>, StoreFault>
+    ensures { IfOk result (λ found. IfSome found (λ sizes. sizes.after ≡ after)) }
+{
     let path = sizes_path(alloc, folder, after)?;
     let mut bytes = Vec::new(alloc);
     let read = match fs::open(files, path.as_str()) {
@@ -119,7 +123,9 @@ fn newest<F: Files>(
     folder: &str,
     tables: &[u64],
     most: u64,
-) -> Result<Sizes, StoreFault> {
+) -> Result<Sizes, StoreFault>
+    ensures { IfOk result (λ sizes. sizes.after ≤ most) }
+{
     for after in tables.iter().rev() {
         if *after <= most {
             if let Some(sizes) = read_sizes(files, alloc, folder, *after)? {
@@ -137,7 +143,9 @@ fn newest_up_to<F: Files>(
     folder: &str,
     tables: &[u64],
     number: u64,
-) -> Result<Sizes, StoreFault> {
+) -> Result<Sizes, StoreFault>
+    ensures { IfOk result (λ sizes. sizes.after ≤ number) }
+{
     match newest(files, alloc, folder, tables, number) {
         Err(StoreFault::NoStore) => {}
         result => return result,
@@ -176,6 +184,7 @@ fn chain<F: Files>(
 ) -> Result<FoundStore, StoreFault>
 where
     F::File: JournalFile,
+    ensures { IfOk result (λ found. found.sizes ≡ sizes) }
 {
     let first = sizes.after;
     if !segments.contains(&first) {
@@ -209,6 +218,7 @@ fn find_once<F: Files>(
 ) -> Result<FoundStore, StoreFault>
 where
     F::File: JournalFile,
+    ensures { IfOk result (λ found. IfSome at (λ number. found.sizes.after ≤ number)) }
 {
     let numbers = match list_store(files, alloc, folder) {
         Ok(numbers) => numbers,
@@ -234,6 +244,7 @@ pub fn find_store<F: Files>(
 ) -> Result<FoundStore, StoreFault>
 where
     F::File: JournalFile,
+    ensures { IfOk result (λ found. IfSome at (λ number. found.sizes.after ≤ number)) }
 {
     // A checkpoint may take away what was listed: newer tables are there then.
     for _ in 0..MORE_LOOKS {

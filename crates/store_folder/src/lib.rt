@@ -18,21 +18,30 @@
 //! where its own has as many commits as it may have: the closed gate at the end of the old one is the gate that the new
 //! one begins with.
 //!
+//! A [`GrowingStore`] is the same file as it grows under a server, for a reader without a lock (`journal`'s
+//! `GrowingFile`): at the end of a segment it goes on in the one that has groups and begins behind as many commits as
+//! its reader has counted. A checkpoint may take away the segment that is read, since its file is open, but not the one
+//! behind it: that is told (`88 Gap`), and no commit is left out.
+//!
 //! A turn that is cut off leaves a file without a whole head, or a segment without commits. Neither is ever written
 //! again: a later segment has a greater number, since a server goes on in the segment before.
 //!
 //! What no contract states, and a reader of `src/store_file` has to hold for true: a [`StoreFile`] is such a file, and
 //! keeps what a crash may leave of one: the old segment is on the disk before the next one is made, and that, with its
 //! name, before anything is written into it. Nobody else writes the last segment: who holds the lock looks again which
-//! one that is.
+//! one that is. A [`GrowingStore`] (`src/segment_reader`) is such a file as well, to which groups are added alone.
 #![tactic(auto)]
 
 mod fault;
 mod file_name;
 mod finding;
+mod growing_store;
 mod place;
+mod placed_segment;
+mod read_notes;
 mod segment;
 mod segment_head;
+mod segment_reader;
 mod served;
 mod sizes;
 mod store_file;
@@ -41,6 +50,7 @@ mod turns;
 pub use fault::StoreFault;
 pub use file_name::{checkpoint_lock_path, lock_path, segment_path, sizes_path, tables_path};
 pub use finding::{FoundStore, StoreNumbers, find_store, list_store};
+pub use growing_store::GrowingStore;
 pub use place::{StorePlace, StoreUse};
 pub use segment::{OpenSegment, make_segment};
 pub use segment_head::SegmentHead;

@@ -6,8 +6,9 @@ ghost use Rattle.journal_opening.specs.declared.start.JournalStart.TheVariants.{
 use crate::fault::StoreFault;
 use crate::file_name::{lock_path, segment_path};
 use crate::finding::{FoundStore, find_store};
+use crate::placed_segment::PlacedSegment;
 use crate::segment::{OpenSegment, open_segment};
-use crate::store_file::{ClosedSegment, LastSegment, SegmentRule, StoreFile};
+use crate::store_file::{ClosedSegment, SegmentRule, StoreFile};
 use crate::turns::SegmentTurns;
 use journal::{KeepsTorn, open_block};
 use journal_file::{FileDisk, JournalFile, OpenError, TornFile, UnreadFile, keep_torn};
@@ -134,12 +135,12 @@ where
     }
 
     // The last segment, whose groups stand from this place on, where it is not left out.
-    fn last(&self, begin: u64) -> io::Result<Option<LastSegment<F::File>>> {
+    fn last(&self, begin: u64) -> io::Result<Option<PlacedSegment<F::File>>> {
         if self.used == StoreUse::Folding {
             return Ok(None);
         }
         let segment = self.segment(self.found.last(), self.used == StoreUse::Serving)?;
-        Ok(Some(LastSegment::new(segment, begin)))
+        Ok(Some(PlacedSegment::new(segment, begin)))
     }
 
     // Where segments are made.

@@ -7,7 +7,7 @@ use journal::CLOSED;
 use journal_file::JournalFile;
 use std::alloc::Global;
 use std::fs::{self, OpenFile, OpenOptions};
-use std::io;
+use std::io::{self, ErrorKind};
 use std::os::unix::fs::FileExt;
 use std::rt::Files;
 
@@ -59,18 +59,16 @@ fn first_bytes<O: FileExt>(alloc: Global, file: &O) -> io::Result<Vec<u8>> {
     Ok(bytes)
 }
 
-// What a file that was opened is, by its first bytes. It is synced once these are read, so that a group that counts by
-// them is on the disk.
-fn look<O: OpenFile + JournalFile + Drop>(
+// What a file that was opened is, by its first bytes, where it has so many.
+fn judge<O: Drop>(
     alloc: Global,
     file: O,
+    bytes: &[u8],
+    size: u64,
     number: u64,
     of: &[u8],
 ) -> io::Result<Looked<O>> {
-    let bytes = first_bytes(alloc, &file)?;
-    file.sync_all()?;
-    let size = file.metadata()?.len();
-    let Some((head, length)) = SegmentHead::read(alloc, &bytes)? else {
+    let Some((head, length)) = SegmentHead::read(alloc, bytes)? else {
         if size <= most_before_groups(alloc, number, of)? {
             return Ok(Looked::CutOff);
         }
@@ -89,6 +87,39 @@ fn look<O: OpenFile + JournalFile + Drop>(
         before,
         has_groups,
     }))
+}
+
+// What a file that was opened is. It is synced once its first bytes are read, so that a group that counts by them is on
+// the disk.
+fn look<O: OpenFile + JournalFile + Drop>(
+    alloc: Global,
+    file: O,
+    number: u64,
+    of: &[u8],
+) -> io::Result<Looked<O>> {
+    let bytes = first_bytes(alloc, &file)?;
+    file.sync_all()?;
+    let size = file.metadata()?.len();
+    judge(alloc, file, &bytes, size, number, of)
+}
+
+// The same, where a file is synced only if it has commits: for looks that come each few milliseconds.
+fn look_often<O: OpenFile + JournalFile + Drop>(
+    alloc: Global,
+    file: O,
+    number: u64,
+    of: &[u8],
+) -> io::Result<Looked<O>> {
+    // A file that is being made has no more than this when its first bytes are read.
+    let size = file.metadata()?.len();
+    let bytes = first_bytes(alloc, &file)?;
+    let looked = judge(alloc, file, &bytes, size, number, of)?;
+    if let Looked::Segment(segment) = &looked {
+        if segment.has_groups {
+            segment.file.sync_all()?;
+        }
+    }
+    Ok(looked)
 }
 
 /// Opens the segment of this number of a store, to be written where that is asked for; none where a turn was cut off as
@@ -136,6 +167,31 @@ where
     match open_any(files, alloc, folder, number, of, is_written)? {
         Some(segment) => Ok(segment),
         None => Err(StoreFault::Damaged(segment_path(alloc, folder, number)?)),
+    }
+}
+
+/// Opens a segment that has commits, to be read; none where it has none yet, or a checkpoint has taken it away.
+pub(crate) fn open_later<F: Files>(
+    files: &F,
+    alloc: Global,
+    folder: &str,
+    number: u64,
+    of: &[u8],
+) -> Result<Option<OpenSegment<F::File>>, StoreFault>
+where
+    F::File: JournalFile,
+{
+    let path = segment_path(alloc, folder, number)?;
+    let file = match fs::open(files, path.as_str()) {
+        Ok(file) => file,
+        Err(error) if error.kind() == ErrorKind::NotFound => return Ok(None),
+        Err(error) => return Err(StoreFault::of_path(path, error)),
+    };
+    match look_often(alloc, file, number, of) {
+        Ok(Looked::Segment(segment)) if segment.has_groups => Ok(Some(segment)),
+        Ok(Looked::Other) => Err(StoreFault::Damaged(path)),
+        Ok(_) => Ok(None),
+        Err(error) => Err(StoreFault::of_path(path, error)),
     }
 }
 

@@ -1,16 +1,16 @@
 //! The commits behind tables of a store as one file.
 
 ghost use Rattle.std.specs.Io.{ReadsAtMost};
-ghost use Rattle.std.specs.Prelude.{◌≤◌, length};
 
 use crate::file_name::segment_path;
-use crate::segment::{OpenSegment, make_segment};
+use crate::placed_segment::{PlacedSegment, own_place, read_head, refused};
+use crate::segment::make_segment;
 use crate::segment_head::SegmentHead;
 use crate::turns::SegmentTurns;
 use journal_file::{JournalFile, OpenError};
 use std::alloc::{AllocError, Global};
 use std::fs::{self, Metadata, OpenFile};
-use std::io::{self, ErrorKind, Read};
+use std::io::{self, Read};
 use std::os::unix::fs::FileExt;
 use std::rt::Files;
 
@@ -21,41 +21,6 @@ pub(crate) struct ClosedSegment {
     pub(crate) head: u64,
     pub(crate) begin: u64,
     pub(crate) end: u64,
-}
-
-/// The last segment, which is written: how long its own head is, and from where on its groups stand in the one file.
-#[derive(Drop)]
-pub(crate) struct LastSegment<O: Drop> {
-    file: O,
-    head: u64,
-    begin: u64,
-}
-
-// Where a place of the one file is in a segment, whose groups stand there behind `begin` and here behind a head.
-fn own_place(head: u64, begin: u64, place: u64) -> Option<u64> {
-    head.checked_add(place.checked_sub(begin)?)
-}
-
-impl<O: Drop> LastSegment<O> {
-    /// A segment whose groups stand from this place on.
-    pub(crate) fn new(segment: OpenSegment<O>, begin: u64) -> LastSegment<O> {
-        let OpenSegment {
-            file,
-            head,
-            size: _,
-            before: _,
-            has_groups: _,
-        } = segment;
-        LastSegment { file, head, begin }
-    }
-
-    // Where a place is in it; the segments before it are not written any more.
-    fn own(&self, place: u64) -> io::Result<u64> {
-        match own_place(self.head, self.begin, place) {
-            Some(own) => Ok(own),
-            None => Err(refused()),
-        }
-    }
 }
 
 /// Where segments are made, and how many commits one has at most.
@@ -82,8 +47,8 @@ pub struct StoreFile<'a, F: Files> {
     /// The head of the journal behind an open gate, which is in no file.
     pub(crate) head: Vec<u8>,
     pub(crate) closed: Vec<ClosedSegment>,
-    /// None where closed segments alone are read.
-    pub(crate) last: Option<LastSegment<F::File>>,
+    /// The last segment, which is written: those before it are not any more. None where closed segments alone are read.
+    pub(crate) last: Option<PlacedSegment<F::File>>,
     /// The number of the last segment.
     pub(crate) last_number: u64,
     /// How many commits behind the tables the last segment begins, or the one that could not be made.
@@ -92,10 +57,6 @@ pub struct StoreFile<'a, F: Files> {
     pub(crate) place: u64,
     /// The lock of the store, where it is served.
     pub(crate) lock: Option<F::File>,
-}
-
-fn refused() -> io::Error {
-    io::Error::from(ErrorKind::InvalidInput)
 }
 
 impl<'a, F: Files> StoreFile<'a, F>
@@ -116,7 +77,7 @@ where
             },
             head: Vec::new(alloc),
             closed: Vec::new(alloc),
-            last: Some(LastSegment {
+            last: Some(PlacedSegment {
                 file,
                 head: 0,
                 begin: 0,
@@ -126,16 +87,6 @@ where
             place: 0,
             lock: None,
         }
-    }
-
-    // Reads bytes of the head.
-    fn read_head(&self, buf: &mut [u8], place: usize) -> usize
-        ensures { result ≤ length buf.new }
-    {
-        let rest = self.head.get(place..).unwrap_or(&[]);
-        let count = rest.len().min(buf.len());
-        buf[..count].copy_from_slice(&rest[..count]);
-        count
     }
 
     // Reads bytes of a closed segment.
@@ -156,7 +107,7 @@ where
         ensures { ReadsAtMost result buf.new }
     {
         if place < self.head.len() as u64 {
-            return Ok(self.read_head(buf, place as usize));
+            return Ok(read_head(&self.head, buf, place as usize));
         }
         for closed in &self.closed {
             if place < closed.end {
@@ -170,7 +121,7 @@ where
     }
 
     // The segment that is written.
-    fn last(&self) -> io::Result<&LastSegment<F::File>> {
+    fn last(&self) -> io::Result<&PlacedSegment<F::File>> {
         match &self.last {
             Some(last) => Ok(last),
             None => Err(refused()),
@@ -179,7 +130,7 @@ where
 
     // Makes the segment behind so many commits of the store, where all before is on the disk; and what the last one is
     // from then on.
-    fn next_segment(&self, after: u64) -> io::Result<(ClosedSegment, LastSegment<F::File>)> {
+    fn next_segment(&self, after: u64) -> io::Result<(ClosedSegment, PlacedSegment<F::File>)> {
         let last = self.last()?;
         let size = last.file.metadata()?.len();
         let head = SegmentHead {
@@ -197,7 +148,7 @@ where
             begin: last.begin,
             end,
         };
-        Ok((closed, LastSegment::new(segment, end)))
+        Ok((closed, PlacedSegment::new(segment, end)))
     }
 
     // Goes on in the next segment.

@@ -8,8 +8,8 @@ invariant-loop g l = record {
   some : 0 < length l.file.followed.groups;
   all : recovered (g.F.GrowingFile.seen l.file.followed.file) ≡ l.file.followed.groups;
   ended : g.F.GrowingFile.is_ended l.file.followed.file;
-  ships : (after : ℕ) (first : Option (List ℕ))
-      → Ships after l.fn.file.followed.groups first (g.W.Write.contents l.fn.out)
-      → Ships after l.file.followed.groups first (g.W.Write.contents l.out);
+  ships : (past after : ℕ) (first : Option (List ℕ))
+      → Ships past after l.fn.file.followed.groups first (g.W.Write.contents l.fn.out)
+      → Ships past after l.file.followed.groups first (g.W.Write.contents l.out);
   known : g.F.GrowingFile.holds l.file.followed.file ≡ g.F.GrowingFile.holds l.fn.file.followed.file;
 }

@@ -13,8 +13,8 @@ returns-in_err-next-clause-part g c =
     let new = c.next.new.self.followed.groups in
     let now = g.W.Write.contents c.loop-next.out in
     let grown = c.next.ensures.grown in
-    on_err c.from_residual.result _ (λ after first ships.
-    ships_part after old grown.0 new first now (c.loop-next.invariant.ships after first ships) grown.1)
+    on_err c.from_residual.result _ (λ past after first ships.
+    ships_part past after old grown.0 new first now (c.loop-next.invariant.ships past after first ships) grown.1)
 
 pub returns-in_err-hand_on-clause-part : goal.returns-in_err-hand_on-clause-part
 returns-in_err-hand_on-clause-part g c =
@@ -23,9 +23,9 @@ returns-in_err-hand_on-clause-part g c =
     let mid = g.W.Write.contents c.loop-next.out in
     let now = g.W.Write.contents c.hand_on.new.out in
     let grown = c.next.ensures.grown in
-    on_err c.from_residual-in_err-hand_on.result _ (λ after first ships.
-    ships_part after old grown.0 new first now
-    (ships_kept after old first mid now (c.loop-next.invariant.ships after first ships) c.hand_on.ensures.kept) grown.1)
+    on_err c.from_residual-in_err-hand_on.result _ (λ past after first ships.
+    ships_part past after old grown.0 new first now
+    (ships_kept past after old first mid now (c.loop-next.invariant.ships past after first ships) c.hand_on.ensures.kept) grown.1)
 
 pub returns-in_err-send-clause-part : goal.returns-in_err-send-clause-part
 returns-in_err-send-clause-part g c =
@@ -36,9 +36,9 @@ returns-in_err-send-clause-part g c =
     let now = g.W.Write.contents c.send.new.out in
     let step : (new ≡ old ++ group ∷ []) × HasCount c.in-Some.next.commits group = rw c.in-Some.is at c.in_ok-next.ensures.next in
     let part = subst (λ (bytes : List ℕ). AppendsPart mid now (block bytes)) c.deref.ensures.value c.in_err-send.ensures.part in
-    on_err c.from_residual-in_err-send.result _ (λ after first ships.
-    subst (λ (groups : List (List ℕ)). ShipsPart after groups first now) (sym step.0)
-    (ships_more_part after old first mid now group (c.loop-next.invariant.ships after first ships) part))
+    on_err c.from_residual-in_err-send.result _ (λ past after first ships.
+    subst (λ (groups : List (List ℕ)). ShipsPart past after groups first now) (sym step.0)
+    (ships_more_part past after old first mid now group (c.loop-next.invariant.ships past after first ships) part))
 
 pub loop-next-preserved : goal.loop-next-preserved
 loop-next-preserved g c =
@@ -53,9 +53,9 @@ loop-next-preserved g c =
     let written = subst (λ (bytes : List ℕ). Appends mid now (block bytes)) c.deref.ensures.value c.in_ok-send.ensures.written in
     record {
       some = omega (arith, ap length step.0, length-append old (group ∷ []));
-      ships = λ after first ships.
-          subst (λ (groups : List (List ℕ)). Ships after groups first now) (sym step.0)
-          (ships_more after old first mid now group (c.loop-next.invariant.ships after first ships) written);
+      ships = λ past after first ships.
+          subst (λ (groups : List (List ℕ)). Ships past after groups first now) (sym step.0)
+          (ships_more past after old first mid now group (c.loop-next.invariant.ships past after first ships) written);
       grown = (
         grown.0 ++ group ∷ [],
         step.0 ∙ ap (λ (groups : List (List ℕ)). groups ++ group ∷ []) grown.1

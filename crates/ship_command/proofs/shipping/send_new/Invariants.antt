@@ -6,9 +6,9 @@ use Rattle.ship_command.proofs.shipping.send_new.Given as goal
 abbrev pub invariant-loop-next : goal.invariant-loop-next
 invariant-loop-next g l = record {
   some : 0 < length l.file.followed.groups;
-  ships : (after : ℕ) (first : Option (List ℕ))
-      → Ships after l.fn.file.followed.groups first (g.W.Write.contents l.fn.out)
-      → Ships after l.file.followed.groups first (g.W.Write.contents l.out);
+  ships : (past after : ℕ) (first : Option (List ℕ))
+      → Ships past after l.fn.file.followed.groups first (g.W.Write.contents l.fn.out)
+      → Ships past after l.file.followed.groups first (g.W.Write.contents l.out);
   grown : HaveGrown l.fn.file.followed.groups l.file.followed.groups;
   known : g.F.GrowingFile.holds l.file.followed.file ≡ g.F.GrowingFile.holds l.fn.file.followed.file;
 }

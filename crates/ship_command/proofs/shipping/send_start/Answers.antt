@@ -10,7 +10,7 @@ returns-clause-ships g c =
     let bytes = c.in_ok-bytes.bytes.items in
     let old = g.W.Write.contents c.args.out.now in
     let new = g.W.Write.contents c.write.new.out in
-    then_on_ok c.write.result _ _ (λ written. ships_start c.args.after groups bytes old new c.in_ok-bytes.ensures.stream
+    then_on_ok c.write.result _ _ (λ written. ships_start c.args.shipment.past c.args.shipment.after groups bytes old new c.in_ok-bytes.ensures.stream
     (subst (λ (b : List ℕ). Appends old new b) c.deref.ensures.value written)) c.write.ensures.written
 
 pub returns-clause-part : goal.returns-clause-part
@@ -19,5 +19,5 @@ returns-clause-part g c =
     let bytes = c.in_ok-bytes.bytes.items in
     let old = g.W.Write.contents c.args.out.now in
     let new = g.W.Write.contents c.write.new.out in
-    then_on_err c.write.result _ _ (λ part. inl (ships_start_part c.args.after groups bytes old new c.in_ok-bytes.ensures.stream
+    then_on_err c.write.result _ _ (λ part. inl (ships_start_part c.args.shipment.past c.args.shipment.after groups bytes old new c.in_ok-bytes.ensures.stream
     (subst (λ (b : List ℕ). AppendsPart old new b) c.deref.ensures.value part))) c.write.ensures.part

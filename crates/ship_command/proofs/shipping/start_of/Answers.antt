@@ -1,19 +1,19 @@
-use Rattle.std.proofs.Common.{◌≡◌, ◌<◌, ◌∙◌, ◌++◌, ◌∷◌, [], ℕ, List, Some, None, Vec, Global, ap, arith, rules, subst, sym}
+use Rattle.std.proofs.Common.{◌≡◌, ◌<◌, ◌∙◌, ◌++◌, ◌∷◌, [], ℕ, List, Some, None, Vec, Global, ap, arith, rules}
 use Rattle.journal.specs.Groups.{block}
-use Rattle.ship_command.specs.Stream.{BeginsStream, mark}
+use Rattle.ship_command.specs.Stream.{mark}
 use Rattle.ship_command.specs.Taken.{PassesBeyond}
 use Rattle.ship_command.proofs.StreamLaws.{begins_all, begins_behind, begins_marked}
 use Rattle.ship_command.proofs.shipping.start_of.Goals.{in-Some+in_ok-push_block-3, in_default}
 use Rattle.ship_command.proofs.shipping.start_of.Goals as goal
 
-pub returns-then-after-eq0-clause-stream : goal.returns-then-after-eq0-clause-stream
-returns-then-after-eq0-clause-stream g c =
+pub returns-then-shipment-eq0-clause-stream : goal.returns-then-shipment-eq0-clause-stream
+returns-then-shipment-eq0-clause-stream g c =
     let groups = c.args.file.now.followed.groups in
     let bytes = c.push_block.new.bytes.items in
     let is : bytes ≡ [] ++ block c.args.head.now =
     c.in_ok-push_block.ensures ∙ ap (λ (l : List ℕ). l ++ block c.args.head.now) c.new-bytes.ensures.items in
-    subst (λ (after : ℕ). BeginsStream after groups bytes) (sym c.if-after-eq0.true)
-    (begins_all c.args.head.now groups bytes c.requires is)
+    begins_all c.args.shipment.past c.args.shipment.after c.args.head.now groups bytes c.requires.behind c.if-shipment-eq0.true
+    c.requires.head is
 
 pub returns-clause-stream : goal.returns-clause-stream
 returns-clause-stream g c =
@@ -22,7 +22,7 @@ returns-clause-stream g c =
     let new = c.leave_out.new.self.followed.groups in
     let left = c.in_ok-commits.field-0 in
     let out = c.in_ok-commits.ensures.left in
-    let asked : 0 < c.args.after = omega (arith, c.if-after-eq0.false) in
+    let asked : 0 < c.args.shipment.after = omega (arith, c.if-shipment-eq0.false) in
     let first : c.push_block.new.bytes.items ≡ [] ++ block head =
     c.in_ok-push_block.ensures ∙ ap (λ (l : List ℕ). l ++ block head) c.new-bytes.ensures.items in
     let second : c.push_block-2.new.bytes.items ≡ ([] ++ block head) ++ block (mark left.commits) =
@@ -33,18 +33,18 @@ returns-clause-stream g c =
       | in-Some+in_ok-push_block-3 w ↦
           let group = w.in-Some.group.items in
           let is : left.next ≡ Some w.in-Some.group = search rules in
-          let step : (new ≡ old ++ (out.out ++ group ∷ [])) × PassesBeyond c.args.after left.commits group = rw is at out.next in
+          let step : (new ≡ old ++ (out.out ++ group ∷ [])) × PassesBeyond c.args.shipment.after left.commits group = rw is at out.next in
           let same : c.match-next-3.bytes ≡ w.push_block-in-Some.new.bytes = search rules in
           let third : c.match-next-3.bytes.items ≡ (([] ++ block head) ++ block (mark left.commits)) ++ block group =
           ap (λ (v : Vec ℕ Global). v.items) same ∙ w.in_ok-push_block-3.ensures
           ∙ ap (λ (l : List ℕ). l ++ block w.deref-in-Some.result.now) second
           ∙ ap (λ (l : List ℕ). (([] ++ block head) ++ block (mark left.commits)) ++ block l) w.deref-in-Some.ensures.value in
-          begins_behind c.args.after head old new out.out left.commits group c.match-next-3.bytes.items asked c.requires
-          step.0 out.counted out.within step.1 third
+          begins_behind c.args.shipment.past c.args.shipment.after head old new out.out out.count left.commits group
+          c.match-next-3.bytes.items asked c.requires.head step.0 out.counted out.numbered out.within step.1 third
       | in_default w ↦
           let is : left.next ≡ None = search rules in
-          let step : (new ≡ old ++ out.out) × (left.commits ≡ c.args.after) = rw is at out.next in
+          let step : (new ≡ old ++ out.out) × (left.commits ≡ c.args.shipment.after) = rw is at out.next in
           let same : c.match-next-3.bytes ≡ c.push_block-2.new.bytes = search rules in
-          begins_marked c.args.after head old new out.out left.commits c.match-next-3.bytes.items asked c.requires
-          step.0 out.counted step.1 (ap (λ (v : Vec ℕ Global). v.items) same ∙ second)
+          begins_marked c.args.shipment.past c.args.shipment.after head old new out.out out.count left.commits
+          c.match-next-3.bytes.items asked c.requires.head step.0 out.counted out.numbered step.1 (ap (λ (v : Vec ℕ Global). v.items) same ∙ second)
     ]

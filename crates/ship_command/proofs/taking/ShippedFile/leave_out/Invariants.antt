@@ -4,7 +4,7 @@ use Rattle.ship_command.proofs.taking.ShippedFile.leave_out.Given as goal
 
 abbrev pub invariant-loop-next : goal.invariant-loop-next
 invariant-loop-next g l = record {
-  out : IsLeavingOut l.after l.fn.self.followed.groups l.self.followed.groups l.commits;
+  out : IsLeavingOut l.past l.after l.fn.self.followed.groups l.self.followed.groups l.commits;
   some : 0 < length l.self.followed.groups;
   known : g.F.GrowingFile.holds l.self.followed.file ≡ g.F.GrowingFile.holds l.fn.self.followed.file;
 }
