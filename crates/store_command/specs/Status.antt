@@ -1,5 +1,5 @@
 -- The exit statuses of what is found of a store.
-use Rattle.std.specs.Prelude.{ℕ}
+use Rattle.std.specs.Prelude.{◌≡◌, ◌⊎◌, ℕ}
 use Rattle.export_command.specs.Status.{refusal_status as tables_status}
 use Rattle.store_command.specs.declared.fault.StoreRefusal.{StoreRefusal}
 use Rattle.store_command.specs.declared.fault.StoreRefusal.TheVariants as refusal
@@ -17,3 +17,7 @@ refusal_status (refusal.Tables why) = tables_status why
 
 abbrev pub store_status : JobFault StoreRefusal → ℕ
 store_status fault = job_status refusal_status fault
+
+-- a status of what is refused, or of what failed
+abbrev pub IsRefusedOrFailed : ℕ → Type 0
+IsRefusedOrFailed status = (status ≡ 1) ⊎ (status ≡ 4)

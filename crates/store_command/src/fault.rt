@@ -1,13 +1,15 @@
 //! Why a store was not made or read, or has no newer tables.
 
-ghost use Rattle.std.specs.Prelude.{◌≡◌};
+ghost use Rattle.std.specs.Prelude.{◌≡◌, ℕ, List};
 ghost use Rattle.export_command.specs.Status.{export_status};
-ghost use Rattle.store_command.specs.Status.{store_status};
+ghost use Rattle.ship_command.specs.Shipped.{TellsShipFault};
+ghost use Rattle.store_command.specs.Status.{store_status, IsRefusedOrFailed};
 
 use export_command::{ExportFault, ExportRefusal, NotEmpty};
 use journal::DiskError;
 use journal_file::OpenError;
 use journal_opening::OpeningFault;
+use ship_command::{ShipFault, ShipRefusal};
 use ssb_files::{Finding, JobFault};
 use ssb_journal::{JournalFault, JournalOpenFault, ReplayFault};
 use std::fmt;
@@ -84,5 +86,21 @@ pub(crate) fn of_export(fault: ExportFault) -> StoreJobFault
     match fault {
         JobFault::Program(fault) => JobFault::Program(fault),
         JobFault::Found(fault) => JobFault::Found(StoreRefusal::Tables(fault)),
+    }
+}
+
+/// The fault of a job that meets this one as it ships.
+pub(crate) fn of_ship(fault: ShipFault) -> StoreJobFault
+    ensures { (past after : ℕ) (file : List ℕ) (groups : List (List ℕ)) (behind : List ℕ)
+        → TellsShipFault past after file groups behind fault → IsRefusedOrFailed (store_status result) }
+{
+    match fault {
+        JobFault::Program(fault) => JobFault::Program(fault),
+        JobFault::Found(ShipRefusal::Journal(fault)) => {
+            JobFault::Found(StoreRefusal::Tables(ExportRefusal::Journal(fault)))
+        }
+        JobFault::Found(ShipRefusal::Commit(fault)) => {
+            JobFault::Found(StoreRefusal::Tables(ExportRefusal::Commit(fault)))
+        }
     }
 }

@@ -1,7 +1,7 @@
 //! The store of a folder.
 
-ghost use Rattle.std.specs.Prelude.{◌≢◌, IfErr};
-ghost use Rattle.store_command.specs.Status.{store_status};
+ghost use Rattle.std.specs.Prelude.{◌≢◌, ◌≤◌, IfErr, IfOk, IfSome};
+ghost use Rattle.store_command.specs.Status.{store_status, IsRefusedOrFailed};
 
 use crate::fault::{StoreJobFault, StoreRefusal};
 use journal_file::JournalFile;
@@ -19,7 +19,9 @@ pub(crate) fn find<F: Files>(
 ) -> Result<FoundStore, StoreJobFault>
 where
     F::File: JournalFile,
+    ensures up_to { IfOk result (λ found. IfSome at (λ number. found.sizes.after ≤ number)) }
     ensures words { IfErr result (λ fault. store_status fault ≢ 2) }
+    ensures statuses { IfErr result (λ fault. IsRefusedOrFailed (store_status fault)) }
 {
     match find_store(files, alloc, folder, at) {
         Ok(found) => Ok(found),

@@ -1,10 +1,12 @@
 //! The words `store` and `checkpoint`, and what is read of a store: a new store of five tables, newer tables of a
-//! store's closed segments, and a base or an export of the tables after some commits or all.
+//! store's closed segments, a base or an export of the tables after some commits or all, the changes of commits, and
+//! the groups of its segments as they come.
 //!
 //! ```text
 //! store        tables ── export, of no commits ─▶ tables.0, journal.0, and sizes
 //! checkpoint   tables.N and the closed segments ── export ─▶ tables.M, and its sizes; what lies before tables.N goes
 //! at commit K  the newest tables.N with N ≤ K, and the first K - N commits behind them ─▶ base, or FOLDER
+//! changes      the newest tables.N, or those with N ≤ K, and all commits behind them ─▶ signed lines
 //! ```
 //!
 //! The tables of a store are written as an export is (`export_command`): all five, or no `lineorder`, whatever crashes.
@@ -17,10 +19,15 @@
 //!
 //! A [`StoreSource`] is the source of a base: the newest tables, or older ones where it asks for an earlier commit, and
 //! the commits behind them, beside a server too. Where fewer are there than come before the last segment, files of the
-//! store are missing, and that is told (`88 Gap`); so it is by [`run_store_export`], before anything is written.
+//! store are missing, and that is told (`88 Gap`); so it is by [`run_store_export`], before anything is written, and by
+//! [`run_store_changes`], behind the changes of those that are there.
 //!
-//! What no contract states, and a reader of `src/store_source` has to hold for true: the tables and the commits are those
-//! of the store. That a base is the tables after so many legal commits over others, is proved (`specs/Moments`).
+//! [`run_store_ship`] writes the groups of a store as they come (`ship_command`), over turns of its server.
+//!
+//! What no contract states, and a reader of `src/store_source` and `src/store_ship` has to hold for true: the tables and
+//! the commits are those of the store. That a base is the tables after so many legal commits over others, and that the
+//! changes are those of legal commits over the tables that were loaded, is proved (`specs/Moments`), and that all groups
+//! of such a journal were written (`specs/Shipped`).
 #![tactic(auto)]
 
 mod checkpoint;
@@ -30,12 +37,16 @@ mod making;
 mod no_commits;
 mod putting;
 mod reading;
+mod store_changes;
 mod store_export;
+mod store_ship;
 mod store_source;
 mod tables;
 
 pub use checkpoint::{CheckpointPlace, run_checkpoint};
 pub use fault::{StoreJobFault, StoreRefusal};
 pub use making::run_store;
+pub use store_changes::{StoreChanges, run_store_changes};
 pub use store_export::{StoreExport, run_store_export};
+pub use store_ship::{StoreShip, run_store_ship};
 pub use store_source::StoreSource;

@@ -24,6 +24,7 @@ use store_folder::{FoundStore, StoreFault, StoreFile, StorePlace};
 /// segment, the commit that is not there is missing.
 pub(crate) fn of_history(found: &FoundStore, fault: ExportFault) -> StoreJobFault
     ensures words { export_status fault ≢ 2 → store_status result ≢ 2 }
+    ensures trace { export_status fault ≢ 3 → store_status result ≢ 3 }
 {
     let last = found.last();
     match fault {
@@ -38,6 +39,7 @@ pub(crate) fn of_history(found: &FoundStore, fault: ExportFault) -> StoreJobFaul
 /// folder is a copy of files of mixed moments.
 pub(crate) fn check_none_missing(found: &FoundStore, after: u64) -> Result<(), StoreJobFault>
     ensures words { IfErr result (λ fault. store_status fault ≢ 2) }
+    ensures trace { IfErr result (λ fault. store_status fault ≢ 3) }
 {
     let last = found.last();
     if after < last {
