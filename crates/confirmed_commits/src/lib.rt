@@ -7,7 +7,8 @@
 //! ```
 //!
 //! The one contract: the evidence that [`Seconds`] makes of so many commits ([`Copied`]) is the evidence that they are on
-//! this machine, and one [`Confirmed`] of as many or more from each of the second servers. A `Confirmed` is made of a
+//! this machine, and one [`Confirmed`] of them, and of all before them, from each of the second servers: a server of a
+//! store counts its own commits behind those of its tables, and second servers count these, too. A `Confirmed` is made of a
 //! line alone ([`Confirmed::of_line`]), and of each line that is a receipt. So a session that takes this evidence tells
 //! of no commit before all of them have. That a second server wrote the line is in no contract: who may write BY is
 //! trusted.
@@ -16,7 +17,7 @@
 //! the lines come, or the journal fails.
 //!
 //! ```text
-//! let seconds = Seconds::new(alloc, 1)?;
+//! let seconds = Seconds::new(alloc, 1, Past::none())?;
 //! let acknowledger = Confirming::new(&journaled, &seconds);
 //! let told = acknowledger.acknowledge(rt, alloc, 1204)?;            // in a session's thread
 //! seconds.hear(rt, 0, Confirmed::of_line(b"committed 1204")?);      // in the one that reads BY

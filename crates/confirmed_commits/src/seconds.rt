@@ -1,6 +1,6 @@
 //! The second servers, for whose lines sessions wait.
 
-ghost use Rattle.std.specs.Prelude.{◌≡◌, IfOk, IfSome, length, vec_len};
+ghost use Rattle.std.specs.Prelude.{◌≡◌, ◌+◌, IfOk, IfSome, length, vec_len};
 ghost use Rattle.confirmed_commits.specs.Receipts.{AllHave};
 
 use crate::confirmed::Confirmed;
@@ -11,7 +11,7 @@ use ghost_list::GhostList;
 use std::alloc::{AllocError, Global};
 use std::sync::Wait;
 use std::sync::atomic::{AtomicBool, Ordering};
-use stream_sessions::{Evidence, NotAcknowledged};
+use stream_sessions::{Evidence, NotAcknowledged, Past};
 
 /// Which second server is waited for, and how many commits are that it has not told of.
 #[derive(Clone, Copy, Debug, PartialEq, Eq)]
@@ -23,22 +23,26 @@ pub struct Awaited {
 }
 
 /// One second server or several, which threads share: a client is told of commits once each of them has told of these.
+/// They count the commits that came before this server's own, as clients are told numbers.
 #[derive(Drop)]
 pub struct Seconds {
+    past: Past,
     each: Vec<Second>,
     has_ended: AtomicBool,
 }
 
 impl Seconds {
-    /// So many second servers, of which nothing was heard.
-    pub fn new(alloc: Global, count: usize) -> Result<Seconds, AllocError>
-        ensures { IfOk result (λ seconds. vec_len seconds.each ≡ count) }
+    /// So many second servers, of which nothing was heard, and how many commits came before this server's own.
+    pub fn new(alloc: Global, count: usize, past: Past) -> Result<Seconds, AllocError>
+        ensures count { IfOk result (λ seconds. vec_len seconds.each ≡ count) }
+        ensures past { IfOk result (λ seconds. seconds.past ≡ past) }
     {
         let mut each = Vec::new(alloc);
         for _ in 0..count {
             each.push(Second::unheard())?;
         }
         Ok(Seconds {
+            past,
             each,
             has_ended: AtomicBool::new(false),
         })
@@ -78,7 +82,8 @@ impl Seconds {
         None
     }
 
-    // What each of them has told of, so many commits or more, after a wait; none where nobody waits any more.
+    // What each of them has told of, so many commits of the history or more, after a wait; none where nobody waits any
+    // more.
     fn await_each<R: Wait>(&self, rt: &R, commits: u64) -> Option<GhostList<Confirmed>>
         ensures all { IfSome result (λ told. AllHave told.items commits) }
         ensures each { IfSome result (λ told. length told.items ≡ vec_len self.now.each) }
@@ -98,9 +103,19 @@ impl<E: Evidence> Confirms<E> for Seconds {
         requires { E.covers first commits }
         ensures covers { IfOk result (λ copied. ⟦<Copied<E> as Evidence>⟧.covers copied commits) }
         ensures each { IfOk result (λ copied. length copied.seconds.items ≡ vec_len self.now.each) }
+        ensures past { IfOk result (λ copied. copied.past ≡ self.now.past) }
     {
-        match self.await_each(rt, commits) {
-            Some(seconds) => Ok(Copied { first, seconds }),
+        let past = self.past;
+        // No history is so long that its commits have no number.
+        let Some(number) = past.commits.checked_add(commits) else {
+            return Err(NotAcknowledged);
+        };
+        match self.await_each(rt, number) {
+            Some(seconds) => Ok(Copied {
+                first,
+                past,
+                seconds,
+            }),
             None => Err(NotAcknowledged),
         }
     }
