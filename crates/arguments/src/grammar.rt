@@ -490,20 +490,25 @@ fn behind() -> Word {
 // The words of `changes`.
 fn changes<'a>(alloc: Global, program: Command<'a>) -> Result<Command<'a>, AllocError> {
     let words = [
-        data().required(),
+        data().unless(&["store"]),
         delimiter(),
         heads(),
-        read_journal().unless(&["feed"]),
+        store().not_beside(&["data", "delimiter", "heads", "journal", "feed"]),
+        read_journal().unless(&["feed", "store"]),
         feed(),
         behind(),
-        Word::flag("base", "The loaded lines first, as those of commit 0").not_beside(&["after"]),
+        Word::flag(
+            "base",
+            "The loaded lines first, as those of commit 0; with --store those of the newest tables",
+        )
+        .not_beside(&["after"]),
         quiet(),
         hints(),
         no_hints(),
     ];
     let command = Subcommand {
         name: "changes",
-        about: "Writes the lines that each commit of a journal brought, and those that it took away",
+        about: "Writes the lines that each commit of a journal or a store brought and took away",
         long_about: CHANGES_HELP,
         words: &words,
     };
@@ -517,7 +522,13 @@ fn ship<'a>(alloc: Global, program: Command<'a>) -> Result<Command<'a>, AllocErr
             "journal",
             "The journal of a server, which may go on with it; it is not changed",
         )
-        .required(),
+        .unless(&["store"]),
+        Word::text(
+            "store",
+            &["FOLDER"],
+            "The store of a server, in the place of a journal; it is not changed",
+        )
+        .not_beside(&["journal"]),
         Word::count("after", "Leaves out what ends with commit N or before"),
         Word::flag("once", "Ends when all is printed that is there"),
         hints(),
@@ -525,7 +536,7 @@ fn ship<'a>(alloc: Global, program: Command<'a>) -> Result<Command<'a>, AllocErr
     ];
     let command = Subcommand {
         name: "ship",
-        about: "Prints the commits of a journal as they come, for a second machine",
+        about: "Prints the commits of a journal or a store as they come, for a second machine",
         long_about: SHIP_HELP,
         words: &words,
     };

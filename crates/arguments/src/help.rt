@@ -190,9 +190,14 @@ FILE is a copy.
 
 With --feed the commits are those that 'ssb_live ship' prints, as they come: the lines of each are printed at once.
 
+With --store the tables and the commits are those of a store, with which a server may go on meanwhile. N counts from its
+first commit. What lies before its oldest tables is gone. Begin there with --base: the lines of its newest tables come
+first, as those of the commit that these are after.
+
 Examples:
   ssb_live changes --data tables --journal orders.journal --base
   ssb_live changes --data tables --journal orders.journal --after 1204
+  ssb_live changes --store warehouse --base
   ssb_live ship --journal orders.journal | ssb_live changes --data tables --feed -";
 
 /// What `ship --help` shows.
@@ -203,6 +208,10 @@ it. After each second without a commit comes a group without commits, as a sign 
 
 With --after N those that end with commit N or before are left out: behind the head stands a group 'after|M', and the
 groups behind it begin with commit M + 1. With --once the command ends when it has printed what is there.
+
+With --store the commits are those of a store, over all of its segments. N counts from its first commit, and the head is
+that of a journal over its newest tables that are after N commits or fewer. Where 'checkpoint' has deleted what is to
+come next, that is told: --keep-from N keeps it.
 
 Examples:
   ssb_live ship --journal orders.journal | ssh second 'cat > copy.journal'
@@ -240,6 +249,7 @@ add or amend with line|.. records, and withdraw KEY, then commit is one refresh;
   status      shows what the server has done, its memory, and how long ago the last reply came
   help star   shows questions of your own, with examples
   help begin  shows a refresh, and the 17 fields of a line
+  schema      shows the tables and their columns
   help, ?     show this
   quit, exit  end the session, as Ctrl-D does; a refresh without its commit is then fault: 71 NoCommit, and not done
 
@@ -269,6 +279,22 @@ The measure is LO_REVENUE, LO_REVENUE-LO_SUPPLYCOST, LO_EXTENDEDPRICE*LO_DISCOUN
 C_CITY, C_NATION, C_REGION of customers, S_CITY, S_NATION, S_REGION of suppliers, P_MFGR, P_CATEGORY, P_BRAND1 of parts,
 and D_YEAR, D_YEARMONTHNUM, D_YEARMONTH, D_WEEKNUMINYEAR. LO_QUANTITY and LO_DISCOUNT can be tested too. To see which
 values a column has, group by it: star COUNT C_REGION.
+";
+
+/// What the word `schema` shows there.
+pub const SCHEMA_HELP: &str = "\
+The five tables. What has a * can be tested and grouped by; LO_QUANTITY and LO_DISCOUNT can be tested.
+
+  lineorder  LO_ORDERKEY, LO_LINENUMBER, LO_CUSTKEY, LO_PARTKEY, LO_SUPPKEY, LO_ORDERDATE, LO_ORDERPRIORITY,
+             LO_SHIPPRIORITY, LO_QUANTITY, LO_EXTENDEDPRICE, LO_ORDTOTALPRICE, LO_DISCOUNT, LO_REVENUE, LO_SUPPLYCOST,
+             LO_TAX, LO_COMMITDATE, LO_SHIPMODE
+  customer   C_CUSTKEY, C_NAME, C_ADDRESS, C_CITY*, C_NATION*, C_REGION*, C_PHONE, C_MKTSEGMENT
+  supplier   S_SUPPKEY, S_NAME, S_ADDRESS, S_CITY*, S_NATION*, S_REGION*, S_PHONE
+  part       P_PARTKEY, P_NAME, P_MFGR*, P_CATEGORY*, P_BRAND1*, P_COLOR, P_TYPE, P_SIZE, P_CONTAINER
+  date       D_DATEKEY, D_YEAR*, D_YEARMONTHNUM*, D_YEARMONTH*, D_WEEKNUMINYEAR*, and twelve that no question reads
+
+LO_CUSTKEY, LO_SUPPKEY, LO_PARTKEY and LO_ORDERDATE of a line name its rows of the other tables, which stay as they were
+loaded: refreshes change lineorder alone. To see which values a column has, group by it: star COUNT C_REGION.
 ";
 
 /// What the words `help begin` show there.

@@ -1,5 +1,6 @@
 //! What the words ask for.
 
+use crate::changes::{ChangesWords, changes_words};
 use crate::grammar::{command, width_of};
 use crate::notice::Notice;
 use crate::ship::{ShipWords, ship_words};
@@ -33,9 +34,9 @@ pub enum Job<'a> {
     Audit(AuditWords<'a>),
     /// The tables after a journal's commits.
     Export(ExportWords<'a>),
-    /// What a journal's commits changed.
+    /// What the commits of a journal or a store changed.
     Changes(ChangesWords<'a>),
-    /// A journal's groups, as they come.
+    /// The groups of a journal or a store, as they come.
     Ship(ShipWords<'a>),
     /// A new store of tables.
     Store(StoreWords<'a>),
@@ -161,7 +162,7 @@ pub struct ServeWords<'a> {
     pub clients: Vec<&'a str>,
     pub keep: bool,
     pub journal: Option<JournalWord<'a>>,
-    /// What tells what second servers have: a pipe or a file each. There are none without a journal.
+    /// What tells what second servers have: a pipe or a file each. There are none without a journal or a store.
     pub confirmed: Vec<&'a str>,
     /// The file of the server's figures.
     pub metrics: Option<&'a str>,
@@ -194,56 +195,6 @@ pub enum ExportedWord<'a> {
 pub struct ExportWords<'a> {
     pub exported: ExportedWord<'a>,
     pub folder: &'a str,
-    pub quiet: bool,
-    pub hints: HintsWord,
-}
-
-/// From where on changes are written.
-#[derive(Clone, Copy)]
-pub enum StartWord {
-    /// From the loaded lines on.
-    Base,
-    /// Behind the first commits, so many of them.
-    After(u64),
-}
-
-/// Where the groups of a journal come from.
-#[derive(Clone, Copy)]
-pub enum GroupsWord<'a> {
-    /// The journal's file.
-    Journal(&'a str),
-    /// A stream of its groups, by its path.
-    Feed(&'a str),
-    /// Standard input.
-    Input,
-}
-
-impl<'a> GroupsWord<'a> {
-    /// The path of the journal's file, where that was named.
-    pub fn journal(&self) -> Option<&'a str> {
-        match self {
-            GroupsWord::Journal(path) => Some(*path),
-            GroupsWord::Feed(_) | GroupsWord::Input => None,
-        }
-    }
-
-    /// What the fault of a stream is told of: its path.
-    pub fn feed(&self) -> Option<&'a str> {
-        match self {
-            GroupsWord::Feed(path) => Some(*path),
-            GroupsWord::Input => Some("-"),
-            GroupsWord::Journal(_) => None,
-        }
-    }
-}
-
-/// The words of `changes`.
-#[derive(Drop)]
-pub struct ChangesWords<'a> {
-    pub data: &'a str,
-    pub layout: TableLayout,
-    pub groups: GroupsWord<'a>,
-    pub start: StartWord,
     pub quiet: bool,
     pub hints: HintsWord,
 }
@@ -443,13 +394,15 @@ fn run_words<'a>(alloc: Global, matches: &ArgMatches<'a>) -> Result<RunWords<'a>
     })
 }
 
-// What tells what second servers have: only of a journal's commits.
+// What tells what second servers have: only of commits that are kept.
 fn confirmed_of<'a>(alloc: Global, matches: &ArgMatches<'a>) -> Result<Vec<&'a str>, Notice> {
     let confirmed = words_of(alloc, matches, "confirmed")?;
-    if confirmed.is_empty() || journal_of(matches).is_some() {
+    let keeps = journal_of(matches).is_some() || matches.get_str("store").is_some();
+    if confirmed.is_empty() || keeps {
         return Ok(confirmed);
     }
-    let told = "the argument '--confirmed <BY>' cannot be used without '--journal <FILE>'";
+    let told =
+        "the argument '--confirmed <BY>' cannot be used without '--journal <FILE>' or '--store <FOLDER>'";
     let fault = command(alloc, false)?.error(ErrorKind::MissingRequiredArgument, told)?;
     Err(Notice::from(fault))
 }
@@ -491,34 +444,6 @@ fn export_words<'a>(alloc: Global, matches: &ArgMatches<'a>) -> Result<ExportWor
     Ok(ExportWords {
         exported: exported_of(alloc, matches)?,
         folder: word_of(matches, "to"),
-        quiet: matches.get_flag("quiet"),
-        hints: hints_of(matches),
-    })
-}
-
-// From where on the words ask for changes; the grammar lets no two words through.
-fn start_of(matches: &ArgMatches<'_>) -> StartWord {
-    if matches.get_flag("base") {
-        return StartWord::Base;
-    }
-    StartWord::After(matches.get_one::<u64>("after").unwrap_or(0))
-}
-
-// Where groups come from; the grammar lets no two words through.
-fn groups_of<'a>(matches: &ArgMatches<'a>) -> GroupsWord<'a> {
-    match matches.get_str("feed") {
-        Some("-") => GroupsWord::Input,
-        Some(path) => GroupsWord::Feed(path),
-        None => GroupsWord::Journal(word_of(matches, "journal")),
-    }
-}
-
-fn changes_words<'a>(alloc: Global, matches: &ArgMatches<'a>) -> Result<ChangesWords<'a>, Notice> {
-    Ok(ChangesWords {
-        data: word_of(matches, "data"),
-        layout: layout_of(alloc, matches)?,
-        groups: groups_of(matches),
-        start: start_of(matches),
         quiet: matches.get_flag("quiet"),
         hints: hints_of(matches),
     })

@@ -16,6 +16,7 @@
 //! ```
 #![tactic(auto)]
 
+mod changes;
 mod grammar;
 mod help;
 mod job;
@@ -24,11 +25,12 @@ mod ship;
 mod store;
 mod word;
 
-pub use help::{REFRESH_HELP, STAR_HELP, TERMINAL_HELP};
+pub use changes::{ChangedWord, ChangesWords, GroupsWord, StartWord};
+pub use help::{REFRESH_HELP, SCHEMA_HELP, STAR_HELP, TERMINAL_HELP};
 pub use job::{
-    AuditWords, ChangesWords, ExplainWords, ExportWords, ExportedWord, FormatWord, GroupsWord,
-    HintsWord, Job, JournalWord, QueryWords, RunWords, ServeWords, StandingWord, StartWord, job_of,
+    AuditWords, ExplainWords, ExportWords, ExportedWord, FormatWord, HintsWord, Job, JournalWord,
+    QueryWords, RunWords, ServeWords, StandingWord, job_of,
 };
 pub use notice::Notice;
-pub use ship::ShipWords;
+pub use ship::{ShipWords, ShippedWord};
 pub use store::{CheckpointWords, FilesWord, SourceWord, StoreWord, StoreWords, StoredWord};

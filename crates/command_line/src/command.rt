@@ -20,7 +20,7 @@ use crate::querying::answer_query;
 use crate::querying::explain_query;
 use crate::querying::statements_on;
 use crate::seconds_view::NamedSeconds;
-use crate::shipping::ship_journal;
+use crate::shipping::ship_groups;
 use crate::stores::ServedStore;
 use crate::stores::fold_store;
 use crate::stores::make_store;
@@ -414,12 +414,13 @@ fn open_server<R: RandomSource, F: Files + AllocGlobal>(
         Vec::new(files.alloc())
     };
     let journal = NamedJournal::of(files, words, store)?;
-    let seconds = Seconds::new(files.alloc(), words.confirmed.len())?;
+    let past = past_of(&journal);
+    let seconds = Seconds::new(files.alloc(), words.confirmed.len(), past)?;
     let hashing = hashing_of(rt)?;
     let settings = ServeSettings {
         hashing,
         dispatchers: words.dispatchers,
-        past: past_of(&journal),
+        past,
         standing,
         tells_ready: !words.quiet && !words.clients.is_empty(),
         figures: Arc::new(files.alloc(), LiveFigures::new())?,
@@ -639,7 +640,7 @@ where
     let view = TerminalView::of(rt, files, &settings, hints)?;
     let parts = PlaceParts {
         path: named_journal::served_journal(files, None)?,
-        seconds: Arc::new(rt.alloc(), Seconds::new(rt.alloc(), 0)?)?,
+        seconds: Arc::new(rt.alloc(), Seconds::new(rt.alloc(), 0, Past::none())?)?,
         bytes: TableBytes::new(),
     };
     let place = parts.place(false);
@@ -703,7 +704,7 @@ where
         Job::Changes(words) => {
             write_changes(rt, files, words, streams.input, &mut streams.output, err)
         }
-        Job::Ship(words) => Ok(ship_journal(rt, files, words, &mut streams.output, err)),
+        Job::Ship(words) => Ok(ship_groups(rt, files, words, &mut streams.output, err)),
         Job::Store(words) => make_store(rt, files, words, terminal, err),
         Job::Checkpoint(words) => fold_store(rt, files, words, err),
     }

@@ -3,14 +3,15 @@
 
 use crate::command::{hashing_of, screen_of};
 use crate::named_journal;
-use crate::stores::{export_store, stored_source};
+use crate::stores::{ChangedStore, export_store, stored_source, write_store_changes};
 use arguments::{
-    AuditWords, ChangesWords, ExportWords, ExportedWord, FilesWord, GroupsWord, SourceWord,
-    StartWord,
+    AuditWords, ChangedWord, ChangesWords, ExportWords, ExportedWord, FilesWord, GroupsWord,
+    SourceWord, StartWord,
 };
 use audit_command::run_audit;
 use changes_command::{
-    ChangesFault, ChangesPlace, ChangesRefusal, ChangesStart, FeedPlace, run_changes, run_feed,
+    AskedChanges, ChangesFault, ChangesPlace, ChangesRefusal, ChangesStart, FeedPlace, run_changes,
+    run_feed,
 };
 use export_command::{ExportFault, ExportPlace, ExportRefusal, run_export};
 use journal_file::JournalFile;
@@ -129,7 +130,7 @@ fn write_kept<R, F: Files + AllocGlobal, W: Write, E: Write>(
     rt: &R,
     files: &F,
     words: &ChangesWords<'_>,
-    path: &str,
+    kept: (FilesWord<'_>, &str),
     out: &mut W,
     err: &mut E,
 ) -> Result<u8, Fault>
@@ -137,7 +138,8 @@ where
     R: RandomSource + Threads + Sync + AllocGlobal,
     F::File: JournalFile,
 {
-    let tables = open_tables(files, words.data)?;
+    let (FilesWord { data, layout }, path) = kept;
+    let tables = open_tables(files, data)?;
     if let Err(fault) = named_journal::check_is_there(files, path) {
         return Ok(ChangesFault::Found(ChangesRefusal::Journal(fault)).tell(err));
     }
@@ -145,13 +147,13 @@ where
     let bytes = TableBytes::new();
     let tables = TableFiles {
         tables: count_tables(&bytes, tables),
-        layout: words.layout,
+        layout,
     };
     let journal = ReadPath { files, path };
     let place = ChangesPlace {
         journal: &journal,
         bytes: &bytes,
-        start: start_of(words.start),
+        asked: AskedChanges::of_journal(start_of(words.start)),
         tells: !words.quiet,
     };
     Ok(run_changes(rt, hashing, tables, &place, out, err))
@@ -162,19 +164,20 @@ fn write_fed<R, F: Files + AllocGlobal, G: Read + Drop, W: Write, E: Write>(
     rt: &R,
     files: &F,
     words: &ChangesWords<'_>,
-    input: G,
+    fed: (FilesWord<'_>, G),
     out: &mut W,
     err: &mut E,
 ) -> Result<u8, Fault>
 where
     R: RandomSource + Threads + Sync + AllocGlobal,
 {
-    let tables = open_tables(files, words.data)?;
+    let (FilesWord { data, layout }, input) = fed;
+    let tables = open_tables(files, data)?;
     let hashing = hashing_of(rt)?;
     let bytes = TableBytes::new();
     let tables = TableFiles {
         tables: count_tables(&bytes, tables),
-        layout: words.layout,
+        layout,
     };
     let feed = FeedPlace {
         input,
@@ -185,7 +188,7 @@ where
     Ok(run_feed(rt, hashing, tables, feed, out, err))
 }
 
-/// Writes what the commits of a journal changed, or of a stream, over the files of a folder.
+/// Writes what the commits of a journal changed, or of a stream, over the files of a folder; or those of a store.
 pub(crate) fn write_changes<R, F: Files + AllocGlobal, I: Read + Drop, W: Write, E: Write>(
     rt: &R,
     files: &F,
@@ -198,12 +201,24 @@ where
     R: RandomSource + Threads + Sync + AllocGlobal,
     F::File: JournalFile,
 {
-    match words.groups {
-        GroupsWord::Journal(path) => write_kept(rt, files, words, path, out, err),
-        GroupsWord::Feed(path) => {
-            let input = open_file(files, path)?;
-            write_fed(rt, files, words, input, out, err)
+    match words.changed {
+        ChangedWord::Journal(tables, GroupsWord::Journal(path)) => {
+            write_kept(rt, files, words, (tables, path), out, err)
         }
-        GroupsWord::Input => write_fed(rt, files, words, input, out, err),
+        ChangedWord::Journal(tables, GroupsWord::Feed(path)) => {
+            let input = open_file(files, path)?;
+            write_fed(rt, files, words, (tables, input), out, err)
+        }
+        ChangedWord::Journal(tables, GroupsWord::Input) => {
+            write_fed(rt, files, words, (tables, input), out, err)
+        }
+        ChangedWord::Store(folder) => {
+            let store = ChangedStore {
+                folder,
+                start: start_of(words.start),
+                tells: !words.quiet,
+            };
+            write_store_changes(rt, files, store, out, err)
+        }
     }
 }

@@ -1,8 +1,6 @@
 //! Help about what a job names.
 
-use arguments::{
-    ChangesWords, ExportedWord, FilesWord, Job, QueryWords, ServeWords, SourceWord, StandingWord,
-};
+use arguments::{ChangesWords, ExportedWord, FilesWord, Job, QueryWords, ServeWords, StandingWord};
 use journal_file::JournalFile;
 use ssb_hints::{
     FaultLines, Named, NamedTables, ObservedFiles, Reports, STANDARD_INPUT, write_help, write_notes,
@@ -16,11 +14,9 @@ fn tables_named(folder: &str, layout: TableLayout) -> NamedTables<'_> {
     NamedTables { folder, layout }
 }
 
-// The table files of a source, where no store stands in their place.
-fn files_named<'a>(source: SourceWord<'a>) -> Option<NamedTables<'a>> {
-    source
-        .files()
-        .map(|FilesWord { data, layout }| tables_named(data, layout))
+// Table files, where no store stands in their place.
+fn files_named<'a>(files: Option<FilesWord<'a>>) -> Option<NamedTables<'a>> {
+    files.map(|FilesWord { data, layout }| tables_named(data, layout))
 }
 
 // The table files that are exported, where no store is.
@@ -81,7 +77,7 @@ fn statements_named<'a>(words: &QueryWords<'a>) -> Option<&'a str> {
 
 // The stream of a journal's groups, where the words have one.
 fn feed_named<'a>(words: &ChangesWords<'a>) -> Option<&'a str> {
-    match words.groups.feed() {
+    match words.changed.feed() {
         Some("-") => Some(STANDARD_INPUT),
         feed => feed,
     }
@@ -93,7 +89,7 @@ fn named_by<'a>(job: &'a Job<'_>) -> Named<'a> {
     match job {
         Job::Script => nothing,
         Job::Query(words) => Named {
-            data: files_named(words.source),
+            data: files_named(words.source.files()),
             store: words.source.store(),
             query: query_named(words),
             constants: words.constants.as_slice(),
@@ -108,7 +104,7 @@ fn named_by<'a>(job: &'a Job<'_>) -> Named<'a> {
             ..nothing
         },
         Job::Run(words) => Named {
-            data: files_named(words.source),
+            data: files_named(words.source.files()),
             store: words.source.store(),
             scripts: words.scripts.as_slice(),
             standing: standing_path(words.standing),
@@ -124,7 +120,7 @@ fn named_by<'a>(job: &'a Job<'_>) -> Named<'a> {
             ..nothing
         },
         Job::Audit(words) => Named {
-            data: files_named(words.source),
+            data: files_named(words.source.files()),
             store: words.source.store(),
             trace: Some(words.trace),
             ..nothing
@@ -137,13 +133,15 @@ fn named_by<'a>(job: &'a Job<'_>) -> Named<'a> {
             ..nothing
         },
         Job::Changes(words) => Named {
-            data: Some(tables_named(words.data, words.layout)),
-            journal: words.groups.journal(),
+            data: files_named(words.changed.files()),
+            journal: words.changed.journal(),
+            store: words.changed.store(),
             feed: feed_named(words),
             ..nothing
         },
         Job::Ship(words) => Named {
-            journal: Some(words.journal),
+            journal: words.shipped.journal(),
+            store: words.shipped.store(),
             ..nothing
         },
         Job::Store(words) => Named {

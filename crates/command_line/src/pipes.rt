@@ -20,7 +20,7 @@ fn loaded_folder<'a>(job: &Job<'a>) -> Option<&'a str> {
             ExportedWord::Journal(tables, _) => (tables.data, words.quiet),
             ExportedWord::Store(_) => return None,
         },
-        Job::Changes(words) => (words.data, words.quiet),
+        Job::Changes(words) => (words.changed.files()?.data, words.quiet),
         Job::Store(words) => (words.data, words.quiet),
     };
     // Those of a store are files.

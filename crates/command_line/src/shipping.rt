@@ -1,14 +1,15 @@
-//! A journal that is shipped as it grows.
+//! A journal or a store that is shipped as it grows.
 
-use arguments::ShipWords;
+use arguments::{ShipWords, ShippedWord};
 use journal_file::JournalFile;
 use ship_command::{Shipment, WatchedPath, run_ship};
 use std::io::Write;
 use std::rt::Files;
 use std::time::Clock;
+use store_command::{StoreShip, run_store_ship};
 
-/// Ships the groups of a journal, and gives the exit status.
-pub(crate) fn ship_journal<R: Clock + AllocGlobal, F: Files, W: Write, E: Write>(
+/// Ships the groups of a journal or a store, and gives the exit status.
+pub(crate) fn ship_groups<R: Clock + AllocGlobal, F: Files, W: Write, E: Write>(
     rt: &R,
     files: &F,
     words: &ShipWords<'_>,
@@ -18,13 +19,25 @@ pub(crate) fn ship_journal<R: Clock + AllocGlobal, F: Files, W: Write, E: Write>
 where
     F::File: JournalFile,
 {
-    let place = WatchedPath {
-        files,
-        path: words.journal,
-    };
-    let shipment = Shipment {
-        after: words.after,
-        once: words.once,
-    };
-    run_ship(rt, rt.alloc(), &place, shipment, out, err)
+    let (after, once) = (words.after, words.once);
+    match words.shipped {
+        ShippedWord::Journal(path) => {
+            let place = WatchedPath { files, path };
+            let shipment = Shipment {
+                past: 0,
+                after,
+                once,
+            };
+            run_ship(rt, rt.alloc(), &place, shipment, out, err)
+        }
+        ShippedWord::Store(folder) => {
+            let place = StoreShip {
+                files,
+                folder,
+                after,
+                once,
+            };
+            run_store_ship(rt, rt.alloc(), &place, out, err)
+        }
+    }
 }

@@ -1,4 +1,5 @@
-//! Stores: a new one, newer tables of one, one that is served, and one whose tables are exported.
+//! Stores: a new one, newer tables of one, one that is served, and one whose tables are exported, or whose changes are
+//! written.
 
 ghost use Rattle.std.specs.Thread.{IsSend};
 
@@ -6,6 +7,7 @@ use crate::command::{hashing_of, screen_of, serve_live};
 use crate::end_bell::EndBell;
 use crate::streams::Streams;
 use arguments::{CheckpointWords, ExportWords, ServeWords, StoreWord, StoreWords, StoredWord};
+use changes_command::ChangesStart;
 use journal_file::JournalFile;
 use serve_command::Past;
 use ssb_files::JobFault::Found;
@@ -23,8 +25,8 @@ use std::thread::Threads;
 use std::time::{Clock, Duration};
 use std::{io, thread};
 use store_command::{
-    CheckpointPlace, StoreExport, StoreJobFault, StoreRefusal, StoreSource, run_checkpoint,
-    run_store, run_store_export,
+    CheckpointPlace, StoreChanges, StoreExport, StoreJobFault, StoreRefusal, StoreSource,
+    run_checkpoint, run_store, run_store_changes, run_store_export,
 };
 use store_folder::{
     FoundStore, SegmentTurns, StoreFault, StorePlace, StoreUse, checkpoint_lock_path, find_store,
@@ -273,6 +275,60 @@ where
         tells: !words.quiet,
     };
     Ok(run_store_export(rt, hashing, tables, &place, err))
+}
+
+/// A store whose changes are written, and which of them.
+#[derive(Clone, Copy)]
+pub(crate) struct ChangedStore<'a> {
+    pub(crate) folder: &'a str,
+    pub(crate) start: ChangesStart,
+    /// Whether it is told how many commits it has.
+    pub(crate) tells: bool,
+}
+
+/// Writes what the commits of a store changed: those behind its newest tables, or behind the newest that no commit is
+/// lacking behind that is asked for.
+pub(crate) fn write_store_changes<R, F: Files + AllocGlobal, W: Write, E: Write>(
+    rt: &R,
+    files: &F,
+    store: ChangedStore<'_>,
+    out: &mut W,
+    err: &mut E,
+) -> Result<u8, Fault>
+where
+    R: RandomSource + Threads + Sync + AllocGlobal,
+    F::File: JournalFile,
+{
+    let ChangedStore {
+        folder,
+        start,
+        tells,
+    } = store;
+    let at = match start {
+        ChangesStart::Loaded => None,
+        ChangesStart::Behind(number) => Some(number),
+    };
+    let found = match find(files, files.alloc(), folder, at) {
+        Ok(found) => found,
+        Err(fault) => return Ok(fault.tell(err)),
+    };
+    let data = tables_path(files.alloc(), folder, found.after())?;
+    let tables = open_tables(files, data.as_str())?;
+    let hashing = hashing_of(rt)?;
+    let bytes = TableBytes::new();
+    let tables = TableFiles {
+        tables: count_tables(&bytes, tables),
+        layout: TableLayout::benchmark(),
+    };
+    let place = StoreChanges {
+        files,
+        store: folder,
+        found: &found,
+        start,
+        bytes: &bytes,
+        tells,
+    };
+    Ok(run_store_changes(rt, hashing, tables, &place, out, err))
 }
 
 // The store of a server.

@@ -4,7 +4,7 @@ use crate::memory::resident;
 use crate::seconds_view::NamedSeconds;
 use crate::store_figures::StoreCommits;
 use crate::stores::ServedStore;
-use arguments::{HintsWord, REFRESH_HELP, STAR_HELP, TERMINAL_HELP};
+use arguments::{HintsWord, REFRESH_HELP, SCHEMA_HELP, STAR_HELP, TERMINAL_HELP};
 use serve_command::ServeSettings;
 use server_figures::{LiveFigures, ServerStatus};
 use ssb_hints::{NamedTables, write_request_notes};
@@ -65,6 +65,10 @@ impl<'a, 't, R: Wait, F: Files + AllocGlobal> ShowsOnDemand for TerminalView<'a,
 
     fn help_with_refreshes(&self) -> &str {
         REFRESH_HELP
+    }
+
+    fn schema(&self) -> &str {
+        SCHEMA_HELP
     }
 
     fn note_request<E: Write>(&self, request: &[u8], screen: &mut E) {

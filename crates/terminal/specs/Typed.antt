@@ -41,6 +41,11 @@ spelling_of spelled.StrokeMark = codes "\\?"
 spelling_of spelled.StrokeHelp = codes "\\h"
 spelling_of spelled.HelpStar = codes "help star"
 spelling_of spelled.HelpBegin = codes "help begin"
+spelling_of spelled.Schema = codes "schema"
+spelling_of spelled.PointSchema = codes ".schema"
+spelling_of spelled.PointTables = codes ".tables"
+spelling_of spelled.StrokeTables = codes "\\dt"
+spelling_of spelled.StrokeTable = codes "\\d"
 spelling_of spelled.Timing = codes "timing"
 spelling_of spelled.StrokeTiming = codes "\\timing"
 spelling_of spelled.Status = codes "status"
@@ -59,6 +64,11 @@ said_by spelled.StrokeMark = word.Help
 said_by spelled.StrokeHelp = word.Help
 said_by spelled.HelpStar = word.HelpStar
 said_by spelled.HelpBegin = word.HelpBegin
+said_by spelled.Schema = word.Schema
+said_by spelled.PointSchema = word.Schema
+said_by spelled.PointTables = word.Schema
+said_by spelled.StrokeTables = word.Schema
+said_by spelled.StrokeTable = word.Schema
 said_by spelled.Timing = word.Timing
 said_by spelled.StrokeTiming = word.Timing
 said_by spelled.Status = word.Status
@@ -70,7 +80,8 @@ said_by spelled.PointExit = word.Quit
 
 abbrev pub spellings : List Spelling
 spellings = spelled.Help ∷ spelled.QuestionMark ∷ spelled.PointHelp ∷ spelled.StrokeMark ∷ spelled.StrokeHelp
-    ∷ spelled.HelpStar ∷ spelled.HelpBegin ∷ spelled.Timing ∷ spelled.StrokeTiming ∷ spelled.Status ∷ spelled.Quit
+    ∷ spelled.HelpStar ∷ spelled.HelpBegin ∷ spelled.Schema ∷ spelled.PointSchema ∷ spelled.PointTables
+    ∷ spelled.StrokeTables ∷ spelled.StrokeTable ∷ spelled.Timing ∷ spelled.StrokeTiming ∷ spelled.Status ∷ spelled.Quit
     ∷ spelled.StrokeQuit ∷ spelled.PointQuit ∷ spelled.Exit ∷ spelled.PointExit ∷ []
 
 abbrev pub is_bar : ℕ → Bool

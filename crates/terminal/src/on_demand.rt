@@ -14,6 +14,9 @@ pub trait ShowsOnDemand {
     /// How a refresh is written.
     fn help_with_refreshes(&self) -> &str;
 
+    /// The tables and their columns.
+    fn schema(&self) -> &str;
+
     /// Writes to the screen what the questions of a request look for that no row has, as far as that takes it.
     fn note_request<E: Write>(&self, request: &[u8], screen: &mut E);
 

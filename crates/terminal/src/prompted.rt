@@ -106,6 +106,9 @@ impl<'a, C: Clock, I: Read + Drop, E: Write + Drop, S: ShowsOnDemand> Prompted<'
                     .screen
                     .write_all(self.shows.help_with_refreshes().as_bytes());
             }
+            TerminalWord::Schema => {
+                let _ = self.screen.write_all(self.shows.schema().as_bytes());
+            }
             TerminalWord::Timing => self.watch.switch(&mut self.screen),
             TerminalWord::Status => {
                 let since_reply = self.watch.since_reply();

@@ -15,6 +15,8 @@ pub enum TerminalWord {
     HelpStar,
     /// Help with refreshes is shown.
     HelpBegin,
+    /// The tables and their columns are shown.
+    Schema,
     /// From then on, or no more, it is shown how long a reply took.
     Timing,
     /// How the server does is shown.
@@ -33,6 +35,11 @@ pub enum Spelling {
     StrokeHelp,
     HelpStar,
     HelpBegin,
+    Schema,
+    PointSchema,
+    PointTables,
+    StrokeTables,
+    StrokeTable,
     Timing,
     StrokeTiming,
     Status,
@@ -44,7 +51,7 @@ pub enum Spelling {
 }
 
 /// All spellings.
-pub(crate) const SPELLINGS: [Spelling; 15] = [
+pub(crate) const SPELLINGS: [Spelling; 20] = [
     Spelling::Help,
     Spelling::QuestionMark,
     Spelling::PointHelp,
@@ -52,6 +59,11 @@ pub(crate) const SPELLINGS: [Spelling; 15] = [
     Spelling::StrokeHelp,
     Spelling::HelpStar,
     Spelling::HelpBegin,
+    Spelling::Schema,
+    Spelling::PointSchema,
+    Spelling::PointTables,
+    Spelling::StrokeTables,
+    Spelling::StrokeTable,
     Spelling::Timing,
     Spelling::StrokeTiming,
     Spelling::Status,
@@ -75,6 +87,11 @@ impl Spelling {
             Spelling::StrokeHelp => b"\\h",
             Spelling::HelpStar => b"help star",
             Spelling::HelpBegin => b"help begin",
+            Spelling::Schema => b"schema",
+            Spelling::PointSchema => b".schema",
+            Spelling::PointTables => b".tables",
+            Spelling::StrokeTables => b"\\dt",
+            Spelling::StrokeTable => b"\\d",
             Spelling::Timing => b"timing",
             Spelling::StrokeTiming => b"\\timing",
             Spelling::Status => b"status",
@@ -98,6 +115,11 @@ impl Spelling {
             Spelling::StrokeHelp => TerminalWord::Help,
             Spelling::HelpStar => TerminalWord::HelpStar,
             Spelling::HelpBegin => TerminalWord::HelpBegin,
+            Spelling::Schema => TerminalWord::Schema,
+            Spelling::PointSchema => TerminalWord::Schema,
+            Spelling::PointTables => TerminalWord::Schema,
+            Spelling::StrokeTables => TerminalWord::Schema,
+            Spelling::StrokeTable => TerminalWord::Schema,
             Spelling::Timing => TerminalWord::Timing,
             Spelling::StrokeTiming => TerminalWord::Timing,
             Spelling::Status => TerminalWord::Status,
