@@ -3,7 +3,8 @@
 //! is told.
 //!
 //! A [`TearingDisk`] keeps its calls, and what a crash leaves is made of them, drawn by a seed. It is proved to be a
-//! disk as `journal` speaks of one. Of what it makes of a crash no clause speaks: tests alone ask for it.
+//! disk as `journal` speaks of one. Of what it makes of a crash no clause speaks: tests alone ask for it. [`tear`] is what
+//! a crash makes of one write.
 //!
 //! ```text
 //! let file = UnreadTearing::new(alloc, b"", None)?;    // a journal is read of it, and commits are appended
@@ -17,5 +18,6 @@ mod tearing_disk;
 mod tests;
 mod unread_tearing;
 
+pub use tearing::{Dice, tear, write_over};
 pub use tearing_disk::{DiskCall, TearingDisk};
 pub use unread_tearing::UnreadTearing;

@@ -5,17 +5,18 @@ use std::alloc::AllocError;
 
 /// Numbers that look random, the same for the same seed.
 #[derive(Drop)]
-pub(crate) struct Dice {
+pub struct Dice {
     state: u64,
 }
 
 impl Dice {
-    pub(crate) fn new(seed: u64) -> Dice {
+    /// Those of a seed.
+    pub fn new(seed: u64) -> Dice {
         Dice { state: seed }
     }
 
     /// A number below this one.
-    pub(crate) fn roll(&mut self, sides: usize) -> usize
+    pub fn roll(&mut self, sides: usize) -> usize
         requires { 0 < sides }
         ensures { result < sides }
     {
@@ -28,7 +29,7 @@ impl Dice {
 }
 
 /// Writes bytes over those of a file, and past its end.
-pub(crate) fn write_over(file: &mut Vec<u8>, at: usize, bytes: &[u8]) -> Result<(), AllocError> {
+pub fn write_over(file: &mut Vec<u8>, at: usize, bytes: &[u8]) -> Result<(), AllocError> {
     for (i, new) in bytes.iter().enumerate() {
         let place = at.saturating_add(i);
         if place < file.len() {
@@ -42,7 +43,7 @@ pub(crate) fn write_over(file: &mut Vec<u8>, at: usize, bytes: &[u8]) -> Result<
 
 /// The same of a write that a crash cuts short: of half of them a beginning is there, else all of it. In half of them
 /// each byte is the old one, the new one, an open gate or any other, else the new one.
-pub(crate) fn tear(
+pub fn tear(
     file: &mut Vec<u8>,
     at: usize,
     bytes: &[u8],

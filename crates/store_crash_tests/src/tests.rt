@@ -1,0 +1,5 @@
+mod crashes;
+mod found;
+mod log;
+mod runs;
+mod serving;
