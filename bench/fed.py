@@ -1,5 +1,5 @@
-"""A cluster that is fed as the journal of a server grows, for `cluster --live`: its answers as of any commit beside
-ours, and how far it is behind."""
+"""A cluster that is fed as the journal or the store of a server grows, for `cluster --live`: its answers as of any
+commit beside ours, and how far it is behind."""
 import bisect
 import concurrent.futures
 import os
@@ -13,7 +13,7 @@ import time
 from common import HERE, LIVE, NAMES, journal_words, machine
 from judge import Disagreement
 from killed import Steady
-from moments import commit_texts, rows_after
+from moments import commit_texts, rows_after, rows_at
 from pipes import PATIENCE, Asker, Flood, Server, in_turn, text_of
 from shards import load_dimensions, make_signed
 from stars import Stars, explained
@@ -26,6 +26,58 @@ KILLED_EACH = 10        # moments between two kills of the feed, in the second h
 BEHIND, FLOODING = 40_000, 4    # refreshes that the feed has to catch up with, and the clients that send them
 FIRST_KEY = 10**15      # of the orders of these
 TAKEN = "SELECT max(commit_number) FROM taken"
+SEGMENT, FOLDED_EACH = 1000, 2      # commits of a store's segment; seconds between its checkpoints
+
+
+class Journaled:
+    """What the server keeps: a journal over the tables."""
+
+    def __init__(self, data, folder, ships):
+        self.data, self.folder, self.ships, self.journal = data, folder, ships, folder / "journal"
+
+    def serve(self, *words):
+        return Server(self.data, self.folder, CLIENTS, *journal_words(self.journal), *words, quiet=False)
+
+    def feed_words(self):
+        shipping = shlex.join(map(str, (LIVE, "ship", "--journal", self.journal)))
+        return ["--data", self.data, *(["--over", shipping] if self.ships else ["--journal", self.journal])]
+
+    def end(self):
+        """Nothing is written any more; what it has is told of then."""
+        self.head, self.commits = commit_texts(self.journal)
+
+    def rows(self, commit, questions, folder):
+        return rows_after(self.data, folder, self.head, self.commits[:commit], questions)
+
+
+class Stored:
+    """The same of a store, which is folded again and again; all moments are kept."""
+
+    def __init__(self, data, folder):
+        self.folder, self.store, self.is_over = folder, folder / "store", threading.Event()
+        self.run("store", "--data", data)
+
+    def run(self, *words):
+        return subprocess.run([LIVE, *words, "--store", self.store, "--quiet"], check=True)
+
+    def fold(self):
+        while not self.is_over.wait(FOLDED_EACH):
+            self.run("checkpoint", "--keep-from", "0")
+
+    def serve(self, *words):
+        self.folding = threading.Thread(target=self.fold, daemon=True)
+        self.folding.start()
+        return Server(None, self.folder, CLIENTS, "--store", self.store, "--segment", str(SEGMENT), *words, quiet=False)
+
+    def feed_words(self):
+        return ["--store", self.store]
+
+    def end(self):
+        self.is_over.set()
+        self.folding.join(PATIENCE)
+
+    def rows(self, commit, questions, folder):
+        return rows_at(self.store, commit, questions, folder / "board")
 
 
 class Mixed(Steady):
@@ -67,11 +119,9 @@ class Load:
 class Feed:
     """The feed as a user runs it; `taken` are the numbers that it told, and `times` when, over all its starts."""
 
-    def __init__(self, data, journal, shards, folder, ships):
-        shipping = shlex.join(map(str, (LIVE, "ship", "--journal", journal)))
-        source = ["--over", shipping] if ships else ["--journal", journal]
+    def __init__(self, kept, shards, folder):
         places = [word for shard in shards for word in ("--to", f"127.0.0.1:{shard.port}")]
-        self.words = [HERE / "cluster", "feed", "--program", LIVE, "--data", data, *source, *places]
+        self.words = [HERE / "cluster", "feed", "--program", LIVE, *kept.feed_words(), *places]
         self.folder, self.taken, self.times, self.process = folder, [], [], None
 
     def start(self):
@@ -126,11 +176,11 @@ class Moment:
         self.theirs = [shard.rows(explained(question.name, question.constants, "--sql", "clickhouse", "--as-of",
                                             str(commit))) for question in questions]
 
-    def same(self, data, folder, head, commits):
+    def same(self, kept, folder):
         """How many answers are ours; those that are not are told."""
         own = folder / f"moment-{id(self)}"
         own.mkdir()
-        ours = rows_after(data, own, head, commits[:self.commit], self.questions)
+        ours = kept.rows(self.commit, self.questions, own)
         for question, mine, other in zip(self.questions, ours, self.theirs):
             if mine != other:
                 print(f"as of {self.commit}: {question.records()[0]}\n  ours: {mine[:3]}\n  theirs: {other[:3]}")
@@ -141,10 +191,11 @@ class Trial:
     def __init__(self, words, data, folder, shards):
         self.words, self.data, self.folder, self.shards = words, data, folder, shards
         self.source, self.tables = random.Random(words.seed), Tables(data)
-        self.stars, self.journal = Stars(self.tables, self.source), folder / "journal"
+        self.stars = Stars(self.tables, self.source)
         self.moments, self.kills, self.disturbed = [], 0, float("inf")
-        self.server = Server(data, folder, CLIENTS, *journal_words(self.journal), "--keep", quiet=False)
-        self.feed = Feed(data, self.journal, shards, folder, words.ship)
+        self.kept = Stored(data, folder) if words.store else Journaled(data, folder, words.ship)
+        self.server = self.kept.serve("--keep")
+        self.feed = Feed(self.kept, shards, folder)
 
     def run(self):
         load_dimensions(self.shards, self.data)
@@ -199,9 +250,9 @@ class Trial:
         return int(self.shards[0].rows("SELECT count() FROM signed_lines")[0])
 
     def judge(self):
-        head, commits = commit_texts(self.journal)
+        self.kept.end()
         with concurrent.futures.ThreadPoolExecutor(2) as pool:
-            same = sum(pool.map(lambda one: one.same(self.data, self.folder, head, commits), self.moments))
+            same = sum(pool.map(lambda one: one.same(self.kept, self.folder), self.moments))
         asked = sum(len(moment.questions) for moment in self.moments)
         reached = sum(moment.is_reached for moment in self.moments)
         print(f"{len(self.moments)} moments, {reached} of them just reached: {same:,} of {asked:,} answers are the "

@@ -1,14 +1,16 @@
 #!/usr/bin/env python3
 """cluster feed --data DIR --journal FILE --to HOST:PORT [--to HOST:PORT ..] [WORD..]
 cluster feed --data DIR --over COMMAND --to HOST:PORT [--to HOST:PORT ..] [WORD..]
+cluster feed --store FOLDER --to HOST:PORT [--to HOST:PORT ..] [WORD..]
 
-Feeds a cluster of ClickHouse servers with what each commit of a journal brought and took away, as the journal grows,
+Feeds a cluster of ClickHouse servers with what each commit of a journal or a store brought and took away, as it grows,
 beside the server that writes it. Each of them has the tables of signed_clickhouse.sql and signed_shards_clickhouse.sql.
 It is one file, over the standard library of Python 3.8 or later: `feed.py WORD..` is the same command.
 
   --data DIR       the tables of the server that has the journal
   --journal FILE   its journal, which is copied where it has grown; the feed runs on the machine that FILE is on
   --over COMMAND   else a shell's command that writes the journal's groups as they come, as `ssb_live ship` does
+  --store FOLDER   else the store of the server; its checkpoints have to keep what is not taken yet
   --to HOST:PORT   where a server of the cluster takes requests over HTTP; all of them are told, and the lines go in at
                    the first, which hands each order's to its server
   --every MS       between two looks for new commits (by default 100)
@@ -42,7 +44,8 @@ import urllib.parse
 
 LINES, PART = "signed_lines", "signed_lines_part"
 GROUP, GROUP_BYTES = re.compile(rb"([01]) (\d{15})\n"), 18      # the head of a group of a journal
-COMMITS = re.compile(r"ssb_live: journal: (\d+) commits")
+COMMITS = re.compile(r"ssb_live: (?:journal|store): (\d+) commits")
+SEGMENT = "journal."        # what the name of a segment begins with
 INSERTS = f"SELECT count() FROM system.processes WHERE query LIKE 'INSERT INTO%{LINES}%'"
 DELETES = f"SELECT count() FROM system.mutations WHERE table = '{PART}' AND is_done = 0"
 LIFE = b"1 000000000000033\nd41d8cd98f00b204e9800998ecf8427e\n"      # of `ship`, where no commits come
@@ -106,11 +109,56 @@ def has_head(copy):
     return size >= GROUP_BYTES and (not found or found[1] == b"1" and size >= GROUP_BYTES + int(found[2]))
 
 
-class Copied:
+class Stored:
+    """A store, read beside its server."""
+
+    def __init__(self, folder):
+        self.folder, self.state = folder, None
+
+    def look(self):
+        """Whether its segments have other bytes than at the last look."""
+        try:
+            with os.scandir(self.folder) as files:
+                state = {(file.name, file.stat().st_size, file.stat().st_mtime_ns) for file in files
+                         if file.name.startswith(SEGMENT)}
+        except FileNotFoundError:
+            return False        # a checkpoint has deleted one meanwhile
+        except OSError as why:
+            raise Stop(f"{self.folder}: {why.strerror}") from None
+        is_new = state != self.state
+        self.state = state
+        return is_new
+
+    def is_begun(self):
+        return True
+
+    def words(self):
+        """What `changes` reads."""
+        return ["--store", self.folder]
+
+    def end(self):
+        pass
+
+
+class Kept:
+    """A copy of a journal over tables."""
+
+    def __init__(self, data, folder):
+        self.data, self.copy = data, folder / "journal"
+
+    def is_begun(self):
+        return has_head(self.copy)
+
+    def words(self):
+        return ["--data", self.data, "--journal", self.copy]
+
+
+class Copied(Kept):
     """The journal, and a copy of it that is made anew where it has grown."""
 
-    def __init__(self, path, folder):
-        self.path, self.copy, self.state = path, folder / "journal", None
+    def __init__(self, path, data, folder):
+        super().__init__(data, folder)
+        self.path, self.state = path, None
 
     def look(self):
         """Whether it has other bytes than at the last look. They are on the disk, and in the copy."""
@@ -131,12 +179,13 @@ class Copied:
         pass
 
 
-class Streamed:
+class Streamed(Kept):
     """What a command writes of the journal, kept in a file as it comes. The command ends with the feed, which reads its
     output."""
 
-    def __init__(self, command, folder, is_once):
-        self.copy, self.size = folder / "journal", 0
+    def __init__(self, command, data, folder, is_once):
+        super().__init__(data, folder)
+        self.size = 0
         self.copy.touch()
         self.process = subprocess.Popen(command, shell=True, stdin=subprocess.DEVNULL, stdout=subprocess.PIPE,
                                         bufsize=0)
@@ -170,7 +219,12 @@ class Feed:
     def __init__(self, words, folder):
         self.words, self.rows = words, folder / "rows"
         self.servers = [Server(place) for place in words.to]
-        self.journal = Copied(words.journal, folder) if words.journal else Streamed(words.over, folder, words.once)
+        if words.store:
+            self.source = Stored(words.store)
+        elif words.journal:
+            self.source = Copied(words.journal, words.data, folder)
+        else:
+            self.source = Streamed(words.over, words.data, folder, words.once)
 
     def tell(self, text):
         if not self.words.quiet:
@@ -180,13 +234,13 @@ class Feed:
         try:
             self.begin()
             while True:
-                if self.journal.look() and has_head(self.journal.copy):
+                if self.source.look() and self.source.is_begun():
                     self.take()
                 if self.words.once:
                     return
                 time.sleep(self.words.every / 1000)
         finally:
-            self.journal.end()
+            self.source.end()
 
     def begin(self):
         """What is there of an earlier feed: its number counts, and what it took in behind that is deleted, once no
@@ -201,7 +255,7 @@ class Feed:
         self.tell("nothing is taken yet" if self.taken is None else f"{self.taken} commits are taken")
 
     def take(self):
-        """Takes in what is new in the journal's copy."""
+        """Takes in what is new."""
         reached = self.write_changes()
         if reached == self.taken:
             return
@@ -215,7 +269,7 @@ class Feed:
     def write_changes(self):
         """Writes the signed lines that are not taken yet; gives how many commits they reach to."""
         behind = ["--base"] if self.taken is None else ["--after", str(self.taken)]
-        words = [self.words.program, "changes", "--data", self.words.data, "--journal", self.journal.copy, *behind]
+        words = [self.words.program, "changes", *self.source.words(), *behind]
         with open(self.rows, "wb") as rows:
             done = subprocess.run(words, stdin=subprocess.DEVNULL, stdout=rows, stderr=subprocess.PIPE, text=True)
         found = COMMITS.search(done.stderr)
@@ -229,6 +283,7 @@ def read_words(words):
     parser.add_argument("--data")
     parser.add_argument("--journal")
     parser.add_argument("--over")
+    parser.add_argument("--store")
     parser.add_argument("--to", action="append", default=[])
     parser.add_argument("--every", type=float, default=100)
     parser.add_argument("--once", action="store_true")
@@ -244,7 +299,9 @@ def main(given):
         print(__doc__)
         return 0
     are_places = all(re.fullmatch(r".+:\d+", place) for place in words.to)
-    if not (words.data and words.to and are_places) or bool(words.journal) == bool(words.over) or words.every <= 0:
+    sources = [source for source in (words.journal, words.over, words.store) if source]
+    has_tables = bool(words.data) != bool(words.store)
+    if not (words.to and are_places and has_tables) or len(sources) != 1 or words.every <= 0:
         print(__doc__, file=sys.stderr)
         return 2
     signal.signal(signal.SIGTERM, signal.default_int_handler)

@@ -11,11 +11,13 @@ It is one file, over the standard library of Python 3.8 or later: `link.py WORD.
   --journal FILE         the first server's journal; where it is not there yet, the link waits for it
   -                      else standard input has what `ship` writes of it, or
   --from COMMAND         a shell's command writes that to its output; it has how many commits the second has in $AFTER,
-                         for `ship --after $AFTER` with --uncompared
+                         for `ship --after $AFTER` with --uncompared; with --last N, N less
   --to IN OUT            the pipes of the second's client 1, where they are on this machine
   --over COMMAND         else a shell's command, from whose input IN is written, and whose output is read from OUT
   --second FILE          the second's journal, or
   --second-over COMMAND  a shell's command that writes it to its output: the commits that both have are compared
+  --last N               of the commits that both have the last N are compared, those before are not: for stores, with
+                         `ship --store FOLDER --after $AFTER` as COMMAND of --from, and with --once of --second-over
   --uncompared           goes on behind the commits that the second has, though nothing shows which these are
   --confirm BY           writes to the pipe BY how many commits the second has, as `committed N`, for a first server
                          that tells a client only what is confirmed so (`serve --confirmed BY`), or
@@ -101,10 +103,11 @@ class Journal:
     has_ended = False           # nothing can come any more
     news = None                 # a file that can be read when there may be more
     passed = 0                  # commits that come before the first group of commits
+    after = 0                   # commits that a command may leave out
 
     def __init__(self, path):
         self.path, self.file, self.end, self.want = path, None, 0, PART
-        self.head, self.groups, self.is_at_end, self.is_idle = None, 0, False, False
+        self.head, self.groups, self.is_at_end, self.is_idle, self.is_begun = None, 0, False, False, False
 
     def is_there(self):
         if self.file is None:
@@ -144,6 +147,14 @@ class Journal:
         self.end += place
         self.is_at_end = not texts and (after == place or is_short)
         return texts[1:] if texts and texts[0] is self.head else texts
+
+    def take_mark(self, texts):
+        """A mark, which stands before all commits, is told, and left out; whether there was one."""
+        mark = MARK.fullmatch(texts[0]) if texts and not self.is_begun else None
+        if mark:
+            self.passed = int(mark[1])
+            del texts[0]
+        self.is_begun = self.is_begun or bool(texts or mark)
 
     def open_group(self, group):
         text = group[CHECKSUM_BYTES:]
@@ -197,21 +208,25 @@ def writes_of(path):
     return None
 
 
+def begin(command, after):
+    """A shell's command that writes a journal, and may leave out so many commits."""
+    return subprocess.Popen(command, shell=True, stdin=subprocess.DEVNULL, stdout=subprocess.PIPE,
+                            env={**os.environ, "AFTER": str(after)})
+
+
 class Shipped(Journal):
     """What `ship` writes of a journal, to standard input or as a command's output: the groups that count, which are on
     its disk, as they come, and a sign of life where there are none."""
 
     def __init__(self, command):
         super().__init__(f"what `{command}` writes" if command else "standard input")
-        self.command, self.after, self.is_begun = command, 0, False
-        self.left, self.start, self.heard = bytearray(), 0, time.monotonic()
+        self.command, self.left, self.start, self.heard = command, bytearray(), 0, time.monotonic()
 
     def is_there(self):
         if self.file is None:
             source = sys.stdin
             if self.command:
-                self.process = subprocess.Popen(self.command, shell=True, stdin=subprocess.DEVNULL,
-                                                stdout=subprocess.PIPE, env={**os.environ, "AFTER": str(self.after)})
+                self.process = begin(self.command, self.after)
                 source = self.process.stdout
             self.file = self.news = source.fileno()
             os.set_blocking(self.file, False)
@@ -236,11 +251,7 @@ class Shipped(Journal):
     def read(self):
         """The same; at its end is what has ended, or was idle behind the last group. A mark is told, and left out."""
         texts = super().read()
-        mark = MARK.fullmatch(texts[0]) if texts and not self.is_begun else None
-        if mark:
-            self.passed = int(mark[1])
-            del texts[0]
-        self.is_begun = self.is_begun or bool(texts or mark)
+        self.take_mark(texts)
         self.is_at_end = not texts and (self.has_ended or self.is_idle)
         return texts
 
@@ -261,7 +272,7 @@ class Shipped(Journal):
 
 
 class JournalOver(Journal):
-    """A journal that a command writes to its output."""
+    """A journal that a command writes to its output, or what `ship --once` writes."""
 
     def __init__(self, command):
         super().__init__(f"what `{command}` writes")
@@ -269,8 +280,13 @@ class JournalOver(Journal):
 
     def is_there(self):
         if self.process is None:
-            self.process = subprocess.Popen(self.command, shell=True, stdin=subprocess.DEVNULL, stdout=subprocess.PIPE)
+            self.process = begin(self.command, self.after)
         return True
+
+    def read(self):
+        texts = super().read()
+        self.take_mark(texts)
+        return texts
 
     def look(self):
         self.left, self.start = self.left[self.end - self.start:], self.end
@@ -446,6 +462,7 @@ class Link:
         self.told = open(words.told, "ab", buffering=0) if words.told else None
         self.ready, self.is_synced, self.are_tables_compared = collections.deque(), True, False
         self.count = self.under_way = 0
+        self.compared = 0           # the number of the second's commit that was looked at last
         self.beat = None            # what the second says if nobody else commits there
         self.heard = self.grown = time.monotonic()
 
@@ -455,7 +472,9 @@ class Link:
 
     def run(self):
         self.connect()
-        self.journal.after = self.count
+        self.journal.after = max(0, self.count - self.words.last)
+        if self.other:
+            self.other.after = self.journal.after
         self.wait_for_journal()
         self.pass_over()
         self.tell(f"{self.count} commits, then as they come")
@@ -545,12 +564,15 @@ class Link:
         passed = self.journal.passed
         if passed > self.count:
             raise Stop(f"the second has {self.count} commits, and {self.journal.path} those behind {passed}")
-        if passed and not self.words.uncompared:
+        if passed > self.journal.after or passed and not (self.words.uncompared or self.words.last):
             raise Stop(f"{self.journal.path} has no commits to {passed}, which are not compared: --uncompared")
 
     def compare(self, number, mine, theirs):
-        """A commit with the next one of the second's journal, where that is shown."""
-        other = next(theirs, None) if theirs else mine
+        """A commit with the one of this number of the second's journal, where that is shown."""
+        if theirs is None or number <= self.other.passed:
+            return
+        while self.compared < number:
+            other, self.compared = next(theirs, None), self.compared + 1
         if other is None:
             raise Stop(f"{self.other.path} has {number - 1} commits, and the second {self.count}: it is another "
                        "journal, or an older copy")
@@ -562,11 +584,12 @@ class Link:
             return None
         if not self.other.is_there():
             raise Stop(f"there is no {self.other.path}")
-        first = self.other.read()           # with it comes the head
+        first = self.other.read()           # with it come the head and a mark
+        self.compared = self.other.passed
         return itertools.chain(itertools.chain.from_iterable(map(commits_of, first)), self.other.commits())
 
     def compare_tables(self):
-        if self.are_tables_compared or self.other is None or self.journal.head is None:
+        if self.are_tables_compared or self.other is None or self.journal.head is None or self.words.last:
             return
         if self.other.head is None:
             raise Stop(f"{self.other.path} is no journal")
@@ -655,6 +678,7 @@ def read_words(words):
     parser.add_argument("--over")
     parser.add_argument("--second")
     parser.add_argument("--second-over")
+    parser.add_argument("--last", type=int, default=0)
     parser.add_argument("--uncompared", action="store_true")
     parser.add_argument("--confirm")
     parser.add_argument("--confirm-over")
@@ -677,7 +701,8 @@ def main(given):
              [words.confirm or words.confirm_over, words.uncompared], [words.to, words.over],
              [words.journal, words.command, words.input]]
     are_alone = all(sum(map(bool, group)) < 2 for group in alone) and all(map(any, alone[3:]))
-    if not are_alone or words.ahead < 1 or words.every <= 0:
+    has_second = bool(words.second_over and words.command)
+    if not are_alone or words.ahead < 1 or words.every <= 0 or words.last < 0 or words.last and not has_second:
         print(__doc__, file=sys.stderr)
         return 2
     signal.signal(signal.SIGTERM, signal.default_int_handler)

@@ -1,5 +1,5 @@
 """Our answers as of a commit, for `changes` and `cluster --live`: over the tables that `export` writes of a journal
-with the first commits alone."""
+with the first commits alone, or of a store by `query --store FOLDER --at N`."""
 import hashlib
 import shutil
 import subprocess
@@ -28,4 +28,17 @@ def rows_after(data, folder, head, commits, questions):
     subprocess.run([LIVE, "export", "--data", data, "--journal", journal, "--to", tables, "--quiet"], check=True)
     rows = answers(tables, questions, folder / "questions")
     shutil.rmtree(tables)
+    return rows
+
+
+def rows_at(store, commit, questions, board):
+    """The same of a store; the board is left with the questions."""
+    titled = (question.records()[0].replace("query", "Q", 1) for question in questions)
+    board.write_text("".join(f"{line}\n" for line in titled), encoding="utf-8")
+    words = [LIVE, "query", "--store", store, "--at", str(commit), "--board", board, "--quiet"]
+    lines = iter(subprocess.run(words, check=True, stdout=subprocess.PIPE).stdout.decode().split("\n"))
+    rows = []
+    for _ in questions:
+        next(lines)
+        rows.append([next(lines) for _ in range(int(next(lines).rpartition(" rows ")[2]))])
     return rows

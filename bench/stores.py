@@ -1,4 +1,6 @@
 """Reads a store of `ssb_live serve --store`, by docs/FORMATS.md alone: its tables, and the commits in its segments."""
+import contextlib
+import copy
 import hashlib
 import re
 import subprocess
@@ -67,6 +69,18 @@ class StoreReader:
         self.tables = {}                # a digest of each tables that are whole, by their numbers
         self.count = 0
         self.look()
+
+    def keep(self):
+        """All that is there is on the disk."""
+        self.kept = copy.deepcopy(self.segments), self.count
+
+    def go_back(self):
+        """Behind a power cut, which may have taken what came since: but of segments that are gone, what newer tables
+        have was seen in time, and stays."""
+        seen, (self.segments, self.count) = self.segments, self.kept
+        self.look()
+        gone = {number for number in seen if number < self.newest and number not in self.present}
+        self.segments.update((number, seen[number]) for number in gone)
 
     def read(self):
         """The commits that were not there the last time."""
@@ -146,17 +160,20 @@ def digest(texts):
 class Checkpoint:
     """A checkpoint that goes on beside the server, until its end or until it is killed."""
 
-    def __init__(self, reader, file, seconds=None):
-        self.reader, self.newest = reader, reader.newest
+    def __init__(self, reader, file, seconds=None, env=None, moment=contextlib.nullcontext):
+        """It is killed in a `moment`."""
+        self.reader, self.newest, self.moment = reader, reader.newest, moment
         self.kill_at = time.monotonic() + seconds if seconds is not None else None
         self.errors = open(file, "w+")
         words = [LIVE, "checkpoint", "--store", reader.folder]
-        self.process = subprocess.Popen(words, stdin=subprocess.DEVNULL, stderr=self.errors)
+        self.process = subprocess.Popen(words, stdin=subprocess.DEVNULL, stderr=self.errors, env=env)
 
     def is_over(self):
         """Whether it has ended; where its time has come, it is killed."""
-        if self.kill_at is not None and time.monotonic() >= self.kill_at:
-            self.kill()
+        if self.kill_at is not None and time.monotonic() >= self.kill_at and self.process.poll() is None:
+            with self.moment():
+                self.kill()
+                self.process.wait()
         return self.process.poll() is not None
 
     def kill(self):
