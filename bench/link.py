@@ -149,7 +149,7 @@ class Journal:
         return texts[1:] if texts and texts[0] is self.head else texts
 
     def take_mark(self, texts):
-        """A mark, which stands before all commits, is told, and left out; whether there was one."""
+        """A mark, which stands before all commits, is told, and left out of the texts."""
         mark = MARK.fullmatch(texts[0]) if texts and not self.is_begun else None
         if mark:
             self.passed = int(mark[1])
