@@ -3,12 +3,14 @@ use Rattle.std.proofs.Common.{◌≡◌, ◌≢◌, ℕ, ◌+◌, ◌-◌, ◌<�
 use Rattle.std.proofs.Common.{refl, ap, ◌∙◌, sym, arith, append_assoc, append-nil}
 use Rattle.std.specs.List.{range_with_len}
 use Rattle.std.proofs.lemmas.List.{get_or-set_same, get_or-set_other, get_or_push, get_or_append_left}
+use Rattle.std.proofs.lemmas.List.{length-append}
 use Rattle.std.proofs.lemmas.List.{ext_get_or, get_or-append-add, get_or-map, get_or_default, length-map}
 use Rattle.std.proofs.lemmas.List.FromFn.{map-range_with_len_more, length-map-range_with_len, get_or-map-range_with_len}
 use Rattle.std.proofs.lemmas.Grind.{same_number_lists}
 use Rattle.fact_columns.specs.declared.place.Place.{Place}
 use Rattle.fact_columns.specs.Places.{freed}
 use Rattle.fact_columns.specs.Columns.{Held, place_at, held, AreAlike}
+use Rattle.fact_columns.specs.RowColumns.{RowColumns}
 use Rattle.fact_columns.specs.declared.place_columns.PlaceColumns.TheInside.{Inside}
 use Rattle.std.specs.Vec.{vec_len}
 
@@ -177,10 +179,14 @@ append_places order customer supplier part date terms price revenue cost custome
     part_class2 date_class2 n m long long2 = grind (arith, append_some, front, behind)
 
 -- a table's columns are so long
-pub alike_long : (t : Inside) → AreAlike t → AreLong t.order.items t.customer.items t.supplier.items t.part.items
-    t.date.items t.terms.items t.price.items t.revenue.items t.cost.items t.customer_class.items t.supplier_class.items
+pub alike_long : (t : Inside) → AreAlike t → AreLong t.order.items t.rows.columns.customers t.rows.columns.suppliers t.rows.columns.parts
+    t.rows.columns.dates t.terms.items t.price.items t.revenue.items t.cost.items t.customer_class.items t.supplier_class.items
     t.part_class.items t.date_class.items (vec_len t.order)
 alike_long t alike = grind arith
+
+-- a column behind which stands another, as the others do
+pub longer_by : (xs ys : List ℕ) (n m all : ℕ) → length xs ≡ n → length ys ≡ m → all ≡ n + m → length (xs ++ ys) ≡ all
+longer_by xs ys n m all long others is = omega (arith, length-append xs ys, long, others, is)
 
 -- a table that has room for so many places has memory for the columns of as many
 pub room_for : (t o : Inside) (h k : Held) (count : ℕ) → AreAlike t → held t ≡ h → held o ≡ k → count ≤ h.room
@@ -202,7 +208,7 @@ column_of field f xs n same each = same_number_lists xs (map field (map f (range
 
 -- what stands at a place
 pub read_at : (t : Inside) (h : Held) → held t ≡ h → (i : ℕ) (d : Place) → i < vec_len t.order
-    → place_at t.order.items t.customer.items t.supplier.items t.part.items t.date.items t.terms.items t.price.items
+    → place_at t.order.items t.rows.columns.customers t.rows.columns.suppliers t.rows.columns.parts t.rows.columns.dates t.terms.items t.price.items
     t.revenue.items t.cost.items t.customer_class.items t.supplier_class.items t.part_class.items t.date_class.items
     i ≡ get_or h.places i d
 read_at t h is i d within = grind (arith, get_or-map-range_with_len, zero_add)
@@ -212,12 +218,21 @@ pub element : (xs : List ℕ) (i x : ℕ) → i < length xs → x ≡ get_or xs 
 element xs i x within is = is ∙ get_or_default xs i x 0 within
 
 -- a column, read in the order of these numbers
-abbrev read_in : List ℕ → List ℕ → List ℕ
+abbrev pub read_in : List ℕ → List ℕ → List ℕ
 read_in numbers column = map (λ number. get_or column number 0) numbers
 
 read_next : (numbers column : List ℕ) (i : ℕ) → i < length numbers
     → get_or (read_in numbers column) i 0 ≡ get_or column (get_or numbers i 0) 0
 read_next numbers column i within = get_or-map (λ number. get_or column number 0) numbers i 0 0 within
+
+-- the rows that lines name, read in the order of these numbers
+abbrev pub read_rows : List ℕ → RowColumns → RowColumns
+read_rows numbers rows = record {
+  customers = read_in numbers rows.customers;
+  suppliers = read_in numbers rows.suppliers;
+  parts = read_in numbers rows.parts;
+  dates = read_in numbers rows.dates;
+}
 
 -- places whose columns are read in the order of these numbers
 pub laid_places : (order customer supplier part date terms price revenue cost customer_class supplier_class part_class

@@ -10,7 +10,8 @@ use Rattle.fact_columns.specs.declared.place.Place.{Place}
 use Rattle.fact_columns.specs.declared.table_zones.TableZones.{TableZones}
 use Rattle.fact_columns.specs.Columns.{Held}
 use Rattle.fact_columns.specs.Places.{freed}
-use Rattle.fact_columns.specs.Zoned.{AreTableZones, AreZonesOfPlaces, CoverAll, HasPlace, HasRow, KeepAll, KeepSets}
+use Rattle.fact_columns.specs.Watching.{scanned_line}
+use Rattle.fact_columns.specs.Zoned.{AreTableZones, AreZonesOfPlaces, CoverAll, HasLine, HasRow, KeepAll, KeepSets}
 use Rattle.fact_columns.specs.ZoneSets.{Sets}
 
 -- sets that were not touched
@@ -101,7 +102,7 @@ module _ (old new : TableZones) (places : List Place) (keep : KeepAll old new) (
   within_rows : (f : Place → ℕ) (at : ℕ) → at < length places → at < length (map f places)
   within_rows f at within = omega (arith, within, length-map places f)
 
-  pub zones_write : (at : ℕ) (with : Place) → at < length places → HasPlace new at with
+  pub zones_write : (at : ℕ) (with : Place) → at < length places → HasLine new at (scanned_line with)
       → AreZonesOfPlaces new (set places at with)
   zones_write at with within here = record {
     customers = rw (map-set (λ (p : Place). p.customer_class) places at with) (zoned_set old.customers new.customers _
@@ -117,7 +118,7 @@ module _ (old new : TableZones) (places : List Place) (keep : KeepAll old new) (
   as_many_rows : (f : Place → ℕ) (at : ℕ) → length places ≡ at → length (map f places) ≡ at
   as_many_rows f at long = length-map places f ∙ long
 
-  pub zones_push : (at : ℕ) (with : Place) → length places ≡ at → HasPlace new at with
+  pub zones_push : (at : ℕ) (with : Place) → length places ≡ at → HasLine new at (scanned_line with)
       → AreZonesOfPlaces new (places ++ with ∷ [])
   zones_push at with long here = record {
     customers = rw (map_push (λ (p : Place). p.customer_class) places with) (zoned_push old.customers new.customers _
@@ -164,7 +165,7 @@ no_place = record {
 -- zones of a table after a write, after one place more, and after a place is freed
 pub table_written : (columns later : Held) (old new : TableZones) (at : ℕ) (with : Place) → AreTableZones columns old
     → at < length columns.places → later.places ≡ set columns.places at with → later.room ≡ columns.room
-    → KeepAll old new → HasPlace new at with → AreTableZones later new
+    → KeepAll old new → HasLine new at (scanned_line with) → AreTableZones later new
 table_written columns later old new at with h within places room keep here = record {
   zoned = subst (AreZonesOfPlaces new) (sym places)
       (zones_write old new columns.places keep h.zoned at with within here);
@@ -174,7 +175,7 @@ table_written columns later old new at with h within places room keep here = rec
 
 pub table_pushed : (columns later : Held) (old new : TableZones) (at : ℕ) (with : Place) → AreTableZones columns old
     → length columns.places ≡ at → later.places ≡ columns.places ++ with ∷ [] → columns.room ≡ later.room + 1
-    → KeepAll old new → HasPlace new at with → AreTableZones later new
+    → KeepAll old new → HasLine new at (scanned_line with) → AreTableZones later new
 table_pushed columns later old new at with h long places room keep here = record {
   zoned = subst (AreZonesOfPlaces new) (sym places)
       (zones_push old new columns.places keep h.zoned at with long here);

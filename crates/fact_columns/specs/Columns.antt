@@ -1,5 +1,5 @@
 -- The columns of the fact table as a list of places.
-use Rattle.std.specs.Prelude.{◌≡◌, ℕ, ◌-◌, ◌≤◌, List, map, slice_index, vec_len, vec_capacity}
+use Rattle.std.specs.Prelude.{◌≡◌, ℕ, ◌-◌, ◌≤◌, List, length, map, slice_index, vec_len, vec_capacity}
 use Rattle.std.specs.List.{range_with_len}
 use Rattle.fact_columns.specs.declared.place.Place.{Place}
 use Rattle.scan_kernel.specs.declared.columns.LineColumns.{LineColumns}
@@ -44,18 +44,18 @@ pub record AreColumnsOf (places : List Place) (lines : LineColumns) : Type 0 whe
 -- a table's columns as one list of places
 abbrev pub held : Inside → Held
 held t = record {
-  places = map (place_at t.order.items t.customer.items t.supplier.items t.part.items t.date.items t.terms.items
+  places = map (place_at t.order.items t.rows.columns.customers t.rows.columns.suppliers t.rows.columns.parts t.rows.columns.dates t.terms.items
       t.price.items t.revenue.items t.cost.items t.customer_class.items t.supplier_class.items t.part_class.items
       t.date_class.items) (range_with_len 0 (vec_len t.order));
   room = t.capacity - vec_len t.order;
 }
 
--- every column is as long as the first, and has memory for the table's capacity
+-- every column is as long as the first, and each that memory holds has room for the table's capacity
 pub record AreAlike (t : Inside) : Type 0 where
-  pub customer : vec_len t.customer ≡ vec_len t.order
-  pub supplier : vec_len t.supplier ≡ vec_len t.order
-  pub part : vec_len t.part ≡ vec_len t.order
-  pub date : vec_len t.date ≡ vec_len t.order
+  pub customer : length t.rows.columns.customers ≡ vec_len t.order
+  pub supplier : length t.rows.columns.suppliers ≡ vec_len t.order
+  pub part : length t.rows.columns.parts ≡ vec_len t.order
+  pub date : length t.rows.columns.dates ≡ vec_len t.order
   pub terms : vec_len t.terms ≡ vec_len t.order
   pub price : vec_len t.price ≡ vec_len t.order
   pub revenue : vec_len t.revenue ≡ vec_len t.order
@@ -66,10 +66,6 @@ pub record AreAlike (t : Inside) : Type 0 where
   pub date_class : vec_len t.date_class ≡ vec_len t.order
   pub within : vec_len t.order ≤ t.capacity
   pub order_room : t.capacity ≤ vec_capacity t.order
-  pub customer_room : t.capacity ≤ vec_capacity t.customer
-  pub supplier_room : t.capacity ≤ vec_capacity t.supplier
-  pub part_room : t.capacity ≤ vec_capacity t.part
-  pub date_room : t.capacity ≤ vec_capacity t.date
   pub terms_room : t.capacity ≤ vec_capacity t.terms
   pub price_room : t.capacity ≤ vec_capacity t.price
   pub revenue_room : t.capacity ≤ vec_capacity t.revenue

@@ -1,4 +1,5 @@
 pub mod Places
+pub mod RowColumns
 pub mod Columns
 pub mod Filters
 pub mod Classed

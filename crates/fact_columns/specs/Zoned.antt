@@ -2,6 +2,7 @@
 use Rattle.std.specs.Prelude.{ℕ, ◌≡◌, ◌+◌, ◌*◌, ◌/◌, ◌≤◌, List, [], length, map, slice_index}
 use Rattle.scan_kernel.specs.Zones.{AreZonesOf, HasCode, chunk_size, coarse}
 use Rattle.fact_columns.specs.declared.place.Place.{Place}
+use Rattle.fact_columns.specs.declared.scanned_line.ScannedLine.{ScannedLine}
 use Rattle.fact_columns.specs.declared.table_zones.TableZones.{TableZones}
 use Rattle.fact_columns.specs.Columns.{Held}
 use Rattle.fact_columns.specs.ZoneSets.{Sets}
@@ -40,12 +41,12 @@ pub record KeepAll (old new : TableZones) : Type 0 where
   pub parts : KeepSets old.parts new.parts
   pub dates : KeepSets old.dates new.dates
 
--- the chunk of a place has what stands there
-pub record HasPlace (zones : TableZones) (at : ℕ) (place : Place) : Type 0 where
-  pub customer : HasRow zones.customers at place.customer_class
-  pub supplier : HasRow zones.suppliers at place.supplier_class
-  pub part : HasRow zones.parts at place.part_class
-  pub date : HasRow zones.dates at place.date_class
+-- the chunk of a place has the line that stands there
+pub record HasLine (zones : TableZones) (at : ℕ) (line : ScannedLine) : Type 0 where
+  pub customer : HasRow zones.customers at line.customer
+  pub supplier : HasRow zones.suppliers at line.supplier
+  pub part : HasRow zones.parts at line.part
+  pub date : HasRow zones.dates at line.date
 
 -- each place is in its chunk's sets
 pub record AreZonesOfPlaces (zones : TableZones) (places : List Place) : Type 0 where

@@ -1,5 +1,5 @@
 //! The columns as a replica.
-ghost use Rattle.std.specs.Prelude.{◌≡◌, ◌<◌, ◌^◌, [], ℕ, List, length, nat_eq, slice_index_or, IfOk, MatchResult};
+ghost use Rattle.std.specs.Prelude.{◌≡◌, ◌<◌, ◌^◌, [], ℕ, List, length, nat_eq, option_map, slice_index_or, IfOk, MatchResult};
 ghost use Rattle.std.specs.Prelude.{OnErr, OnOk};
 ghost use Rattle.std.specs.HashMap.{get};
 ghost use Rattle.ssb_schema.specs.Facts.{facts_of};
@@ -9,16 +9,17 @@ ghost use Rattle.row_store.specs.State.{StandsFor, state_of, state_after};
 ghost use Rattle.fact_columns.specs.declared.place.Place.{Place as PlainPlace};
 ghost use Rattle.fact_columns.specs.Loading.{IsLoaded};
 ghost use Rattle.fact_columns.specs.Columns.{AreColumnsOf};
-ghost use Rattle.fact_columns.specs.Spans.{Covers};
+ghost use Rattle.fact_columns.specs.Spans.{Covers, live_at};
 ghost use Rattle.fact_columns.specs.Stored.{Stored, IsRead, columns_state};
-ghost use Rattle.fact_columns.specs.Watching.{FollowsOn};
+ghost use Rattle.fact_columns.specs.Watching.{FollowsOn, scanned_line};
 
 use crate::coding::coded_actions;
 use crate::fact_table::FactTable;
 use crate::hints::Hints;
 use crate::loading::{Loaded, laid_lines, spans_of};
 use crate::orders::apply_actions;
-use crate::place::Place;
+use crate::placing::live_order;
+use crate::scanned_line::ScannedLine;
 use crate::span::{Spans, SpansByKey};
 use crate::watch::{Nobody, Watch};
 use dimension_index::DimIndex;
@@ -136,12 +137,19 @@ impl Columns {
         let _rows = self.rows();
     }
 
-    /// What stands at a place.
-    pub fn at(&self, place: usize) -> Place
-        requires { place < length self.now.places }
-        ensures { (other : PlainPlace) → result ≡ slice_index_or self.now.places place other }
+    /// The order of the live line at a place; None where the place is free, or there is none.
+    pub fn live_order(&self, place: usize) -> Option<u64>
+        ensures { result ≡ option_map (λ (line : PlainPlace). line.order) (live_at self.now.places place) }
     {
-        self.table.at(place)
+        live_order(&self.table, place)
+    }
+
+    /// The line at a place, as queries read it.
+    pub fn scanned_line(&self, place: usize) -> ScannedLine
+        requires { place < length self.now.places }
+        ensures { (other : PlainPlace) → result ≡ scanned_line (slice_index_or self.now.places place other) }
+    {
+        self.table.scanned_line(place)
     }
 
     /// The columns that queries read: a line's rows by their classes.

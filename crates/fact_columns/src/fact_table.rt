@@ -42,7 +42,7 @@ fn mark_from(columns: &PlaceColumns, zones: &mut TableZones, from: usize)
     ensures kept { KeepAll zones.old zones.new }
 {
     for at in from..columns.len() {
-        zones.mark(at, &columns.at(at));
+        zones.mark(at, &columns.scanned_line(at));
     }
 }
 
@@ -78,13 +78,13 @@ impl FactTable {
         self.columns.reserve(count)
     }
 
-    /// What stands at a place.
+    /// The order of what stands at a place.
     #[inline(always)]
-    pub fn at(&self, place: usize) -> Place
+    pub fn order(&self, place: usize) -> u64
         requires { place < length self.now.places }
-        ensures { (other : PlainPlace) → result ≡ slice_index_or self.now.places place other }
+        ensures { (other : PlainPlace) → result ≡ (slice_index_or self.now.places place other).order }
     {
-        self.columns.at(place)
+        self.columns.order(place)
     }
 
     /// The line at a place, as queries read it.
@@ -103,7 +103,7 @@ impl FactTable {
         ensures places { self.new.places ≡ set self.old.places place with }
         ensures room { self.new.room ≡ self.old.room }
     {
-        self.zones.mark(place, &with);
+        self.zones.mark(place, &with.scanned_line());
         self.columns.write(place, with);
     }
 
@@ -125,7 +125,7 @@ impl FactTable {
         ensures places { self.new.places ≡ self.old.places ++ with ∷ [] }
         ensures room { self.old.room ≡ self.new.room + 1 }
     {
-        self.zones.mark(self.columns.len(), &with);
+        self.zones.mark(self.columns.len(), &with.scanned_line());
         self.columns.push(with);
     }
 

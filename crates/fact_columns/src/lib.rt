@@ -2,10 +2,10 @@
 //! date by absorbing commits.
 //!
 //! `Columns` is a `Replica`: it begins with the loaded lines of a base and takes commit after commit, accepted or not,
-//! all of it or nothing. In its `FactTable` a line is kept by position and code: its customer, supplier, part and date
-//! as positions in the lists of the dimensions, its quantity and discount as one code. Beside each position stands the
-//! row's class, a number that rows share which no query can tell apart: lines are read back by position and scanned by
-//! class. Each column is a `Vec` of its own, so that a scan reads only what it needs. A withdrawn line leaves its place
+//! all of it or nothing. In its `FactTable` a line is kept in codes: its quantity and discount as one, and of its customer,
+//! supplier, part and date the classes, numbers that rows share which no query can tell apart. Which rows these are, by
+//! position, contracts alone see, who read lines back by it: no memory holds it (`NamedRows`). Each column is a `Vec` of
+//! its own, so that a scan reads only what it needs. A withdrawn line leaves its place
 //! free, with a quantity of 0, and a later line is written there; but no added line is put among the loaded ones, which
 //! lie by regions and months (`clusters.rt`). An order's lines are found by its span of numbers, and a loaded line's
 //! place by its number. Beside the columns stand their zones (`TableZones`): which rows the lines of each chunk of
@@ -42,6 +42,7 @@ pub mod filters;
 mod hints;
 pub mod laws;
 mod loading;
+mod named_rows;
 mod orders;
 mod place;
 mod place_columns;

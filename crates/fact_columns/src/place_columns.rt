@@ -8,6 +8,7 @@ ghost use Rattle.fact_columns.specs.Places.{freed};
 ghost use Rattle.fact_columns.specs.Watching.{scanned_line};
 ghost use Rattle.fact_columns.specs.Zoned.{AreZonesOfPlaces};
 
+use crate::named_rows::NamedRows;
 use crate::place::Place;
 use crate::scanned_line::ScannedLine;
 use crate::table_zones::TableZones;
@@ -16,15 +17,12 @@ use std::alloc::{AllocError, Global};
 use std::marker::Model;
 use std::mem;
 
-/// The columns of the fact table, each as long as the others. Contracts see the places, and for how many more there is
-/// memory.
+/// The columns of the fact table, each as long as the others: of each line its order, the classes of its rows, and its
+/// numbers. Contracts see the places, and for how many more there is memory.
 #[derive(Drop)]
 pub struct PlaceColumns {
     order: Vec<u64>,
-    customer: Vec<u32>,
-    supplier: Vec<u32>,
-    part: Vec<u32>,
-    date: Vec<u32>,
+    rows: NamedRows,
     terms: Vec<u16>,
     price: Vec<u32>,
     revenue: Vec<u32>,
@@ -95,10 +93,7 @@ impl PlaceColumns {
     {
         PlaceColumns {
             order: Vec::new(alloc),
-            customer: Vec::new(alloc),
-            supplier: Vec::new(alloc),
-            part: Vec::new(alloc),
-            date: Vec::new(alloc),
+            rows: NamedRows::new(),
             terms: Vec::new(alloc),
             price: Vec::new(alloc),
             revenue: Vec::new(alloc),
@@ -126,10 +121,6 @@ impl PlaceColumns {
         ensures unchanged { OnErr result (self.new ≡ self.old) }
     {
         self.order.reserve(count)?;
-        self.customer.reserve(count)?;
-        self.supplier.reserve(count)?;
-        self.part.reserve(count)?;
-        self.date.reserve(count)?;
         self.terms.reserve(count)?;
         self.price.reserve(count)?;
         self.revenue.reserve(count)?;
@@ -142,27 +133,13 @@ impl PlaceColumns {
         Ok(())
     }
 
-    /// What stands at a place.
+    /// The order of what stands at a place.
     #[inline(always)]
-    pub fn at(&self, place: usize) -> Place
+    pub fn order(&self, place: usize) -> u64
         requires { place < length self.now.places }
-        ensures { (other : PlainPlace) → result ≡ slice_index_or self.now.places place other }
+        ensures { (other : PlainPlace) → result ≡ (slice_index_or self.now.places place other).order }
     {
-        Place {
-            order: self.order[place],
-            customer: self.customer[place],
-            supplier: self.supplier[place],
-            part: self.part[place],
-            date: self.date[place],
-            terms: self.terms[place],
-            price: self.price[place],
-            revenue: self.revenue[place],
-            cost: self.cost[place],
-            customer_class: self.customer_class[place],
-            supplier_class: self.supplier_class[place],
-            part_class: self.part_class[place],
-            date_class: self.date_class[place],
-        }
+        self.order[place]
     }
 
     /// The line at a place, as queries read it.
@@ -191,10 +168,7 @@ impl PlaceColumns {
         ensures room { self.new.room ≡ self.old.room }
     {
         self.order[place] = with.order;
-        self.customer[place] = with.customer;
-        self.supplier[place] = with.supplier;
-        self.part[place] = with.part;
-        self.date[place] = with.date;
+        self.rows.write(place, &with);
         self.terms[place] = with.terms;
         self.price[place] = with.price;
         self.revenue[place] = with.revenue;
@@ -224,10 +198,7 @@ impl PlaceColumns {
         ensures room { self.old.room ≡ self.new.room + 1 }
     {
         self.order.push_reserved(with.order);
-        self.customer.push_reserved(with.customer);
-        self.supplier.push_reserved(with.supplier);
-        self.part.push_reserved(with.part);
-        self.date.push_reserved(with.date);
+        self.rows.push(&with);
         self.terms.push_reserved(with.terms);
         self.price.push_reserved(with.price);
         self.revenue.push_reserved(with.revenue);
@@ -246,10 +217,7 @@ impl PlaceColumns {
     {
         self.reserve(other.len())?;
         extend(&mut self.order, other.order.as_slice());
-        extend(&mut self.customer, other.customer.as_slice());
-        extend(&mut self.supplier, other.supplier.as_slice());
-        extend(&mut self.part, other.part.as_slice());
-        extend(&mut self.date, other.date.as_slice());
+        self.rows.append(&other.rows);
         extend(&mut self.terms, other.terms.as_slice());
         extend(&mut self.price, other.price.as_slice());
         extend(&mut self.revenue, other.revenue.as_slice());
@@ -271,10 +239,7 @@ impl PlaceColumns {
     {
         let PlaceColumns {
             mut order,
-            mut customer,
-            mut supplier,
-            mut part,
-            mut date,
+            mut rows,
             mut terms,
             mut price,
             mut revenue,
@@ -285,13 +250,10 @@ impl PlaceColumns {
             mut date_class,
             capacity: _,
         } = self;
+        rows.lay(places);
         lay_apart(&mut order, places, 0)?;
         lay_apart(&mut terms, places, 0)?;
         let mut spare = vec![in *order.allocator(); 0u32; places.len()]?;
-        lay(&mut customer, places, &mut spare);
-        lay(&mut supplier, places, &mut spare);
-        lay(&mut part, places, &mut spare);
-        lay(&mut date, places, &mut spare);
         lay(&mut price, places, &mut spare);
         lay(&mut revenue, places, &mut spare);
         lay(&mut cost, places, &mut spare);
@@ -301,10 +263,7 @@ impl PlaceColumns {
         lay(&mut date_class, places, &mut spare);
         Ok(PlaceColumns {
             order,
-            customer,
-            supplier,
-            part,
-            date,
+            rows,
             terms,
             price,
             revenue,
@@ -344,12 +303,11 @@ impl PlaceColumns {
         ensures room { IfOk result (λ copy. copy.room ≡ 0) }
     {
         let alloc = *self.order.allocator();
+        let mut rows = NamedRows::new();
+        rows.append(&self.rows);
         Ok(PlaceColumns {
             order: self.order.to_vec(alloc)?,
-            customer: self.customer.to_vec(alloc)?,
-            supplier: self.supplier.to_vec(alloc)?,
-            part: self.part.to_vec(alloc)?,
-            date: self.date.to_vec(alloc)?,
+            rows,
             terms: self.terms.to_vec(alloc)?,
             price: self.price.to_vec(alloc)?,
             revenue: self.revenue.to_vec(alloc)?,

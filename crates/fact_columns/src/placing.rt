@@ -15,16 +15,15 @@ use crate::place::Place;
 use crate::span::{Span, Spans};
 use crate::watch::Watch;
 
-// The order key of the live line at a place; None where the place is free, or there is none.
-fn live_order(table: &FactTable, place: usize) -> Option<u64>
+/// The order key of the live line at a place; None where the place is free, or there is none.
+pub fn live_order(table: &FactTable, place: usize) -> Option<u64>
     ensures { result ≡ option_map (λ (line : PlainPlace). line.order) (live_at table.now.places place) }
 {
     if place >= table.len() {
         return None;
     }
-    let line = table.at(place);
-    if line.is_live() {
-        Some(line.order)
+    if table.scanned_line(place).is_live() {
+        Some(table.order(place))
     } else {
         None
     }

@@ -1,4 +1,6 @@
 //! A line as queries read it.
+ghost use Rattle.std.specs.Prelude.{◌≡◌, ◌==◌, not};
+ghost use Rattle.fact_columns.specs.Places.{quantity_in};
 
 /// What the columns that queries read have of a live line: its rows by their classes, and its numbers.
 #[derive(Clone, Copy, Debug, PartialEq, Eq)]
@@ -15,4 +17,14 @@ pub struct ScannedLine {
     pub revenue: u32,
     /// LO_SUPPLYCOST.
     pub cost: u32,
+}
+
+impl ScannedLine {
+    /// Whether the place that it was read at holds a live line.
+    #[inline(always)]
+    pub fn is_live(&self) -> bool
+        ensures { result ≡ not (quantity_in self.now.terms == 0) }
+    {
+        self.terms / 16 != 0
+    }
 }

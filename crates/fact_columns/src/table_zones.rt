@@ -1,8 +1,8 @@
 //! The zones of a table: which rows of each dimension the lines of each chunk of places name.
 ghost use Rattle.std.specs.Prelude.{◌≡◌, ◌+◌, OnOk, IfOk};
-ghost use Rattle.fact_columns.specs.Zoned.{AreEmpty, CoverAll, HasPlace, KeepAll};
+ghost use Rattle.fact_columns.specs.Zoned.{AreEmpty, CoverAll, HasLine, KeepAll};
 
-use crate::place::Place;
+use crate::scanned_line::ScannedLine;
 use crate::zone_sets::ZoneSets;
 use dimension_index::{DimIndex, FirstRows};
 use ssb_schema::{C_NATION, Column, D_YEARMONTHNUM, P_CATEGORY, S_NATION};
@@ -55,15 +55,15 @@ impl TableZones {
 
     /// Puts the rows of a line into the sets of its place's chunk.
     #[inline(always)]
-    pub fn mark(&mut self, at: usize, place: &Place)
+    pub fn mark(&mut self, at: usize, line: &ScannedLine)
         requires { CoverAll (at + 1) self.old }
-        ensures here { HasPlace self.new at place.now }
+        ensures here { HasLine self.new at line.now }
         ensures kept { KeepAll self.old self.new }
     {
-        self.customers.mark(at, place.customer_class);
-        self.suppliers.mark(at, place.supplier_class);
-        self.parts.mark(at, place.part_class);
-        self.dates.mark(at, place.date_class);
+        self.customers.mark(at, line.customer);
+        self.suppliers.mark(at, line.supplier);
+        self.parts.mark(at, line.part);
+        self.dates.mark(at, line.date);
     }
 
     /// The same zones.

@@ -39,9 +39,8 @@ fn take(columns: &mut Columns, commit: &Commit) -> Result<(), Fail> {
 fn live_lines(alloc: Global, columns: &Columns) -> Result<Vec<(u64, u32)>, Fail> {
     let mut lines = Vec::new(alloc);
     for place in 0..columns.places() {
-        let line = columns.at(place);
-        if line.is_live() {
-            lines.push((line.order, line.revenue))?;
+        if let Some(order) = columns.live_order(place) {
+            lines.push((order, columns.scanned_line(place).revenue))?;
         }
     }
     lines.sort()?;

@@ -1,7 +1,8 @@
-use Rattle.std.proofs.Common.{◌≡◌, ◌+◌, ◌-◌, ◌++◌, ◌∙◌, ap, map, arith, vec_len}
+use Rattle.std.proofs.Common.{◌≡◌, ◌+◌, ◌-◌, ◌++◌, ◌∙◌, ap, length, map, arith, vec_len}
 use Rattle.std.specs.List.{range_with_len}
 use Rattle.fact_columns.specs.Columns.{Held, place_at}
-use Rattle.fact_columns.proofs.PlaceListLaws.{alike_long, append_places, long, room_for}
+use Rattle.fact_columns.specs.RowColumns.{RowColumns, appended}
+use Rattle.fact_columns.proofs.PlaceListLaws.{alike_long, append_places, long, longer_by, room_for}
 use Rattle.fact_columns.proofs.place_columns.PlaceColumns.append.Goals as goal
 
 pub extend-requires : goal.extend-requires
@@ -16,59 +17,31 @@ extend-requires-2 c =
     let own = c.self.invariant in
     let room = room_for c.self.inside c.other.inside _ _ _ own c.self.view_is c.other.view_is
     c.in_ok-reserve.ensures.room c.len.ensures in
-    omega (arith, room, own.customer, c.other.invariant.customer, own.customer_room, c.as_slice-2.ensures.len)
+    omega (arith, room, own.terms, c.other.invariant.terms, own.terms_room, c.as_slice-2.ensures.len)
 
 pub extend-requires-3 : goal.extend-requires-3
 extend-requires-3 c =
     let own = c.self.invariant in
     let room = room_for c.self.inside c.other.inside _ _ _ own c.self.view_is c.other.view_is
     c.in_ok-reserve.ensures.room c.len.ensures in
-    omega (arith, room, own.supplier, c.other.invariant.supplier, own.supplier_room, c.as_slice-3.ensures.len)
+    omega (arith, room, own.price, c.other.invariant.price, own.price_room, c.as_slice-3.ensures.len)
 
 pub extend-requires-4 : goal.extend-requires-4
 extend-requires-4 c =
     let own = c.self.invariant in
     let room = room_for c.self.inside c.other.inside _ _ _ own c.self.view_is c.other.view_is
     c.in_ok-reserve.ensures.room c.len.ensures in
-    omega (arith, room, own.part, c.other.invariant.part, own.part_room, c.as_slice-4.ensures.len)
+    omega (arith, room, own.revenue, c.other.invariant.revenue, own.revenue_room, c.as_slice-4.ensures.len)
 
 pub extend-requires-5 : goal.extend-requires-5
 extend-requires-5 c =
     let own = c.self.invariant in
     let room = room_for c.self.inside c.other.inside _ _ _ own c.self.view_is c.other.view_is
     c.in_ok-reserve.ensures.room c.len.ensures in
-    omega (arith, room, own.date, c.other.invariant.date, own.date_room, c.as_slice-5.ensures.len)
+    omega (arith, room, own.cost, c.other.invariant.cost, own.cost_room, c.as_slice-5.ensures.len)
 
 pub extend-requires-6 : goal.extend-requires-6
 extend-requires-6 c =
-    let own = c.self.invariant in
-    let room = room_for c.self.inside c.other.inside _ _ _ own c.self.view_is c.other.view_is
-    c.in_ok-reserve.ensures.room c.len.ensures in
-    omega (arith, room, own.terms, c.other.invariant.terms, own.terms_room, c.as_slice-6.ensures.len)
-
-pub extend-requires-7 : goal.extend-requires-7
-extend-requires-7 c =
-    let own = c.self.invariant in
-    let room = room_for c.self.inside c.other.inside _ _ _ own c.self.view_is c.other.view_is
-    c.in_ok-reserve.ensures.room c.len.ensures in
-    omega (arith, room, own.price, c.other.invariant.price, own.price_room, c.as_slice-7.ensures.len)
-
-pub extend-requires-8 : goal.extend-requires-8
-extend-requires-8 c =
-    let own = c.self.invariant in
-    let room = room_for c.self.inside c.other.inside _ _ _ own c.self.view_is c.other.view_is
-    c.in_ok-reserve.ensures.room c.len.ensures in
-    omega (arith, room, own.revenue, c.other.invariant.revenue, own.revenue_room, c.as_slice-8.ensures.len)
-
-pub extend-requires-9 : goal.extend-requires-9
-extend-requires-9 c =
-    let own = c.self.invariant in
-    let room = room_for c.self.inside c.other.inside _ _ _ own c.self.view_is c.other.view_is
-    c.in_ok-reserve.ensures.room c.len.ensures in
-    omega (arith, room, own.cost, c.other.invariant.cost, own.cost_room, c.as_slice-9.ensures.len)
-
-pub extend-requires-10 : goal.extend-requires-10
-extend-requires-10 c =
     let own = c.self.invariant in
     let room = room_for c.self.inside c.other.inside _ _ _ own c.self.view_is c.other.view_is
     c.in_ok-reserve.ensures.room c.len.ensures in
@@ -78,11 +51,11 @@ extend-requires-10 c =
       own.customer_class,
       c.other.invariant.customer_class,
       own.customer_class_room,
-      c.as_slice-10.ensures.len,
+      c.as_slice-6.ensures.len,
     )
 
-pub extend-requires-11 : goal.extend-requires-11
-extend-requires-11 c =
+pub extend-requires-7 : goal.extend-requires-7
+extend-requires-7 c =
     let own = c.self.invariant in
     let room = room_for c.self.inside c.other.inside _ _ _ own c.self.view_is c.other.view_is
     c.in_ok-reserve.ensures.room c.len.ensures in
@@ -92,22 +65,22 @@ extend-requires-11 c =
       own.supplier_class,
       c.other.invariant.supplier_class,
       own.supplier_class_room,
-      c.as_slice-11.ensures.len,
+      c.as_slice-7.ensures.len,
     )
 
-pub extend-requires-12 : goal.extend-requires-12
-extend-requires-12 c =
+pub extend-requires-8 : goal.extend-requires-8
+extend-requires-8 c =
     let own = c.self.invariant in
     let room = room_for c.self.inside c.other.inside _ _ _ own c.self.view_is c.other.view_is
     c.in_ok-reserve.ensures.room c.len.ensures in
-    omega (arith, room, own.part_class, c.other.invariant.part_class, own.part_class_room, c.as_slice-12.ensures.len)
+    omega (arith, room, own.part_class, c.other.invariant.part_class, own.part_class_room, c.as_slice-8.ensures.len)
 
-pub extend-requires-13 : goal.extend-requires-13
-extend-requires-13 c =
+pub extend-requires-9 : goal.extend-requires-9
+extend-requires-9 c =
     let own = c.self.invariant in
     let room = room_for c.self.inside c.other.inside _ _ _ own c.self.view_is c.other.view_is
     c.in_ok-reserve.ensures.room c.len.ensures in
-    omega (arith, room, own.date_class, c.other.invariant.date_class, own.date_class_room, c.as_slice-13.ensures.len)
+    omega (arith, room, own.date_class, c.other.invariant.date_class, own.date_class_room, c.as_slice-9.ensures.len)
 
 pub invariant_of-self : goal.invariant_of-self
 invariant_of-self c =
@@ -118,60 +91,60 @@ invariant_of-self c =
     let count : vec_len c.extend.new.column ≡ vec_len c.self.inside.order + vec_len c.other.inside.order =
     c.extend.ensures.len ∙ ap (λ n. vec_len c.self.inside.order + n) c.as_slice.ensures.len in
     record {
-      customer = omega (arith, count, c.extend-2.ensures.len, c.as_slice-2.ensures.len, own.customer, other.customer);
-      supplier = omega (arith, count, c.extend-3.ensures.len, c.as_slice-3.ensures.len, own.supplier, other.supplier);
-      part = omega (arith, count, c.extend-4.ensures.len, c.as_slice-4.ensures.len, own.part, other.part);
-      date = omega (arith, count, c.extend-5.ensures.len, c.as_slice-5.ensures.len, own.date, other.date);
-      terms = omega (arith, count, c.extend-6.ensures.len, c.as_slice-6.ensures.len, own.terms, other.terms);
-      price = omega (arith, count, c.extend-7.ensures.len, c.as_slice-7.ensures.len, own.price, other.price);
-      revenue = omega (arith, count, c.extend-8.ensures.len, c.as_slice-8.ensures.len, own.revenue, other.revenue);
-      cost = omega (arith, count, c.extend-9.ensures.len, c.as_slice-9.ensures.len, own.cost, other.cost);
+      customer = ap (λ (r : RowColumns). length r.customers) c.append.ensures
+          ∙ longer_by c.self.inside.rows.columns.customers c.other.inside.rows.columns.customers _ _ _ own.customer other.customer count;
+      supplier = ap (λ (r : RowColumns). length r.suppliers) c.append.ensures
+          ∙ longer_by c.self.inside.rows.columns.suppliers c.other.inside.rows.columns.suppliers _ _ _ own.supplier other.supplier count;
+      part = ap (λ (r : RowColumns). length r.parts) c.append.ensures
+          ∙ longer_by c.self.inside.rows.columns.parts c.other.inside.rows.columns.parts _ _ _ own.part other.part count;
+      date = ap (λ (r : RowColumns). length r.dates) c.append.ensures
+          ∙ longer_by c.self.inside.rows.columns.dates c.other.inside.rows.columns.dates _ _ _ own.date other.date count;
+      terms = omega (arith, count, c.extend-2.ensures.len, c.as_slice-2.ensures.len, own.terms, other.terms);
+      price = omega (arith, count, c.extend-3.ensures.len, c.as_slice-3.ensures.len, own.price, other.price);
+      revenue = omega (arith, count, c.extend-4.ensures.len, c.as_slice-4.ensures.len, own.revenue, other.revenue);
+      cost = omega (arith, count, c.extend-5.ensures.len, c.as_slice-5.ensures.len, own.cost, other.cost);
       customer_class = omega (
         arith,
         count,
-        c.extend-10.ensures.len,
-        c.as_slice-10.ensures.len,
+        c.extend-6.ensures.len,
+        c.as_slice-6.ensures.len,
         own.customer_class,
         other.customer_class,
       );
       supplier_class = omega (
         arith,
         count,
-        c.extend-11.ensures.len,
-        c.as_slice-11.ensures.len,
+        c.extend-7.ensures.len,
+        c.as_slice-7.ensures.len,
         own.supplier_class,
         other.supplier_class,
       );
       part_class = omega (
         arith,
         count,
-        c.extend-12.ensures.len,
-        c.as_slice-12.ensures.len,
+        c.extend-8.ensures.len,
+        c.as_slice-8.ensures.len,
         own.part_class,
         other.part_class,
       );
       date_class = omega (
         arith,
         count,
-        c.extend-13.ensures.len,
-        c.as_slice-13.ensures.len,
+        c.extend-9.ensures.len,
+        c.as_slice-9.ensures.len,
         own.date_class,
         other.date_class,
       );
       within = omega (arith, count, room);
       order_room = omega (arith, own.order_room, c.extend.ensures.capacity);
-      customer_room = omega (arith, own.customer_room, c.extend-2.ensures.capacity);
-      supplier_room = omega (arith, own.supplier_room, c.extend-3.ensures.capacity);
-      part_room = omega (arith, own.part_room, c.extend-4.ensures.capacity);
-      date_room = omega (arith, own.date_room, c.extend-5.ensures.capacity);
-      terms_room = omega (arith, own.terms_room, c.extend-6.ensures.capacity);
-      price_room = omega (arith, own.price_room, c.extend-7.ensures.capacity);
-      revenue_room = omega (arith, own.revenue_room, c.extend-8.ensures.capacity);
-      cost_room = omega (arith, own.cost_room, c.extend-9.ensures.capacity);
-      customer_class_room = omega (arith, own.customer_class_room, c.extend-10.ensures.capacity);
-      supplier_class_room = omega (arith, own.supplier_class_room, c.extend-11.ensures.capacity);
-      part_class_room = omega (arith, own.part_class_room, c.extend-12.ensures.capacity);
-      date_class_room = omega (arith, own.date_class_room, c.extend-13.ensures.capacity);
+      terms_room = omega (arith, own.terms_room, c.extend-2.ensures.capacity);
+      price_room = omega (arith, own.price_room, c.extend-3.ensures.capacity);
+      revenue_room = omega (arith, own.revenue_room, c.extend-4.ensures.capacity);
+      cost_room = omega (arith, own.cost_room, c.extend-5.ensures.capacity);
+      customer_class_room = omega (arith, own.customer_class_room, c.extend-6.ensures.capacity);
+      supplier_class_room = omega (arith, own.supplier_class_room, c.extend-7.ensures.capacity);
+      part_class_room = omega (arith, own.part_class_room, c.extend-8.ensures.capacity);
+      date_class_room = omega (arith, own.date_class_room, c.extend-9.ensures.capacity);
     }
 
 pub returns-clause-places : goal.returns-clause-places
@@ -180,37 +153,30 @@ returns-clause-places c =
     let o = c.other.inside in
     let order : c.extend.new.column.items ≡ t.order.items ++ o.order.items =
     c.extend.ensures.items ∙ ap (λ l. t.order.items ++ l) c.as_slice.ensures.value in
-    let customer : c.extend-2.new.column.items ≡ t.customer.items ++ o.customer.items =
-    c.extend-2.ensures.items ∙ ap (λ l. t.customer.items ++ l) c.as_slice-2.ensures.value in
-    let supplier : c.extend-3.new.column.items ≡ t.supplier.items ++ o.supplier.items =
-    c.extend-3.ensures.items ∙ ap (λ l. t.supplier.items ++ l) c.as_slice-3.ensures.value in
-    let part : c.extend-4.new.column.items ≡ t.part.items ++ o.part.items =
-    c.extend-4.ensures.items ∙ ap (λ l. t.part.items ++ l) c.as_slice-4.ensures.value in
-    let date : c.extend-5.new.column.items ≡ t.date.items ++ o.date.items =
-    c.extend-5.ensures.items ∙ ap (λ l. t.date.items ++ l) c.as_slice-5.ensures.value in
-    let terms : c.extend-6.new.column.items ≡ t.terms.items ++ o.terms.items =
-    c.extend-6.ensures.items ∙ ap (λ l. t.terms.items ++ l) c.as_slice-6.ensures.value in
-    let price : c.extend-7.new.column.items ≡ t.price.items ++ o.price.items =
-    c.extend-7.ensures.items ∙ ap (λ l. t.price.items ++ l) c.as_slice-7.ensures.value in
-    let revenue : c.extend-8.new.column.items ≡ t.revenue.items ++ o.revenue.items =
-    c.extend-8.ensures.items ∙ ap (λ l. t.revenue.items ++ l) c.as_slice-8.ensures.value in
-    let cost : c.extend-9.new.column.items ≡ t.cost.items ++ o.cost.items =
-    c.extend-9.ensures.items ∙ ap (λ l. t.cost.items ++ l) c.as_slice-9.ensures.value in
-    let customer_class : c.extend-10.new.column.items ≡ t.customer_class.items ++ o.customer_class.items =
-    c.extend-10.ensures.items ∙ ap (λ l. t.customer_class.items ++ l) c.as_slice-10.ensures.value in
-    let supplier_class : c.extend-11.new.column.items ≡ t.supplier_class.items ++ o.supplier_class.items =
-    c.extend-11.ensures.items ∙ ap (λ l. t.supplier_class.items ++ l) c.as_slice-11.ensures.value in
-    let part_class : c.extend-12.new.column.items ≡ t.part_class.items ++ o.part_class.items =
-    c.extend-12.ensures.items ∙ ap (λ l. t.part_class.items ++ l) c.as_slice-12.ensures.value in
-    let date_class : c.extend-13.new.column.items ≡ t.date_class.items ++ o.date_class.items =
-    c.extend-13.ensures.items ∙ ap (λ l. t.date_class.items ++ l) c.as_slice-13.ensures.value in
+    let rows : c.append.new.self.columns ≡ appended t.rows.columns o.rows.columns = c.append.ensures in
+    let terms : c.extend-2.new.column.items ≡ t.terms.items ++ o.terms.items =
+    c.extend-2.ensures.items ∙ ap (λ l. t.terms.items ++ l) c.as_slice-2.ensures.value in
+    let price : c.extend-3.new.column.items ≡ t.price.items ++ o.price.items =
+    c.extend-3.ensures.items ∙ ap (λ l. t.price.items ++ l) c.as_slice-3.ensures.value in
+    let revenue : c.extend-4.new.column.items ≡ t.revenue.items ++ o.revenue.items =
+    c.extend-4.ensures.items ∙ ap (λ l. t.revenue.items ++ l) c.as_slice-4.ensures.value in
+    let cost : c.extend-5.new.column.items ≡ t.cost.items ++ o.cost.items =
+    c.extend-5.ensures.items ∙ ap (λ l. t.cost.items ++ l) c.as_slice-5.ensures.value in
+    let customer_class : c.extend-6.new.column.items ≡ t.customer_class.items ++ o.customer_class.items =
+    c.extend-6.ensures.items ∙ ap (λ l. t.customer_class.items ++ l) c.as_slice-6.ensures.value in
+    let supplier_class : c.extend-7.new.column.items ≡ t.supplier_class.items ++ o.supplier_class.items =
+    c.extend-7.ensures.items ∙ ap (λ l. t.supplier_class.items ++ l) c.as_slice-7.ensures.value in
+    let part_class : c.extend-8.new.column.items ≡ t.part_class.items ++ o.part_class.items =
+    c.extend-8.ensures.items ∙ ap (λ l. t.part_class.items ++ l) c.as_slice-8.ensures.value in
+    let date_class : c.extend-9.new.column.items ≡ t.date_class.items ++ o.date_class.items =
+    c.extend-9.ensures.items ∙ ap (λ l. t.date_class.items ++ l) c.as_slice-9.ensures.value in
     let count : vec_len c.extend.new.column ≡ vec_len t.order + vec_len o.order =
     c.extend.ensures.len ∙ ap (λ n. vec_len t.order + n) c.as_slice.ensures.len in
-    (λ i. map (place_at (order i) (customer i) (supplier i) (part i) (date i) (terms i) (price i) (revenue i) (cost i)
+    (λ i. map (place_at (order i) (rows i).customers (rows i).suppliers (rows i).parts (rows i).dates (terms i) (price i) (revenue i) (cost i)
     (customer_class i) (supplier_class i) (part_class i) (date_class i)) (range_with_len 0 (count i)))
-    ∙ append_places t.order.items t.customer.items t.supplier.items t.part.items t.date.items t.terms.items
+    ∙ append_places t.order.items t.rows.columns.customers t.rows.columns.suppliers t.rows.columns.parts t.rows.columns.dates t.terms.items
     t.price.items t.revenue.items t.cost.items t.customer_class.items t.supplier_class.items t.part_class.items
-    t.date_class.items o.order.items o.customer.items o.supplier.items o.part.items o.date.items o.terms.items
+    t.date_class.items o.order.items o.rows.columns.customers o.rows.columns.suppliers o.rows.columns.parts o.rows.columns.dates o.terms.items
     o.price.items o.revenue.items o.cost.items o.customer_class.items o.supplier_class.items o.part_class.items
     o.date_class.items (vec_len t.order) (vec_len o.order) (alike_long t c.self.invariant) (alike_long o
     c.other.invariant)

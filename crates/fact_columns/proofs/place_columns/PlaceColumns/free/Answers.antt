@@ -15,11 +15,11 @@ returns-clause-places c = λ other.
     let t = c.self.inside in
     let all = alike_long t c.self.invariant in
     let within : c.args.place < vec_len t.order = omega (arith, long t c.args.self.now c.self.view_is, c.requires) in
-    free_place t.order.items t.customer.items t.supplier.items t.part.items t.date.items t.terms.items t.price.items
+    free_place t.order.items t.rows.columns.customers t.rows.columns.suppliers t.rows.columns.parts t.rows.columns.dates t.terms.items t.price.items
     t.revenue.items t.cost.items t.customer_class.items t.supplier_class.items t.part_class.items t.date_class.items
     (vec_len t.order) c.args.place all.terms_len within
     ∙ ap (λ (h : Held). set h.places c.args.place (freed
-    (place_at t.order.items t.customer.items t.supplier.items t.part.items t.date.items t.terms.items t.price.items
+    (place_at t.order.items t.rows.columns.customers t.rows.columns.suppliers t.rows.columns.parts t.rows.columns.dates t.terms.items t.price.items
     t.revenue.items t.cost.items t.customer_class.items t.supplier_class.items t.part_class.items t.date_class.items
     c.args.place))) c.self.view_is
     ∙ ap (λ (p : Place). set c.args.self.now.places c.args.place (freed p))

@@ -9,7 +9,7 @@ pub returns : goal.returns
 returns c =
     let t = c.self.inside in
     let all = alike_long t c.self.invariant in
-    let f = place_at t.order.items t.customer.items t.supplier.items t.part.items t.date.items t.terms.items
+    let f = place_at t.order.items t.rows.columns.customers t.rows.columns.suppliers t.rows.columns.parts t.rows.columns.dates t.terms.items
     t.price.items t.revenue.items t.cost.items t.customer_class.items t.supplier_class.items t.part_class.items
     t.date_class.items in
     record {
@@ -40,7 +40,7 @@ pub invariant_of-result-clause-zoned_customers : goal.invariant_of-result-clause
 invariant_of-result-clause-zoned_customers c =
     let t = c.self.inside in
     let all = alike_long t c.self.invariant in
-    let f = place_at t.order.items t.customer.items t.supplier.items t.part.items t.date.items t.terms.items
+    let f = place_at t.order.items t.rows.columns.customers t.rows.columns.suppliers t.rows.columns.parts t.rows.columns.dates t.terms.items
     t.price.items t.revenue.items t.cost.items t.customer_class.items t.supplier_class.items t.part_class.items
     t.date_class.items in
     zoned_read _ _ _ _ _ _ c.zones.ensures.codes c.zones.ensures.sets
@@ -52,7 +52,7 @@ pub invariant_of-result-clause-zoned_suppliers : goal.invariant_of-result-clause
 invariant_of-result-clause-zoned_suppliers c =
     let t = c.self.inside in
     let all = alike_long t c.self.invariant in
-    let f = place_at t.order.items t.customer.items t.supplier.items t.part.items t.date.items t.terms.items
+    let f = place_at t.order.items t.rows.columns.customers t.rows.columns.suppliers t.rows.columns.parts t.rows.columns.dates t.terms.items
     t.price.items t.revenue.items t.cost.items t.customer_class.items t.supplier_class.items t.part_class.items
     t.date_class.items in
     zoned_read _ _ _ _ _ _ c.zones-2.ensures.codes c.zones-2.ensures.sets
@@ -64,7 +64,7 @@ pub invariant_of-result-clause-zoned_parts : goal.invariant_of-result-clause-zon
 invariant_of-result-clause-zoned_parts c =
     let t = c.self.inside in
     let all = alike_long t c.self.invariant in
-    let f = place_at t.order.items t.customer.items t.supplier.items t.part.items t.date.items t.terms.items
+    let f = place_at t.order.items t.rows.columns.customers t.rows.columns.suppliers t.rows.columns.parts t.rows.columns.dates t.terms.items
     t.price.items t.revenue.items t.cost.items t.customer_class.items t.supplier_class.items t.part_class.items
     t.date_class.items in
     zoned_read _ _ _ _ _ _ c.zones-3.ensures.codes c.zones-3.ensures.sets
@@ -76,7 +76,7 @@ pub invariant_of-result-clause-zoned_dates : goal.invariant_of-result-clause-zon
 invariant_of-result-clause-zoned_dates c =
     let t = c.self.inside in
     let all = alike_long t c.self.invariant in
-    let f = place_at t.order.items t.customer.items t.supplier.items t.part.items t.date.items t.terms.items
+    let f = place_at t.order.items t.rows.columns.customers t.rows.columns.suppliers t.rows.columns.parts t.rows.columns.dates t.terms.items
     t.price.items t.revenue.items t.cost.items t.customer_class.items t.supplier_class.items t.part_class.items
     t.date_class.items in
     zoned_read _ _ _ _ _ _ c.zones-4.ensures.codes c.zones-4.ensures.sets

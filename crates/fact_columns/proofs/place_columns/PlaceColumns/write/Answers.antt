@@ -1,5 +1,8 @@
-use Rattle.std.proofs.Common.{arith, ◌∙◌, ap, set, vec_len}
-use Rattle.fact_columns.specs.Columns.{Held}
+use Rattle.std.proofs.Common.{arith, ◌≡◌, ◌∙◌, ap, length, map, set, vec_len}
+use Rattle.std.specs.List.{range_with_len}
+use Rattle.std.proofs.lemmas.List.{length-set}
+use Rattle.fact_columns.specs.Columns.{Held, place_at}
+use Rattle.fact_columns.specs.RowColumns.{RowColumns, written}
 use Rattle.fact_columns.proofs.PlaceListLaws.{long, alike_long, write_places}
 use Rattle.fact_columns.proofs.place_columns.PlaceColumns.write.Goals as goal
 
@@ -48,31 +51,52 @@ index_mut-requires-9 c =
     let n = long c.self.inside c.args.self.now c.self.view_is in
     omega (arith, n, c.requires, c.self.invariant)
 
-pub index_mut-requires-10 : goal.index_mut-requires-10
-index_mut-requires-10 c =
-    let n = long c.self.inside c.args.self.now c.self.view_is in
-    omega (arith, n, c.requires, c.self.invariant)
-
-pub index_mut-requires-11 : goal.index_mut-requires-11
-index_mut-requires-11 c =
-    let n = long c.self.inside c.args.self.now c.self.view_is in
-    omega (arith, n, c.requires, c.self.invariant)
-
-pub index_mut-requires-12 : goal.index_mut-requires-12
-index_mut-requires-12 c =
-    let n = long c.self.inside c.args.self.now c.self.view_is in
-    omega (arith, n, c.requires, c.self.invariant)
-
-pub index_mut-requires-13 : goal.index_mut-requires-13
-index_mut-requires-13 c =
-    let n = long c.self.inside c.args.self.now c.self.view_is in
-    omega (arith, n, c.requires, c.self.invariant)
-
 pub returns-clause-places : goal.returns-clause-places
 returns-clause-places c =
     let t = c.self.inside in
-    write_places t.order.items t.customer.items t.supplier.items t.part.items t.date.items t.terms.items t.price.items
-    t.revenue.items t.cost.items t.customer_class.items t.supplier_class.items t.part_class.items t.date_class.items
-    (vec_len t.order) c.args.place c.args.with (alike_long t c.self.invariant)
-    (omega (arith, long t c.args.self.now c.self.view_is, c.requires))
-    ∙ ap (λ (h : Held). set h.places c.args.place c.args.with) c.self.view_is
+    let place = c.args.place in
+    let with = c.args.with in
+    let rows : c.write.new.self.columns ≡ written t.rows.columns place with = c.write.ensures in
+    (λ i. map (place_at (set t.order.items place with.order) (rows i).customers (rows i).suppliers (rows i).parts
+    (rows i).dates (set t.terms.items place with.terms) (set t.price.items place with.price)
+    (set t.revenue.items place with.revenue) (set t.cost.items place with.cost)
+    (set t.customer_class.items place with.customer_class) (set t.supplier_class.items place with.supplier_class)
+    (set t.part_class.items place with.part_class) (set t.date_class.items place with.date_class))
+    (range_with_len 0 (vec_len t.order)))
+    ∙ write_places t.order.items t.rows.columns.customers t.rows.columns.suppliers t.rows.columns.parts
+    t.rows.columns.dates t.terms.items t.price.items t.revenue.items t.cost.items t.customer_class.items
+    t.supplier_class.items t.part_class.items t.date_class.items (vec_len t.order) place with
+    (alike_long t c.self.invariant) (omega (arith, long t c.args.self.now c.self.view_is, c.requires))
+    ∙ ap (λ (h : Held). set h.places place with) c.self.view_is
+
+pub invariant_of-self : goal.invariant_of-self
+invariant_of-self c =
+    let own = c.self.invariant in
+    let rows = c.self.inside.rows.columns in
+    let place = c.args.place in
+    let with = c.args.with in
+    let now = c.write.ensures in
+    record {
+      customer = ap (λ (r : RowColumns). length r.customers) now ∙ length-set rows.customers place with.customer ∙ own.customer;
+      supplier = ap (λ (r : RowColumns). length r.suppliers) now ∙ length-set rows.suppliers place with.supplier ∙ own.supplier;
+      part = ap (λ (r : RowColumns). length r.parts) now ∙ length-set rows.parts place with.part ∙ own.part;
+      date = ap (λ (r : RowColumns). length r.dates) now ∙ length-set rows.dates place with.date ∙ own.date;
+      terms = own.terms;
+      price = own.price;
+      revenue = own.revenue;
+      cost = own.cost;
+      customer_class = own.customer_class;
+      supplier_class = own.supplier_class;
+      part_class = own.part_class;
+      date_class = own.date_class;
+      within = own.within;
+      order_room = own.order_room;
+      terms_room = own.terms_room;
+      price_room = own.price_room;
+      revenue_room = own.revenue_room;
+      cost_room = own.cost_room;
+      customer_class_room = own.customer_class_room;
+      supplier_class_room = own.supplier_class_room;
+      part_class_room = own.part_class_room;
+      date_class_room = own.date_class_room;
+    }
