@@ -50,11 +50,13 @@ of_script (script.EmptyBlock number) = inl refl
 of_script (script.TooManyQuestions number) = inl refl
 of_script (script.Row number why) = inl refl
 of_script script.TooLong = inl refl
+of_script (script.Sql number why) = inl refl
 of_script script.Read = inr (inr refl)
 of_script script.OutOfMemory = inr (inr refl)
 
 of_questions : (why : QuestionsError) → IsFaultStatus (questions_status why)
 of_questions (questions.NotAQuestion number) = inl refl
+of_questions (questions.Sql number why) = inl refl
 of_questions questions.Read = inr (inr refl)
 of_questions questions.OutOfMemory = inr (inr refl)
 

@@ -91,7 +91,7 @@ fn speak_over<
     };
     service.server.figures().session_begins();
     let left: SessionLeft<I, O, Y> = serve_session(service, client, input, output, terms);
-    service.server.figures().session_ends();
+    service.server.figures().session_ends(left.outcome.is_err());
     let SessionLeft {
         wire,
         outcome: ended,

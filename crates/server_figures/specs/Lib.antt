@@ -1,3 +1,4 @@
+pub mod RefusedText
 pub mod MetricsText
 pub mod StatusText
 pub mod Laws

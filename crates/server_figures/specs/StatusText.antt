@@ -1,7 +1,9 @@
 -- The text that the word `status` shows.
 use Rattle.std.specs.Prelude.{ℕ, ◌/◌, List, [], ◌∷◌, Option, None, Some, codes, decimal}
 use Rattle.std.specs.List.{concat}
+use Rattle.ssb_base.specs.Limits.{most_lines}
 use Rattle.server_figures.specs.MetricsText.{line_feed}
+use Rattle.server_figures.specs.RefusedText.{refused_terms_text}
 use Rattle.server_figures.specs.declared.figures.Figures.{Figures}
 use Rattle.server_figures.specs.declared.server_status.ServerStatus.{ServerStatus}
 
@@ -19,7 +21,9 @@ reply_text (Some seconds) = concat (codes "last reply " ∷ decimal seconds ∷ 
 unfoldable pub state_text : Figures → List ℕ
 state_text figures =
     concat (codes "commits " ∷ decimal figures.commits ∷ line_feed ∷ codes "live lines " ∷ decimal figures.lines
-    ∷ line_feed ∷ codes "sessions " ∷ decimal figures.sessions ∷ line_feed ∷ [])
+    ∷ codes " of at most " ∷ decimal most_lines ∷ line_feed ∷ codes "refused " ∷ decimal figures.refusals
+    ∷ refused_terms_text figures.refused ∷ line_feed ∷ codes "sessions " ∷ decimal figures.sessions
+    ∷ codes ", broken " ∷ decimal figures.broken ∷ line_feed ∷ [])
 
 -- what was answered
 unfoldable pub answered_text : Figures → List ℕ

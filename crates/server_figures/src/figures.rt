@@ -1,5 +1,7 @@
 //! The figures of a server at a moment.
 
+use crate::refused::Refused;
+
 /// What a server has done so far.
 #[derive(Clone, Copy, Debug, Default, PartialEq, Eq)]
 pub struct Figures {
@@ -9,6 +11,8 @@ pub struct Figures {
     pub lines: u64,
     /// The refreshes that were refused.
     pub refusals: u64,
+    /// The same, by their cause.
+    pub refused: Refused,
     /// The questions that were answered.
     pub answers: u64,
     /// The questions among them that were answered from totals.
@@ -21,6 +25,8 @@ pub struct Figures {
     pub lacked: u64,
     /// The sessions that are open.
     pub sessions: u64,
+    /// The sessions that have ended with an error.
+    pub broken: u64,
     /// Whether the server takes requests: not before its tables are loaded and its journal's commits are made again.
     pub ready: bool,
 }

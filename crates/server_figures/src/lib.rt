@@ -24,6 +24,8 @@ mod live_figures;
 mod metric;
 mod metrics;
 mod not_metrics;
+mod refused;
+mod refused_text;
 mod resident;
 mod server_status;
 
@@ -32,5 +34,6 @@ pub use live_figures::LiveFigures;
 pub use metric::Metric;
 pub use metrics::{Metrics, SIGN_LENGTH, may_be_replaced};
 pub use not_metrics::NotMetrics;
+pub use refused::Refused;
 pub use resident::resident_bytes;
 pub use server_status::ServerStatus;

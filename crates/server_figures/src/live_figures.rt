@@ -1,6 +1,8 @@
 //! The figures of a server, counted while it serves.
 
 use crate::figures::Figures;
+use crate::refused::LiveRefused;
+use row_store::Cause;
 use std::sync::atomic::{AtomicBool, AtomicU64, Ordering};
 use std::time::Duration;
 
@@ -11,12 +13,14 @@ pub struct LiveFigures {
     commits: AtomicU64,
     lines: AtomicU64,
     refusals: AtomicU64,
+    refused: LiveRefused,
     answers: AtomicU64,
     by_totals: AtomicU64,
     batches: AtomicU64,
     last_batch: AtomicU64,
     lacked: AtomicU64,
     sessions: AtomicU64,
+    broken: AtomicU64,
     ready: AtomicBool,
 }
 
@@ -32,12 +36,14 @@ impl LiveFigures {
             commits: AtomicU64::new(0),
             lines: AtomicU64::new(0),
             refusals: AtomicU64::new(0),
+            refused: LiveRefused::new(),
             answers: AtomicU64::new(0),
             by_totals: AtomicU64::new(0),
             batches: AtomicU64::new(0),
             last_batch: AtomicU64::new(0),
             lacked: AtomicU64::new(0),
             sessions: AtomicU64::new(0),
+            broken: AtomicU64::new(0),
             ready: AtomicBool::new(false),
         }
     }
@@ -48,12 +54,14 @@ impl LiveFigures {
             commits: self.commits.load(Ordering::Relaxed),
             lines: self.lines.load(Ordering::Relaxed),
             refusals: self.refusals.load(Ordering::Relaxed),
+            refused: self.refused.now(),
             answers: self.answers.load(Ordering::Relaxed),
             by_totals: self.by_totals.load(Ordering::Relaxed),
             batches: self.batches.load(Ordering::Relaxed),
             last_batch: self.last_batch.load(Ordering::Relaxed),
             lacked: self.lacked.load(Ordering::Relaxed),
             sessions: self.sessions.load(Ordering::Relaxed),
+            broken: self.broken.load(Ordering::Relaxed),
             ready: self.ready.load(Ordering::Relaxed),
         }
     }
@@ -65,9 +73,10 @@ impl LiveFigures {
         self.lines.store(lines, Ordering::Relaxed);
     }
 
-    /// A refresh was refused.
-    pub fn has_refused(&self) {
+    /// A refresh was refused for this cause.
+    pub fn has_refused(&self, cause: Cause) {
         add(&self.refusals, 1);
+        self.refused.count(cause);
     }
 
     /// A batch of so many questions is answered, so many of them from totals. Its clients get the answers after this.
@@ -100,9 +109,12 @@ impl LiveFigures {
         add(&self.sessions, 1);
     }
 
-    /// One that has begun ends.
-    pub fn session_ends(&self) {
+    /// One that has begun ends, with an error or without.
+    pub fn session_ends(&self, broke: bool) {
         let _ = self.sessions.fetch_sub(1, Ordering::Relaxed);
+        if broke {
+            add(&self.broken, 1);
+        }
     }
 }
 

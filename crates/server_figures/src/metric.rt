@@ -13,6 +13,10 @@ pub enum Metric {
     Ready(bool),
     /// How many commits there are.
     Commits(u64),
+    /// How many lines are live.
+    Lines(u64),
+    /// How many may be.
+    LinesLimit(u64),
     /// How many refreshes were refused.
     Refusals(u64),
     /// How many questions were answered.
@@ -25,6 +29,8 @@ pub enum Metric {
     AnswerLag(u64),
     /// How many sessions are open.
     Sessions(u64),
+    /// How many have ended with an error.
+    BrokenSessions(u64),
     /// How many bytes the journal has.
     JournalBytes(u64),
     /// How many bytes of memory the program has.
@@ -39,12 +45,15 @@ impl Metric {
         match self {
             Metric::Ready(_) => "ssb_live_ready",
             Metric::Commits(_) => "ssb_live_commits_total",
+            Metric::Lines(_) => "ssb_live_lines",
+            Metric::LinesLimit(_) => "ssb_live_lines_limit",
             Metric::Refusals(_) => "ssb_live_refusals_total",
             Metric::Answers(_) => "ssb_live_answers_total",
             Metric::Batches(_) => "ssb_live_batches_total",
             Metric::LastBatch(_) => "ssb_live_last_batch_seconds",
             Metric::AnswerLag(_) => "ssb_live_answer_lag_commits",
             Metric::Sessions(_) => "ssb_live_sessions",
+            Metric::BrokenSessions(_) => "ssb_live_broken_sessions_total",
             Metric::JournalBytes(_) => "ssb_live_journal_bytes",
             Metric::ResidentBytes(_) => "ssb_live_resident_bytes",
         }
@@ -57,6 +66,8 @@ impl Metric {
         match self {
             Metric::Ready(_) => "Whether the server takes requests.",
             Metric::Commits(_) => "Commits, those of the journal among them.",
+            Metric::Lines(_) => "Lines that are live.",
+            Metric::LinesLimit(_) => "The most lines that may be live.",
             Metric::Refusals(_) => "Refreshes that were refused.",
             Metric::Answers(_) => "Questions that were answered.",
             Metric::Batches(_) => "Batches in which they were answered.",
@@ -64,6 +75,7 @@ impl Metric {
             Metric::AnswerLag(_) =>
                 "Commits that the answers of the last batch lacked when it was answered.",
             Metric::Sessions(_) => "Sessions that are open.",
+            Metric::BrokenSessions(_) => "Sessions that have ended with an error.",
             Metric::JournalBytes(_) => "Bytes of the journal.",
             Metric::ResidentBytes(_) => "Bytes of memory that the server has.",
         }
@@ -74,10 +86,14 @@ impl Metric {
         ensures { result.now ≡ metric_kind self }
     {
         match self {
-            Metric::Commits(_) | Metric::Refusals(_) | Metric::Answers(_) | Metric::Batches(_) => {
-                "counter"
-            }
+            Metric::Commits(_)
+            | Metric::Refusals(_)
+            | Metric::Answers(_)
+            | Metric::Batches(_)
+            | Metric::BrokenSessions(_) => "counter",
             Metric::Ready(_)
+            | Metric::Lines(_)
+            | Metric::LinesLimit(_)
             | Metric::LastBatch(_)
             | Metric::AnswerLag(_)
             | Metric::Sessions(_)
@@ -93,12 +109,15 @@ impl Metric {
         match self {
             Metric::Ready(ready) => u64::from(ready),
             Metric::Commits(amount)
+            | Metric::Lines(amount)
+            | Metric::LinesLimit(amount)
             | Metric::Refusals(amount)
             | Metric::Answers(amount)
             | Metric::Batches(amount)
             | Metric::LastBatch(amount)
             | Metric::AnswerLag(amount)
             | Metric::Sessions(amount)
+            | Metric::BrokenSessions(amount)
             | Metric::JournalBytes(amount)
             | Metric::ResidentBytes(amount) => amount,
         }
@@ -112,11 +131,14 @@ impl Metric {
             Metric::LastBatch(_) => "e-9",
             Metric::Ready(_)
             | Metric::Commits(_)
+            | Metric::Lines(_)
+            | Metric::LinesLimit(_)
             | Metric::Refusals(_)
             | Metric::Answers(_)
             | Metric::Batches(_)
             | Metric::AnswerLag(_)
             | Metric::Sessions(_)
+            | Metric::BrokenSessions(_)
             | Metric::JournalBytes(_)
             | Metric::ResidentBytes(_) => "",
         }

@@ -6,6 +6,8 @@ ghost use Rattle.server_figures.specs.MetricsText.{metrics_text, text_where_know
 
 use crate::figures::Figures;
 use crate::metric::Metric;
+use crate::refused_text::RefusedMetric;
+use ssb_base::MOST_LINES;
 use std::fmt;
 
 // The sign by which each text is known: it begins with it.
@@ -53,17 +55,21 @@ impl fmt::Display for Metrics {
         let figures = self.figures;
         let ready = Metric::Ready(figures.ready);
         let commits = Metric::Commits(figures.commits);
+        let lines = Metric::Lines(figures.lines);
+        let limit = Metric::LinesLimit(MOST_LINES as u64);
         let refusals = Metric::Refusals(figures.refusals);
+        let refused = RefusedMetric(figures.refused);
         let answers = Metric::Answers(figures.answers);
         let batches = Metric::Batches(figures.batches);
         let last_batch = Metric::LastBatch(figures.last_batch);
         let lag = Metric::AnswerLag(figures.lacked);
         let sessions = Metric::Sessions(figures.sessions);
+        let broken = Metric::BrokenSessions(figures.broken);
         let journal = WhereKnown(self.journal_bytes.map(Metric::JournalBytes));
         let resident = WhereKnown(self.resident_bytes.map(Metric::ResidentBytes));
         writeln!(f, "{SIGN} figures")?;
-        write!(f, "{ready}{commits}{refusals}{answers}{batches}")?;
-        write!(f, "{last_batch}{lag}{sessions}")?;
+        write!(f, "{ready}{commits}{lines}{limit}{refusals}{refused}")?;
+        write!(f, "{answers}{batches}{last_batch}{lag}{sessions}{broken}")?;
         write!(f, "{journal}{resident}")
     }
 }

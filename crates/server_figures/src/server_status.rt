@@ -4,6 +4,8 @@ ghost use Rattle.std.specs.Prelude.{Some};
 ghost use Rattle.server_figures.specs.StatusText.{answered_text, memory_text, reply_text, state_text, status_text};
 
 use crate::figures::Figures;
+use crate::refused_text::RefusedTerms;
+use ssb_base::MOST_LINES;
 use std::fmt;
 
 // The bytes of a megabyte.
@@ -33,9 +35,14 @@ impl fmt::Display for StateLines {
         let commits = self.0.commits;
         let lines = self.0.lines;
         let sessions = self.0.sessions;
+        let limit = MOST_LINES as u64;
+        let refusals = self.0.refusals;
+        let refused = RefusedTerms(self.0.refused);
+        let broken = self.0.broken;
         writeln!(f, "commits {commits}")?;
-        writeln!(f, "live lines {lines}")?;
-        writeln!(f, "sessions {sessions}")
+        writeln!(f, "live lines {lines} of at most {limit}")?;
+        writeln!(f, "refused {refusals}{refused}")?;
+        writeln!(f, "sessions {sessions}, broken {broken}")
     }
 }
 

@@ -51,7 +51,7 @@ impl<K: Follower + Drop> Model for Client<K> {
 fn count(figures: &LiveFigures, rows: &RowStore, reply: &Result<Receipt, RefreshError>) {
     match reply {
         Ok(receipt) => figures.has_committed(receipt.number, rows.line_count() as u64),
-        Err(RefreshError::Refused { .. }) => figures.has_refused(),
+        Err(RefreshError::Refused { cause, .. }) => figures.has_refused(*cause),
         Err(RefreshError::OutOfMemory) => {}
     }
 }

@@ -8,6 +8,8 @@ unfolding state_text
 returns-clause-writes g c = λ plain ok.
     let first = c.in_ok-writeln.ensures.writes plain (search rules) in
     let second = c.in_ok-writeln-2.ensures.writes first.plain (search rules) in
-    let third = c.writeln-3.ensures.writes second.plain ok in
+    let third = c.in_ok-writeln-3.ensures.writes second.plain (search rules) in
+    let fourth = c.writeln-4.ensures.writes third.plain ok in
     has_written_of_eq _ _ _ _ _ (simp (append_assoc, append-nil))
-    (has_written_append _ _ _ _ _ _ first (has_written_append _ _ _ _ _ _ second third))
+    (has_written_append _ _ _ _ _ _ first (has_written_append _ _ _ _ _ _ second
+    (has_written_append _ _ _ _ _ _ third fourth)))
