@@ -1,3 +1,4 @@
 pub mod RowLaws
+pub mod CellLaws
 pub mod CommitLaws
 pub mod ReplyLaws

@@ -37,11 +37,14 @@ head_text query at count = concat (name_of query ∷ codes " at " ∷ decimal at
 abbrev pub rows_text : Query → ℕ → List ResultRow → List ℕ
 rows_text query at rows = head_text query at (length rows) ++ flat_map (row_text query) rows
 
--- the line in place of rows
+-- the line in place of rows, of what has this name
+abbrev pub unserved_by : List ℕ → Unserved → List ℕ
+unserved_by name unserved.OutOfMemory = concat (name ∷ codes " unserved: out of memory" ∷ line_feed ∷ [])
+unserved_by name (unserved.Twin told found) = concat
+    (name ∷ codes " unserved: twin " ∷ decimal told ∷ codes " " ∷ decimal found ∷ line_feed ∷ [])
+
 abbrev pub unserved_text : Query → Unserved → List ℕ
-unserved_text query unserved.OutOfMemory = concat (name_of query ∷ codes " unserved: out of memory" ∷ line_feed ∷ [])
-unserved_text query (unserved.Twin told found) = concat
-    (name_of query ∷ codes " unserved: twin " ∷ decimal told ∷ codes " " ∷ decimal found ∷ line_feed ∷ [])
+unserved_text query cause = unserved_by (name_of query) cause
 
 -- the report of an answer
 abbrev pub answer_text : Answer → List ℕ

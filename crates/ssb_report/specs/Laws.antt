@@ -2,13 +2,14 @@
 use Rattle.std.specs.Prelude.{◌≡◌, ℕ, Bool, true, false, List, [], ◌∷◌, Ok, Err}
 use Rattle.std.specs.List.{AllByRecursion}
 use Rattle.ssb_answers.specs.declared.answer.Answer.{Answer}
-use Rattle.ssb_answers.specs.declared.answer.Answer.TheVariants.{Rows, Unserved}
+use Rattle.ssb_answers.specs.declared.answer.Answer.TheVariants as answer
 use Rattle.ssb_answers.specs.declared.answer.Unserved.{Unserved as Cause}
 use Rattle.row_store.specs.History.{Warehouse}
 use Rattle.row_store.specs.declared.refusal.RefreshError.TheVariants.{Refused, OutOfMemory}
 use Rattle.ssb_script.specs.Requests.{RequestRecord}
-use Rattle.ssb_report.specs.Replies.{Reply, Refreshed, Answered, Aborted, true_reply, committed_by, with_commits}
+use Rattle.ssb_report.specs.Replies.{Reply, Refreshed, Answered, Listed, Aborted, true_reply, committed_by, with_commits}
 use Rattle.ssb_report.specs.Report.{AreReplies}
+use Rattle.ssb_statements.specs.Listing.{Rows, Unserved as NoRows}
 
 -- the replies of the one-thread warehouse to a client's requests, one after another
 abbrev pub true_replies : ℕ → Warehouse → List RequestRecord → List Reply
@@ -20,8 +21,8 @@ true_replies client warehouse (request ∷ requests) =
 -- whether one of the answers has no rows
 abbrev pub any_unserved : List Answer → Bool
 any_unserved [] = false
-any_unserved (Rows question at rows ∷ answers) = any_unserved answers
-any_unserved (Unserved question cause ∷ answers) = true
+any_unserved (answer.Rows question at rows ∷ answers) = any_unserved answers
+any_unserved (answer.Unserved question cause ∷ answers) = true
 
 -- whether a reply tells that its request was given up
 abbrev pub gives_up : Reply → Bool
@@ -29,6 +30,8 @@ gives_up (Refreshed (Ok receipt)) = false
 gives_up (Refreshed (Err (Refused at action cause))) = false
 gives_up (Refreshed (Err OutOfMemory)) = true
 gives_up (Answered answers) = any_unserved answers
+gives_up (Listed answers (Rows rows)) = false
+gives_up (Listed answers (NoRows cause)) = true
 gives_up Aborted = false
 
 -- they answer every list of requests

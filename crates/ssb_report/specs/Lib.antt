@@ -2,4 +2,5 @@ pub mod AnswerText
 pub mod RefreshText
 pub mod Replies
 pub mod Report
+pub mod StatementText
 pub mod Laws

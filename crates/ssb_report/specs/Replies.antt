@@ -1,5 +1,5 @@
 -- The replies to requests: those of the one-thread warehouse, and those that may stand in their place.
-use Rattle.std.specs.Prelude.{◌≡◌, ◌⊎◌, ℕ, Bool, true, List, [], ◌∷◌, ◌++◌, length, map, flat_map, Result, Ok, Err}
+use Rattle.std.specs.Prelude.{◌≡◌, ◌⊎◌, ℕ, Bool, true, List, [], ◌∷◌, ◌++◌, length, map, flat_map, Option, None, Some, Result, Ok, Err}
 use Rattle.ssb_questions.specs.declared.query.Query.{Query as Named}
 use Rattle.ssb_questions.specs.declared.value.Value.{Value}
 use Rattle.ssb_schema.specs.Facts.{facts_of}
@@ -12,15 +12,20 @@ use Rattle.row_store.specs.Legal.{warehouse_reply, IsRefreshReply}
 use Rattle.row_store.specs.declared.commit.Receipt.{Receipt}
 use Rattle.row_store.specs.declared.refusal.RefreshError.{RefreshError}
 use Rattle.ssb_script.specs.Requests.{RequestRecord}
-use Rattle.ssb_script.specs.Requests.{Refresh, Ask, Abort, questions_in}
+use Rattle.ssb_script.specs.Requests.{Refresh, Ask, Abort, questions_in, statement_in}
+use Rattle.ssb_sql.specs.declared.statement.Statement.{Statement}
+use Rattle.ssb_statements.specs.Listing.{IsListing, ListingRecord, true_listing}
 use Rattle.ssb_report.specs.RefreshText.{aborted_text, receipt_text, refusal_text}
 use Rattle.ssb_report.specs.AnswerText.{answer_text}
+use Rattle.ssb_report.specs.StatementText.{listing_text}
 
 -- what a request is answered
 pub data Reply : Type 0 where
   Refreshed : Result Receipt RefreshError → Reply
   -- an answer to each question that was asked, in order
   Answered : List Answer → Reply
+  -- an answer to each question of a statement, and what is listed of these
+  Listed : List Answer → ListingRecord → Reply
   -- what was begun is dropped
   Aborted : Reply
 
@@ -29,6 +34,7 @@ abbrev pub reply_text : Reply → List ℕ
 reply_text (Refreshed (Ok receipt)) = receipt_text receipt
 reply_text (Refreshed (Err error)) = refusal_text error
 reply_text (Answered answers) = flat_map answer_text answers
+reply_text (Listed answers listing) = listing_text listing
 reply_text Aborted = aborted_text
 
 -- the rows that answer a question over the live lines, after all commits so far
@@ -37,10 +43,16 @@ warehouse_answer warehouse question =
     Rows question (length warehouse.log) (answer_of question warehouse.base.dimensions
     (facts_of (lines_after warehouse.base warehouse.log)))
 
+-- what is told of answers: these, or where a statement was asked, what is listed of them
+abbrev pub reply_of_answers : Option Statement → List Answer → Reply
+reply_of_answers None answers = Answered answers
+reply_of_answers (Some statement) answers = Listed answers (true_listing statement answers)
+
 -- the reply of the one-thread warehouse
 abbrev pub true_reply : Warehouse → RequestRecord → Reply
 true_reply warehouse (Refresh actions) = Refreshed (warehouse_reply warehouse.base warehouse.log actions)
-true_reply warehouse (Ask asking) = Answered (map (warehouse_answer warehouse) (questions_in asking))
+true_reply warehouse (Ask asking) =
+    reply_of_answers (statement_in asking) (map (warehouse_answer warehouse) (questions_in asking))
 true_reply warehouse Abort = Aborted
 
 -- the questions that are asked together have the answers of the one-thread warehouse, or are all left unanswered for one
@@ -49,18 +61,28 @@ abbrev pub AreAnswers : (Cause → Bool) → Warehouse → List (Named × List V
 AreAnswers causes warehouse questions answers = (answers ≡ map (warehouse_answer warehouse) questions)
     ⊎ ((cause : Cause) × (causes cause ≡ true) × (answers ≡ map (λ question. Unserved question cause) questions))
 
+-- this may be listed of the statement that is asked, if one is, whose questions have these answers
+abbrev pub IsListedOf : Option Statement → List Answer → ListingRecord → Type 0
+IsListedOf None answers listing = ⊥
+IsListedOf (Some statement) answers listing = IsListing statement answers listing
+
 -- a reply that may be given: to a refresh that of the one-thread warehouse, or that memory ran out where that is a
 -- receipt; to an `abort` that alone
 abbrev pub IsReply : (Cause → Bool) → Warehouse → RequestRecord → Reply → Type 0
 IsReply causes warehouse (Refresh actions) (Refreshed reply) = IsRefreshReply warehouse.base warehouse.log actions reply
-IsReply causes warehouse (Ask asking) (Answered answers) = AreAnswers causes warehouse (questions_in asking) answers
+IsReply causes warehouse (Ask asking) (Answered answers) =
+    (statement_in asking ≡ None) × AreAnswers causes warehouse (questions_in asking) answers
+IsReply causes warehouse (Ask asking) (Listed answers listing) =
+    IsListedOf (statement_in asking) answers listing × AreAnswers causes warehouse (questions_in asking) answers
 IsReply causes warehouse Abort Aborted = Unit {0}
 IsReply causes warehouse (Refresh actions) (Answered answers) = ⊥
+IsReply causes warehouse (Refresh actions) (Listed answers listing) = ⊥
 IsReply causes warehouse (Refresh actions) Aborted = ⊥
 IsReply causes warehouse (Ask asking) (Refreshed reply) = ⊥
 IsReply causes warehouse (Ask asking) Aborted = ⊥
 IsReply causes warehouse Abort (Refreshed reply) = ⊥
 IsReply causes warehouse Abort (Answered answers) = ⊥
+IsReply causes warehouse Abort (Listed answers listing) = ⊥
 
 -- the commit that a client's request becomes where the reply is a receipt
 abbrev pub committed_by : ℕ → RequestRecord → Reply → List CommitRecord

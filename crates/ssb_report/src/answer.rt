@@ -3,7 +3,7 @@ ghost use Rattle.std.specs.Prelude.{◌≡◌, OnOk, OnErr, flat_map};
 ghost use Rattle.std.specs.Io.KnownBytes.{Appends};
 ghost use Rattle.ssb_text.specs.Piece.{after_bar, piece_text};
 ghost use Rattle.ssb_text.specs.Written.{StopsShort, Writes};
-ghost use Rattle.ssb_report.specs.AnswerText.{answer_text, unserved_text, head_text, row_text, rows_text, value_text};
+ghost use Rattle.ssb_report.specs.AnswerText.{answer_text, head_text, row_text, rows_text, unserved_by, value_text};
 ghost use Rattle.ssb_report.specs.AnswerText.{with_bar};
 
 use ssb_answers::{Answer, ResultRow, Unserved};
@@ -11,8 +11,8 @@ use ssb_questions::{Query, Value};
 use ssb_text::{Piece, WriteFault, write_pieces};
 use std::io::Write;
 
-// The printed text of a group column's value.
-fn piece_of(value: &Value) -> Piece<'_>
+/// The printed text of a group column's value.
+pub(crate) fn piece_of(value: &Value) -> Piece<'_>
     ensures { piece_text result ≡ value_text value.now }
 {
     match value {
@@ -103,11 +103,15 @@ fn write_head_and_rows<W: Write>(
     write_rows(writer, query, rows)
 }
 
-// The line in place of rows.
-fn write_unserved<W: Write>(writer: &mut W, query: Query, cause: Unserved) -> Result<(), WriteFault>
-    ensures { Writes (W.contents writer.old) (W.contents writer.new) result (unserved_text query cause) }
+/// Writes the line in place of the rows of what has this name. It takes no memory.
+pub(crate) fn write_unserved<'a, W: Write>(
+    writer: &mut W,
+    name: &'a str,
+    cause: Unserved,
+) -> Result<(), WriteFault>
+    ensures { Writes (W.contents writer.old) (W.contents writer.new) result (unserved_by name.now cause) }
 {
-    let name = Piece::Text(query.name());
+    let name = Piece::Text(name);
     match cause {
         Unserved::OutOfMemory => write_pieces(
             writer,
@@ -137,7 +141,11 @@ pub fn write_answer<W: Write>(writer: &mut W, answer: &Answer) -> Result<(), Wri
         Answer::Rows { question, at, rows } => {
             write_head_and_rows(writer, question.query(), *at, rows.as_slice())
         }
-        Answer::Unserved { question, cause } => write_unserved(writer, question.query(), *cause),
+        Answer::Unserved { question, cause } => write_unserved(
+            writer,
+            question.query().name(),
+            *cause,
+        ),
     }
 }
 

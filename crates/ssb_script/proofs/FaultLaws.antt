@@ -1,10 +1,13 @@
--- A text that spells a script has no fault: its lines are read from the first to the last, and each may stand.
+-- A text that spells a script has no fault, but for a statement's: its lines are read from the first to the last, and
+-- each may stand.
 use Rattle.std.proofs.Common.{◌≡◌, ℕ, ◌+◌, ◌<◌, ◌≤◌, Bool, true, false, List, [], ◌∷◌, ◌++◌, map, length, Option, Some}
 use Rattle.std.proofs.Common.{None, Result, Ok, if◌then◌else◌, nat_eq, nat_lt, subst, refl, sym, ap, ◌∙◌}
-use Rattle.std.proofs.Common.{append_assoc, append-nil, arith}
-use Rattle.std.specs.List.{AllByRecursion, AllZip, flat_map}
+use Rattle.std.proofs.Common.{append_assoc, append-nil, arith, inl, inr}
+use Rattle.std.specs.List.{AllByRecursion, AllZip, flat_map, list_any}
 use Rattle.std.specs.Prelude.{◌||◌}
+use Rattle.std.proofs.Math.Bool.{or-true}
 use Rattle.std.proofs.lemmas.Bool.{le-ltb, lt-ltb, ltb-false}
+use Rattle.std.proofs.lemmas.List.Folds.{list_any-append}
 use Rattle.std.proofs.lemmas.Bool.Decides.{nat_tests}
 use Rattle.std.proofs.lemmas.List.{length_push, length-append, map-append}
 use Rattle.std.proofs.lemmas.List.Elements.{recursion_from_All}
@@ -19,19 +22,22 @@ use Rattle.ssb_schema.proofs.FirstFaultLaws.{test_none}
 use Rattle.ssb_schema.proofs.OrderLaws.{order_keeps}
 use Rattle.ssb_script.specs.Begun.{Begun}
 use Rattle.ssb_script.specs.Begun as begun
-use Rattle.ssb_script.specs.Laws.{HasNoFaultIfSpelled}
+use Rattle.ssb_script.specs.Laws.{HasNoFaultIfSpelled, IsOfStatement}
 use Rattle.ssb_script.specs.Lines.{ScriptLine, RecordFault, is_abort, is_line, line_of, word_of}
 use Rattle.ssb_script.specs.Lines as line
 use Rattle.ssb_script.specs.Requests.{RequestRecord, Refresh, Ask, Abort, IsWholeAction, IsWholeRequest, action_of}
+use Rattle.ssb_script.specs.Requests.{has_statement, is_statement}
 use Rattle.ssb_script.specs.Requests.{lines_of_action, lines_of_asking, lines_of_refresh, most_questions}
-use Rattle.ssb_script.specs.Scripts.{EndsOpen, HasRoom, IsFirstFault, IsOpenEnd, IsSettled, Spell, SpellAll}
+use Rattle.ssb_script.specs.Scripts.{EndsOpen, HasRoom, IsFaultOf, IsFirstFault, IsNoStatement, IsOpenEnd, IsSettled}
+use Rattle.ssb_script.specs.Scripts.{Spell, SpellAll}
 use Rattle.ssb_script.specs.Scripts.{SpellsScript, checks_in, ends_in_order, fault_of, first_of, is_outside, lines_in}
 use Rattle.ssb_script.specs.Scripts.{lines_of_begun, order_refused, refusal_at_end}
 use Rattle.ssb_script.specs.declared.control.OrderOpening.{OrderOpening}
 use Rattle.ssb_script.specs.declared.control.OrderOpening.TheVariants.{Add, Amend}
 use Rattle.ssb_script.specs.declared.error.ScriptError.{ScriptError}
+use Rattle.ssb_script.specs.declared.error.ScriptError.TheVariants as error
 use Rattle.ssb_script.specs.declared.request.Asking.{Asking}
-use Rattle.ssb_script.specs.declared.request.Asking.TheVariants.{Alone, Together}
+use Rattle.ssb_script.specs.declared.request.Asking.TheVariants.{Alone, Together, Statement as Stated}
 use Rattle.ssb_questions.specs.declared.query.Query.{Query as Named}
 use Rattle.ssb_questions.specs.declared.value.Value.{Value}
 use Rattle.ssb_script.specs.declared.word.ScriptWord.{ScriptWord}
@@ -74,6 +80,7 @@ next Outside (line.Line row) = Outside
 next (Inside actions) (line.Line row) = Inside actions
 next (Within actions opening lines) (line.Line row) = Within actions opening (lines ++ row ∷ [])
 next (Block questions) (line.Line row) = Block questions
+next s (line.Sql text) = Outside
 next s (line.Withdraw key) = Inside (actions_of s ++ action.Withdraw key ∷ [])
 next s line.Commit = Outside
 next s line.Ask = Block []
@@ -125,6 +132,7 @@ MayAnswer (Block questions) = 0 < length questions
 -- a line may stand there, and lines may, one after another
 abbrev Fits : Stand → ScriptLine → Type 0
 Fits s (line.Query question) = MayAsk s
+Fits s (line.Sql text) = IsOutside s
 Fits s line.Begin = IsOutside s
 Fits s (line.Open opening) = MayEnd s × (length (actions_of s) < most_actions)
 Fits s (line.Line row) = TakesLine s
@@ -192,6 +200,7 @@ behind_request (Refresh actions) lines spell =
 behind_request (Ask (Alone question)) lines spell = ap (behind Outside) spell
 behind_request (Ask (Together questions)) lines spell =
     ap (behind Outside) spell ∙ behind-append (Block []) (map line.Query questions) (line.Answer ∷ [])
+behind_request (Ask (Stated asked)) lines spell = ap (behind Outside) spell
 behind_request Abort lines spell =
     ap (behind Outside) spell.joined ∙ behind-append Outside (lines_of_begun spell.begun) (line.Abort ∷ [])
 
@@ -292,6 +301,7 @@ has_few actions none = few_of (length actions) none
 fit_asking : (asking : Asking) (rest : List ScriptLine) → IsWholeRequest (Ask asking) → AllFit Outside rest
     → AllFit Outside (lines_of_asking asking ++ rest)
 fit_asking (Alone question) rest whole fit = (tt, fit)
+fit_asking (Stated asked) rest whole fit = (tt, fit)
 fit_asking (Together questions) rest whole fit = (
   tt,
   subst (AllFit (Block [])) (sym (append_assoc (map line.Query questions) (line.Answer ∷ []) rest))
@@ -401,6 +411,7 @@ well_answered _ answers = absurd answers
 
 ends_unless_spared : (s : Stand) (l : ScriptLine) → Fits s l → spares l ≡ false → EndsWell s
 ends_unless_spared s (line.Query question) fits e = well_asked s fits
+ends_unless_spared s (line.Sql text) fits e = well_outside s fits
 ends_unless_spared s line.Begin fits e = well_outside s fits
 ends_unless_spared s (line.Open opening) fits e = well_ended s fits.0
 ends_unless_spared s (line.Line row) fits e = absurd cc
@@ -430,6 +441,7 @@ not_zero n some = grind (arith, nat_tests)
 checks_none : (number : ℕ) (b : Begun) (l : ScriptLine) → Fits (stand_of b) l
     → first_of (checks_in number b (Ok l)) ≡ None
 checks_none number begun.Nothing (line.Query question) fits = refl
+checks_none number begun.Nothing (line.Sql text) fits = refl
 checks_none number begun.Nothing line.Begin fits = refl
 checks_none number begun.Nothing (line.Open opening) fits = absurd fits.0
 checks_none number begun.Nothing (line.Withdraw key) fits = absurd fits.0
@@ -490,8 +502,94 @@ says_next (p ∷ front) (q ∷ lines) r more e =
     let same : q ≡ p = cc in
     (later.0, later.1, later.2, same_list q p lines (front ++ later.0 ∷ later.1) same later.3)
 
+-- lines have the text of a statement just where their requests ask one
+abbrev is_sql : ScriptLine → Bool
+is_sql (line.Sql text) = true
+is_sql _ = false
+
+abbrev has_sql : List ScriptLine → Bool
+has_sql lines = list_any is_sql lines
+
+no_sql_rows : (rows : List LineFields) (rest : List ScriptLine) → has_sql (map line.Line rows ++ rest) ≡ has_sql rest
+no_sql_rows [] rest = refl
+no_sql_rows (row ∷ rows) rest = no_sql_rows rows rest
+
+no_sql_queries : (questions : List (Named × List Value)) (rest : List ScriptLine)
+    → has_sql (map line.Query questions ++ rest) ≡ has_sql rest
+no_sql_queries [] rest = refl
+no_sql_queries (question ∷ questions) rest = no_sql_queries questions rest
+
+no_sql_action : (a : Action) (rest : List ScriptLine) → has_sql (lines_of_action a ++ rest) ≡ has_sql rest
+no_sql_action (action.Add order) rest = no_sql_rows order rest
+no_sql_action (action.Amend order) rest = no_sql_rows order rest
+no_sql_action (action.Withdraw key) rest = refl
+
+no_sql_actions : (actions : List Action) (rest : List ScriptLine)
+    → has_sql (flat_map lines_of_action actions ++ rest) ≡ has_sql rest
+no_sql_actions [] rest = refl
+no_sql_actions (a ∷ actions) rest =
+    ap has_sql (append_assoc (lines_of_action a) (flat_map lines_of_action actions) rest)
+    ∙ (no_sql_action a (flat_map lines_of_action actions ++ rest) ∙ no_sql_actions actions rest)
+
+no_sql_begun : (b : Begun) (rest : List ScriptLine) → has_sql (lines_of_begun b ++ rest) ≡ has_sql rest
+no_sql_begun begun.Nothing rest = refl
+no_sql_begun (begun.Refresh actions) rest = no_sql_actions actions rest
+no_sql_begun (begun.Order order) rest =
+    let acts = flat_map lines_of_action order.actions in
+    let last : List ScriptLine = line.Open order.opening ∷ map line.Line order.lines in
+    ap has_sql (append_assoc acts last rest)
+    ∙ (no_sql_actions order.actions (last ++ rest) ∙ no_sql_rows order.lines rest)
+no_sql_begun (begun.Asked questions) rest = no_sql_queries questions rest
+
+sql_of_request : (one : RequestRecord) (lines : List ScriptLine) → Spell one lines → has_sql lines ≡ is_statement one
+sql_of_request (Refresh actions) lines spell = ap has_sql spell ∙ no_sql_actions actions (line.Commit ∷ [])
+sql_of_request (Ask (Alone question)) lines spell = ap has_sql spell
+sql_of_request (Ask (Together questions)) lines spell =
+    ap has_sql spell ∙ no_sql_queries questions (line.Answer ∷ [])
+sql_of_request (Ask (Stated asked)) lines spell = ap has_sql spell
+sql_of_request Abort lines spell = ap has_sql spell.joined ∙ no_sql_begun spell.begun (line.Abort ∷ [])
+
+sql_of_parts : (requests : List RequestRecord) (parts : List (List ScriptLine)) → AllZip Spell requests parts
+    → has_sql (lines_in parts) ≡ has_statement requests
+sql_of_parts [] [] each = refl
+sql_of_parts [] (part ∷ parts) each = absurd each
+sql_of_parts (one ∷ requests) [] each = absurd each
+sql_of_parts (one ∷ requests) (part ∷ parts) each =
+    list_any-append is_sql part (lines_in parts)
+    ∙ (ap (λ first. first || has_sql (lines_in parts)) (sql_of_request one part each.0)
+    ∙ ap (λ rest. is_statement one || rest) (sql_of_parts requests parts each.1))
+
+sql_inside : (front : List ScriptLine) (text : List ℕ) (rest : List ScriptLine)
+    → has_sql (front ++ line.Sql text ∷ rest) ≡ true
+sql_inside [] text rest = refl
+sql_inside (l ∷ front) text rest = ap (λ later. is_sql l || later) (sql_inside front text rest) ∙ or-true (is_sql l)
+
+-- where a record's checks find nothing, its fault is that of a statement
+of_statement : (number : ℕ) (spelled : Result ScriptLine RecordFault) (e : ScriptError)
+    → IsNoStatement number spelled e → IsOfStatement e × ((text : List ℕ) × (spelled ≡ Ok (line.Sql text)))
+of_statement number (Ok (line.Sql text)) (error.Sql n why) is = (tt, (text, refl))
+of_statement number _ _ is = absurd is
+
+refused_only : (most number : ℕ) (b : Begun) (fields : List (List ℕ)) (e : ScriptError)
+    → fault_of most number b fields ≡ None → IsFaultOf most number b fields e
+    → IsOfStatement e × ((text : List ℕ) × (line_of fields ≡ Ok (line.Sql text)))
+refused_only most number b fields e none (inl is) = absurd (none-some e (sym none ∙ is))
+refused_only most number b fields e none (inr refused) = of_statement number (line_of fields) e refused.1
+
+-- a script with such a line asks a statement
+asks_statement : (wanted : List RequestRecord) (lines front : List ScriptLine) (said : ScriptLine) (text : List ℕ)
+    (rest : List ScriptLine) → SpellAll wanted lines → lines ≡ front ++ said ∷ rest → said ≡ line.Sql text
+    → has_statement wanted ≡ true
+asks_statement wanted lines front said text rest spell split is =
+    sym (sql_of_parts wanted spell.parts spell.each)
+    ∙ (ap has_sql (sym spell.joined ∙ (split ∙ ap (λ one. front ++ one ∷ rest) is)) ∙ sql_inside front text rest)
+
+same_said : (said other : ScriptLine) (spelled : Result ScriptLine RecordFault) → spelled ≡ Ok said → spelled ≡ Ok other
+    → said ≡ other
+same_said said other spelled is more = cc
+
 no_first_fault : (most : ℕ) (text : List ℕ) (wanted : List RequestRecord) (e : ScriptError)
-    → SpellsScript most text wanted → IsFirstFault most text e → ⊥
+    → SpellsScript most text wanted → IsFirstFault most text e → IsOfStatement e × (has_statement wanted ≡ true)
 no_first_fault most text wanted e a b =
     let before = b.before in
     let all = text_begins text (before ++ b.fields ∷ []) a.records b.begins a.all in
@@ -510,7 +608,12 @@ no_first_fault most text wanted e a b =
     (fit_behind Outside lines (one.0 ∷ one.1) fit) in
     let few : length before + 1 ≤ most =
     omega (arith, a.few, ap length split, length-append before (b.fields ∷ all.0)) in
-    none-some e (sym (record_passes most (length before + 1) b.begun b.fields one.0 few one.2 here.0) ∙ b.is)
+    let refused = refused_only most (length before + 1) b.begun b.fields e
+    (record_passes most (length before + 1) b.begun b.fields one.0 few one.2 here.0) b.is in (
+      refused.0,
+      asks_statement wanted a.lines lines one.0 refused.1.0 one.1 a.spelled one.3
+          (same_said one.0 (line.Sql refused.1.0) (line_of b.fields) one.2 refused.1.1),
+    )
 
 -- where nothing is begun, nothing is lacking
 nothing_lacks : (b : Begun) (e : ScriptError) → stand_of b ≡ Outside → IsOpenEnd b e → ⊥

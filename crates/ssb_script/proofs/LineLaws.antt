@@ -47,6 +47,7 @@ line_of-control fields w found at control = ap (λ v. line_after v fields) (sym 
 -- the word that a line begins with
 abbrev pub word_for : ScriptLine → ScriptWord
 word_for (line.Query question) = word.Query
+word_for (line.Sql text) = word.Sql
 word_for line.Begin = word.Begin
 word_for (line.Open Add) = word.Add
 word_for (line.Open Amend) = word.Amend
@@ -82,6 +83,7 @@ pub word_said : (w : Option ScriptWord) (fields : List (List ℕ)) (l : ScriptLi
     → w ≡ Some (word_for l)
 word_said None fields l e = absurd cc
 word_said (Some word.Query) fields l e = by_option word.Query line.Query _ l (λ x. refl) e
+word_said (Some word.Sql) fields l e = by_option word.Sql line.Sql _ l (λ x. refl) e
 word_said (Some word.Begin) fields l e = by_alone _ line.Begin l e
 word_said (Some word.Add) fields l e = by_alone _ (line.Open Add) l e
 word_said (Some word.Amend) fields l e = by_alone _ (line.Open Amend) l e
@@ -95,6 +97,7 @@ word_said (Some word.Abort) fields l e = by_alone _ line.Abort l e
 -- the lines whose word stands alone in the record
 abbrev pub IsAlone : ScriptLine → Type 0
 IsAlone (line.Query question) = ⊥
+IsAlone (line.Sql text) = ⊥
 IsAlone line.Begin = Unit {0}
 IsAlone (line.Open opening) = Unit {0}
 IsAlone (line.Line row) = ⊥
@@ -107,6 +110,7 @@ IsAlone line.Abort = Unit {0}
 after_alone : (l : ScriptLine) (fields : List (List ℕ)) → IsAlone l
     → line_after (Some (word_for l)) fields ≡ line_or_bad (alone l fields)
 after_alone (line.Query question) fields is = absurd is
+after_alone (line.Sql text) fields is = absurd is
 after_alone line.Begin fields is = refl
 after_alone (line.Open Add) fields is = refl
 after_alone (line.Open Amend) fields is = refl

@@ -12,9 +12,10 @@ use Rattle.ssb_text.specs.Records.{GivesNext, HasGiven}
 use Rattle.ssb_script.specs.Begun.{Begun, Nothing}
 use Rattle.ssb_script.specs.Lines.{ScriptLine, line_of, word_of}
 use Rattle.ssb_script.specs.Requests.{RequestRecord, IsWholeRequest, request_of, requests_of}
-use Rattle.ssb_script.specs.Scripts.{Spell, SpellAll, Spells, SpellsScript, IsFirstFault, IsScriptFault, EndsOpen}
+use Rattle.ssb_script.specs.Scripts.{Spell, SpellAll, Spells, SpellsScript, IsFaultOf, IsFirstFault, IsScriptFault}
+use Rattle.ssb_script.specs.Scripts.{EndsOpen}
 use Rattle.ssb_script.specs.Scripts.{IsOpenEnd, checks_in, fault_of, first_of, lines_in, lines_of_begun, order_refused}
-use Rattle.ssb_script.specs.Steps.{AreTaken, Follows, IsFoundBy, asked, begun_in}
+use Rattle.ssb_script.specs.Steps.{AreTaken, Follows, IsFoundIn, asked, begun_in}
 use Rattle.ssb_script.specs.declared.begun.ScriptStep.{ScriptStep}
 use Rattle.ssb_script.specs.declared.request.Request.{Request}
 use Rattle.ssb_script.specs.declared.request.Script.{Script}
@@ -132,7 +133,7 @@ ends_open remaining most text old new count requests begun fields e so_far next 
 pub first_fault : {R : Type 0} (remaining : R → Option (List ℕ)) (most : ℕ) (text : List ℕ) (old new : Reader R)
     (count : ℕ) (requests : List RequestRecord) (begun : Begun) (fields : List (List ℕ)) (e : ScriptError)
     → HasRead remaining text old count requests begun → GivesNext remaining old new true fields → count ≤ most
-    → fault_of most (count + 1) begun fields ≡ Some e → IsFirstFault most text e
+    → IsFaultOf most (count + 1) begun fields e → IsFirstFault most text e
 first_fault remaining most text old new count requests begun fields e so_far next few bad =
     let given = next text so_far.records so_far.given in
     record {
@@ -161,13 +162,17 @@ pub found_fault : {R : Type 0} (remaining : R → Option (List ℕ)) (most : ℕ
     (old new : Reader R) (count : ℕ) (requests : List RequestRecord) (begun : Begun) (fields : List (List ℕ))
     (e : ScriptError)
     → HasReadKnown remaining known old count requests begun → GivesNext remaining old new true fields → count < most
-    → IsFoundBy (order_refused begun (word_of fields) ∷ checks_in (count + 1) begun (line_of fields)) e
+    → IsFoundIn (count + 1) (line_of fields)
+    (order_refused begun (word_of fields) ∷ checks_in (count + 1) begun (line_of fields)) e
     → (text : List ℕ) → known ≡ Some text → IsScriptFault most text e
-found_fault remaining most known old new count requests begun fields e so_far next few (inl memory) text is =
+found_fault remaining most known old new count requests begun fields e so_far next few (inl (inl memory)) text is =
     inr (inl memory)
-found_fault remaining most known old new count requests begun fields e so_far next few (inr found) text is =
+found_fault remaining most known old new count requests begun fields e so_far next few (inl (inr found)) text is =
     inr (inr (inl (first_fault remaining most text old new count requests begun fields e (so_far text is) next
-    (omega arith) (within most (count + 1) begun fields (omega arith) ∙ found))))
+    (omega arith) (inl (within most (count + 1) begun fields (omega arith) ∙ found)))))
+found_fault remaining most known old new count requests begun fields e so_far next few (inr refused) text is =
+    inr (inr (inl (first_fault remaining most text old new count requests begun fields e (so_far text is) next
+    (omega arith) (inr (within most (count + 1) begun fields (omega arith) ∙ refused.0, refused.1)))))
 
 -- what the reading gives where there is no more record
 pub read_script_all : {R : Type 0} (remaining : R → Option (List ℕ)) (most : ℕ) (known : Option (List ℕ))

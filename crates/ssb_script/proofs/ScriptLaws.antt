@@ -16,7 +16,7 @@ use Rattle.ssb_script.specs.Blocks.{opens}
 use Rattle.ssb_script.specs.Cutting.{EndAt, MakeRequest, IsRequest, IsCutInto}
 use Rattle.ssb_script.specs.declared.block.BlockKind.{BlockKind}
 use Rattle.ssb_script.specs.declared.block.BlockKind.TheVariants.{Refreshing, Asking}
-use Rattle.ssb_script.specs.declared.request.Asking.TheVariants.{Alone, Together}
+use Rattle.ssb_script.specs.declared.request.Asking.TheVariants.{Alone, Together, Statement as Stated}
 use Rattle.ssb_script.specs.Lines.{ScriptLine, line_of}
 use Rattle.ssb_script.specs.Lines as script
 use Rattle.ssb_script.specs.Begun.{Begun}
@@ -116,10 +116,17 @@ dropped_block (begun.Asked questions) lines inside is = record {
   none = questions_have_no_end questions;
 }
 
--- a request is a question alone, or a block
+-- a line that is a request by itself: a question or a statement
+abbrev IsLone : ScriptLine → Type 0
+IsLone (script.Query question) = Unit {0}
+IsLone (script.Sql text) = Unit {0}
+IsLone _ = ⊥
+
+-- a request is such a line alone, or a block
 shape_of : (one : RequestRecord) (lines : List ScriptLine) → Spell one lines
-    → ((question : Named × List Value) × (lines ≡ script.Query question ∷ [])) ⊎ IsBlock lines
-shape_of (Ask (Alone question)) lines spell = inl (question, spell)
+    → ((said : ScriptLine) × IsLone said × (lines ≡ said ∷ [])) ⊎ IsBlock lines
+shape_of (Ask (Alone question)) lines spell = inl (script.Query question, tt, spell)
+shape_of (Ask (Stated asked)) lines spell = inl (script.Sql asked.text, tt, spell)
 shape_of (Ask (Together questions)) lines spell = inr (record {
   block = Asking;
   said = map script.Query questions;
@@ -222,17 +229,17 @@ one_line_asks l (b ∷ c) [] (part ∷ parts) behind opened ended mark each h = 
 one_line_asks l (b ∷ c) (request ∷ wanted) [] behind opened ended mark each h = absurd each
 one_line_asks l (b ∷ c) (request ∷ wanted) (part ∷ parts) behind opened ended mark each h =
     elim (shape_of request part each.0) [
-      | inl alone ↦ let said : Say (fields_from [] (b ∷ c) ∷ behind) (script.Query alone.0 ∷ lines_in parts) =
-          h ∙ ap (λ p. map Ok (p ++ lines_in parts)) alone.1 in
-          let first = first_says (fields_from [] (b ∷ c)) behind (script.Query alone.0) (lines_in parts) said in
+      | inl alone ↦ let said : Say (fields_from [] (b ∷ c) ∷ behind) (alone.0 ∷ lines_in parts) =
+          h ∙ ap (λ p. map Ok (p ++ lines_in parts)) alone.2 in
+          let first = first_says (fields_from [] (b ∷ c)) behind alone.0 (lines_in parts) said in
           record {
             asked = request ∷ [];
             left = wanted;
             parted = refl;
             parts = part ∷ [];
             each = (each.0, tt);
-            says = more_say (fields_from [] (b ∷ c)) [] (script.Query alone.0) [] first.0 refl
-                ∙ ap (λ p. map Ok (p ++ [])) (sym alone.1);
+            says = more_say (fields_from [] (b ∷ c)) [] alone.0 [] first.0 refl
+                ∙ ap (λ p. map Ok (p ++ [])) (sym alone.2);
             behind_parts = parts;
             behind_each = each.1;
             behind_says = first.1;
@@ -257,9 +264,9 @@ opening_is_one Refreshing Asking e = absurd cc
 opening_is_one Asking Refreshing e = absurd cc
 opening_is_one Asking Asking e = refl
 
-no_query_opens : (block : BlockKind) (question : Named × List Value) → script.Query question ≡ opening_of block → ⊥
-no_query_opens Refreshing question e = cc
-no_query_opens Asking question e = cc
+no_lone_opens : (block : BlockKind) (said : ScriptLine) → IsLone said → said ≡ opening_of block → ⊥
+no_lone_opens Refreshing said lone e = subst IsLone e lone
+no_lone_opens Asking said lone e = subst IsLone e lone
 
 -- the records of a block, which are those of one request
 block_asks_one : (block : BlockKind) (request : RequestRecord) (part : List ScriptLine) (l m : List ℕ)
@@ -309,8 +316,8 @@ block_asks block l m lines (b ∷ c) d contents (request ∷ wanted) [] behind o
 block_asks block l m lines (b ∷ c) d contents (request ∷ wanted) (part ∷ parts) behind opened ends ended mark each h =
     elim (shape_of request part each.0) [
       | inl alone ↦ let first = first_says (fields_from [] (b ∷ c)) (flat_map records_in (d ∷ contents) ++ behind)
-          (script.Query alone.0) (lines_in parts) (h ∙ ap (λ p. map Ok (p ++ lines_in parts)) alone.1) in
-          absurd (no_query_opens block alone.0 (first_opens l (b ∷ c) block (script.Query alone.0) opened ended.0 mark
+          alone.0 (lines_in parts) (h ∙ ap (λ p. map Ok (p ++ lines_in parts)) alone.2) in
+          absurd (no_lone_opens block alone.0 alone.1 (first_opens l (b ∷ c) block alone.0 opened ended.0 mark
           (fields_from [] (b ∷ c)) refl first.0))
       | inr is ↦ block_asks_one block request part l m lines b c d contents wanted parts behind is opened ends ended
           mark each.0 each.1 h

@@ -20,7 +20,7 @@ use Rattle.ssb_script.specs.Lines.{line_or_bad}
 use Rattle.ssb_script.specs.Requests.{IsWholeAction, action_of, lines_of_action}
 use Rattle.ssb_script.specs.Scripts.{HasRoom, checks_in, ends_in_order, first_of, lines_of_begun, order_refused}
 use Rattle.ssb_script.specs.Scripts.{refusal_at_end}
-use Rattle.ssb_script.specs.Steps.{AreTaken, Follows, IsFoundBy, begun_in, begun_of, ended_of, line_of_control}
+use Rattle.ssb_script.specs.Steps.{AreTaken, Follows, IsFoundBy, IsFoundIn, begun_in, begun_of, ended_of, line_of_control}
 use Rattle.ssb_script.specs.declared.begun.Ended.{Ended}
 use Rattle.ssb_script.specs.declared.begun.ScriptStep.{ScriptStep}
 use Rattle.ssb_script.specs.declared.control.Control.{Control}
@@ -92,6 +92,7 @@ checks-ended number (begun.Refresh actions) found = refl
 checks-ended number (begun.Asked questions) found = refl
 checks-ended number (begun.Order order) None = refl
 checks-ended number (begun.Order order) (Some (control.Query question)) = refl
+checks-ended number (begun.Order order) (Some (control.Sql text)) = refl
 checks-ended number (begun.Order order) (Some control.Begin) = refl
 checks-ended number (begun.Order order) (Some control.Ask) = refl
 checks-ended number (begun.Order order) (Some control.Answer) = refl
@@ -110,6 +111,13 @@ pub refused_later : (result : Result ScriptStep ScriptError) (b : Begun) (word :
 refused_later (Ok step) b word checks none found = tt
 refused_later (Err e) b word checks none (inl memory) = inl memory
 refused_later (Err e) b word checks none (inr found) = inr (rw none found)
+
+-- what checks find is found
+pub found_in : (result : Result ScriptStep ScriptError) (number : ℕ) (spelled : Result ScriptLine RecordFault)
+    (checks : List (Option ScriptError))
+    → IfErr result (IsFoundBy checks) → IfErr result (IsFoundIn number spelled checks)
+found_in (Ok step) number spelled checks found = tt
+found_in (Err e) number spelled checks found = inl found
 
 pub not_refused : (b : Begun) (word : Option ScriptWord) → refusal_at_end b ≡ None → order_refused b word ≡ None
 not_refused b word none = by (is_line word || is_abort word)
@@ -142,12 +150,17 @@ step_after (Err e) number b spelled found ended at is follows = tt
 pub fault_after : (result : Result ScriptStep ScriptError) (number : ℕ) (b : Begun) (word : Option ScriptWord)
     (spelled : Result ScriptLine RecordFault) (found : Control) (ended : Ended)
     → ended_of b ≡ ended → refusal_at_end b ≡ None → spelled ≡ Ok (line_of_control found)
-    → IfErr result (IsFoundBy (checks_in number (begun_of ended) (Ok (line_of_control found))))
-    → IfErr result (IsFoundBy (order_refused b word ∷ checks_in number b spelled))
+    → IfErr result (IsFoundIn number (Ok (line_of_control found))
+    (checks_in number (begun_of ended) (Ok (line_of_control found))))
+    → IfErr result (IsFoundIn number spelled (order_refused b word ∷ checks_in number b spelled))
 fault_after (Ok step) number b word spelled found ended at none is faults = tt
-fault_after (Err e) number b word spelled found ended at none is (inl memory) = inl memory
-fault_after (Err e) number b word spelled found ended at none is (inr faults) =
-    inr (rw (not_refused b word none, is) (checks-ended number b (Some found) ∙ rw at faults))
+fault_after (Err e) number b word spelled found ended at none is (inl (inl memory)) = inl (inl memory)
+fault_after (Err e) number b word spelled found ended at none is (inl (inr faults)) =
+    inl (inr (rw (not_refused b word none, is) (checks-ended number b (Some found) ∙ rw at faults)))
+fault_after (Err e) number b word spelled found ended at none is (inr refused) = inr (
+  rw (not_refused b word none, is) (checks-ended number b (Some found) ∙ rw at refused.0),
+  rw is refused.1,
+)
 
 -- what ends in a withdrawal ends in no order
 pub ends_withdrawn : (actions : List Action) (key : ℕ) → ends_in_order (actions ++ action.Withdraw key ∷ []) ≡ false

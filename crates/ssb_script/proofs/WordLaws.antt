@@ -193,6 +193,7 @@ IsSpelling w spelling =
 
 spelling_is : (w : ScriptWord) → IsSpelling w (spelling_of w)
 spelling_is word.Query = (λ e. cc, (refl, (refl, (refl, (refl, (refl, tt))))), refl, refl)
+spelling_is word.Sql = (λ e. cc, (refl, (refl, (refl, tt))), refl, refl)
 spelling_is word.Begin = (λ e. cc, (refl, (refl, (refl, (refl, (refl, tt))))), refl, refl)
 spelling_is word.Add = (λ e. cc, (refl, (refl, (refl, tt))), refl, refl)
 spelling_is word.Amend = (λ e. cc, (refl, (refl, (refl, (refl, (refl, tt))))), refl, refl)

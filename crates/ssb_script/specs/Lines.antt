@@ -1,5 +1,6 @@
 -- What one record of a script spells.
-use Rattle.std.specs.Prelude.{ℕ, ◌+◌, ◌^◌, Bool, true, false, List, [], ◌∷◌, length, get_or, drop, find, codes, Option}
+use Rattle.std.specs.Prelude.{ℕ, ◌+◌, ◌^◌, ◌++◌, Bool, true, false, List, [], ◌∷◌, length, get_or, drop, find, codes}
+use Rattle.std.specs.Prelude.{flat_map, Option}
 use Rattle.std.specs.Prelude.{Some, None, is_none, option_map, Result, Ok, Err, nat_eq, nat_lt, if◌then◌else◌}
 use Rattle.std.specs.Option.{option_and_then}
 use Rattle.std.specs.Cmp.Lexicographic.{pointwise}
@@ -32,6 +33,8 @@ use Rattle.ssb_script.specs.declared.word.ScriptWord.TheVariants as word
 -- what a record may say
 pub data ScriptLine : Type 0 where
   Query : Named × List Value → ScriptLine
+  -- the text of a statement
+  Sql : List ℕ → ScriptLine
   Begin : ScriptLine
   Open : OrderOpening → ScriptLine
   Line : LineFields → ScriptLine
@@ -49,6 +52,7 @@ pub data RecordFault : Type 0 where
 -- the words that a record may begin with
 abbrev pub spelling_of : ScriptWord → List ℕ
 spelling_of word.Query = codes "query"
+spelling_of word.Sql = codes "sql"
 spelling_of word.Begin = codes "begin"
 spelling_of word.Add = codes "add"
 spelling_of word.Amend = codes "amend"
@@ -60,8 +64,8 @@ spelling_of word.Answer = codes "answer"
 spelling_of word.Abort = codes "abort"
 
 abbrev pub words : List ScriptWord
-words = word.Query ∷ word.Begin ∷ word.Add ∷ word.Amend ∷ word.Line ∷ word.Withdraw ∷ word.Commit ∷ word.Ask ∷
-    word.Answer ∷ word.Abort ∷ []
+words = word.Query ∷ word.Sql ∷ word.Begin ∷ word.Add ∷ word.Amend ∷ word.Line ∷ word.Withdraw ∷ word.Commit ∷
+    word.Ask ∷ word.Answer ∷ word.Abort ∷ []
 
 -- the word that bytes spell, letter for letter
 abbrev pub word_spelled : List ℕ → Option ScriptWord
@@ -128,6 +132,22 @@ question_at name place fields = option_and_then (λ query. option_map (λ consta
 abbrev pub question_of : List (List ℕ) → Option (Named × List Value)
 question_of fields = question_at 1 2 fields
 
+-- fields with a bar between one and the next
+abbrev pub behind_bar : List ℕ → List ℕ
+behind_bar bytes = 124 ∷ bytes
+
+abbrev pub barred : List (List ℕ) → List ℕ
+barred [] = []
+barred (first ∷ others) = first ++ flat_map behind_bar others
+
+-- the text behind a record's word: the fields there with the bars between them, without a closing one
+abbrev pub text_behind : List (List ℕ) → List ℕ
+text_behind fields = barred (without_closing (drop 1 fields))
+
+-- the text of the statement that a `sql` record asks: its word has a bar behind it, and the text is UTF-8
+abbrev pub sql_of : List (List ℕ) → Option (List ℕ)
+sql_of fields = if nat_lt 1 (length fields) then text_of (text_behind fields) else None
+
 -- the number, or the text, that stands in a place of a row's values
 abbrev pub number_value : columns.Value → ℕ
 number_value (columns.Number n) = n
@@ -189,6 +209,7 @@ key_of fields = if has_columns 2 fields then number_of (field fields 1) else Non
 abbrev pub line_after : Option ScriptWord → List (List ℕ) → Result ScriptLine RecordFault
 line_after None fields = Err Bad
 line_after (Some word.Query) fields = line_or_bad (option_map Query (question_of fields))
+line_after (Some word.Sql) fields = line_or_bad (option_map Sql (sql_of fields))
 line_after (Some word.Begin) fields = line_or_bad (alone Begin fields)
 line_after (Some word.Add) fields = line_or_bad (alone (Open Add) fields)
 line_after (Some word.Amend) fields = line_or_bad (alone (Open Amend) fields)
@@ -208,6 +229,11 @@ is_line _ = false
 abbrev pub is_query : Option ScriptWord → Bool
 is_query (Some word.Query) = true
 is_query _ = false
+
+-- whether a record is a `sql`, by its word
+abbrev pub is_sql : Option ScriptWord → Bool
+is_sql (Some word.Sql) = true
+is_sql _ = false
 
 -- whether a record is an `abort`, which goes by its word alone too
 abbrev pub is_abort : Option ScriptWord → Bool

@@ -18,6 +18,7 @@ use Rattle.ssb_script.specs.Requests.{lines_of_action, lines_of_asking, lines_of
 use Rattle.ssb_script.specs.declared.error.ScriptError.{ScriptError}
 use Rattle.ssb_script.specs.declared.error.ScriptError.TheVariants as error
 use Rattle.ssb_script.specs.declared.word.ScriptWord.{ScriptWord}
+use Rattle.ssb_sql.specs.declared.fault.SqlFault.TheVariants as sql
 
 -- the lines of the refresh, and in it of the order, or of the block that is begun and not ended
 abbrev pub lines_of_begun : Begun → List ScriptLine
@@ -146,6 +147,7 @@ may_stand b (line.Line row) = is_in_order b
 may_stand b (line.Withdraw key) = is_refreshing b
 may_stand b line.Commit = is_refreshing b
 may_stand b line.Ask = is_outside b
+may_stand b (line.Sql text) = is_outside b
 may_stand b line.Answer = is_asking b
 may_stand b line.Abort = not (is_outside b)
 
@@ -232,6 +234,17 @@ checks most number b word spelled = too_long most number ∷ order_refused b wor
 abbrev pub fault_of : ℕ → ℕ → Begun → List (List ℕ) → Option ScriptError
 fault_of most number b fields = first_of (checks most number b (word_of fields) (line_of fields))
 
+-- 8. it is a `sql` whose text is no statement; why not, the reader of statements tells
+abbrev pub IsNoStatement : ℕ → Result ScriptLine RecordFault → ScriptError → Type 0
+IsNoStatement number (Ok (line.Sql text)) (error.Sql n why) = (n ≡ number) × (why ≡ sql.OutOfMemory → ⊥)
+IsNoStatement number spelled e = ⊥
+
+-- a record of a number has this fault, where so much is begun
+abbrev pub IsFaultOf : ℕ → ℕ → Begun → List (List ℕ) → ScriptError → Type 0
+IsFaultOf most number b fields e =
+    (fault_of most number b fields ≡ Some e)
+    ⊎ ((fault_of most number b fields ≡ None) × IsNoStatement number (line_of fields) e)
+
 -- a record is the first with a fault: those before it spell requests and what is begun
 pub record IsFirstFault (most : ℕ) (text : List ℕ) (e : ScriptError) : Type 0 where
   pub before : List (List (List ℕ))
@@ -241,7 +254,7 @@ pub record IsFirstFault (most : ℕ) (text : List ℕ) (e : ScriptError) : Type 
   pub requests : List RequestRecord
   pub begun : Begun
   pub spells : Spells before requests begun
-  pub is : fault_of most (length before + 1) begun fields ≡ Some e
+  pub is : IsFaultOf most (length before + 1) begun fields e
 
 -- what a text lacks that ends there: the `commit` of a refresh, or the `answer` of a block
 abbrev pub IsOpenEnd : Begun → ScriptError → Type 0

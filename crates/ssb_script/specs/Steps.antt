@@ -6,7 +6,7 @@ use Rattle.ssb_script.specs.Begun as begun
 use Rattle.ssb_script.specs.Lines.{ScriptLine, RecordFault}
 use Rattle.ssb_script.specs.Lines as line
 use Rattle.ssb_script.specs.Requests.{RequestRecord, IsWholeRequest, action_of, request_of}
-use Rattle.ssb_script.specs.Scripts.{HasRoom, IsSettled, Spell, first_of, lines_of_begun}
+use Rattle.ssb_script.specs.Scripts.{HasRoom, IsNoStatement, IsSettled, Spell, first_of, lines_of_begun}
 use Rattle.ssb_script.specs.declared.begun.Begun.{Begun as Held}
 use Rattle.ssb_script.specs.declared.begun.Begun.TheVariants as held
 use Rattle.ssb_script.specs.declared.begun.BegunOrder.{BegunOrder as HeldOrder}
@@ -45,6 +45,7 @@ line_of_row order_line.Bad = Err line.Bad
 -- what a record that is no `line` says
 abbrev pub line_of_control : Control → ScriptLine
 line_of_control (control.Query question) = line.Query question
+line_of_control (control.Sql text) = line.Sql text
 line_of_control control.Begin = line.Begin
 line_of_control (control.Open opening) = line.Open opening
 line_of_control (control.Withdraw key) = line.Withdraw key
@@ -84,3 +85,12 @@ pub record Follows (number : ℕ) (old : Begun) (line : ScriptLine) (step : Scri
 -- an error is the first that these checks find, unless memory ran out
 abbrev pub IsFoundBy : List (Option ScriptError) → ScriptError → Type 0
 IsFoundBy checks e = (e ≡ OutOfMemory) ⊎ (first_of checks ≡ Some e)
+
+-- the same of the record of a number, which says this; or these checks find none, and the text of its statement is refused
+abbrev pub IsFoundIn : ℕ → Result ScriptLine RecordFault → List (Option ScriptError) → ScriptError → Type 0
+IsFoundIn number spelled checks e =
+    IsFoundBy checks e ⊎ ((first_of checks ≡ None) × IsNoStatement number spelled e)
+
+-- why the text of a statement, in the record of a number, was not read
+abbrev pub TellsStatement : ℕ → List ℕ → ScriptError → Type 0
+TellsStatement number text e = (e ≡ OutOfMemory) ⊎ IsNoStatement number (Ok (line.Sql text)) e

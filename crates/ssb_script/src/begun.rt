@@ -9,7 +9,8 @@ ghost use Rattle.ssb_script.specs.Lines as spec;
 ghost use Rattle.ssb_script.specs.Lines.{ScriptLine};
 ghost use Rattle.ssb_script.specs.Requests.{action_of};
 ghost use Rattle.ssb_script.specs.Scripts.{HasRoom, checks_in, order_refused, refusal_at_end};
-ghost use Rattle.ssb_script.specs.Steps.{Follows, IsFoundBy, ended_of, begun_in, begun_order, line_of_control};
+ghost use Rattle.ssb_script.specs.Steps.{Follows, IsFoundBy, IsFoundIn, ended_of, begun_in, begun_order};
+ghost use Rattle.ssb_script.specs.Steps.{line_of_control};
 ghost use Rattle.ssb_script.specs.Steps.{line_of_row};
 ghost use Rattle.ssb_script.specs.Begun as begun;
 
@@ -18,11 +19,12 @@ use crate::error::ScriptError;
 use crate::fields::word_of;
 use crate::order_line::OrderLine;
 use crate::request::{Asking, MOST_QUESTIONS, Request};
+use crate::statement::StatementAsked;
 use crate::word::{is_abort, is_line};
 use csv::ByteRecord;
 use ssb_questions::Question;
 use ssb_schema::{
-    Action, Items, Line, MOST_ACTIONS, MOST_ORDER_LINES, Order, Refresh, SchemaFault,
+    Action, Items, Line, MOST_ACTIONS, MOST_ORDER_LINES, Order, Refresh, SchemaFault, Text,
 };
 use ssb_text::has_columns;
 use std::alloc::{AllocError, Global};
@@ -90,16 +92,31 @@ fn has_room(actions: &Items<Action>) -> bool
     actions.len() < MOST_ACTIONS
 }
 
+// The record of a number asks the statement that a text spells.
+fn ask_statement(alloc: Global, number: u64, text: Text) -> Result<ScriptStep, ScriptError>
+    ensures step { IfOk result (λ step. Follows number begun.Nothing (spec.Sql text) step) }
+    ensures fault { IfErr result (IsFoundIn number (Ok (spec.Sql text))
+        (checks_in number begun.Nothing (Ok (spec.Sql text)))) }
+{
+    let asked = StatementAsked::of(alloc, number, text)?;
+    Ok(ScriptStep {
+        request: Some(Request::Ask(Asking::Statement(asked))),
+        begun: Begun::Nothing,
+    })
+}
+
 // What comes of the record of a number where no refresh is begun.
 fn outside(alloc: Global, number: u64, control: Control) -> Result<ScriptStep, ScriptError>
     ensures step { IfOk result (λ step. Follows number begun.Nothing (line_of_control control) step) }
-    ensures fault { IfErr result (IsFoundBy (checks_in number begun.Nothing (Ok (line_of_control control)))) }
+    ensures fault { IfErr result (IsFoundIn number (Ok (line_of_control control))
+        (checks_in number begun.Nothing (Ok (line_of_control control)))) }
 {
     match control {
         Control::Query(question) => Ok(ScriptStep {
             request: Some(Request::Ask(Asking::Alone(question))),
             begun: Begun::Nothing,
         }),
+        Control::Sql(text) => ask_statement(alloc, number, text),
         Control::Begin => Ok(ScriptStep {
             request: None,
             begun: Begun::Refresh(Items::from_vec(Vec::new(alloc))),
@@ -187,6 +204,7 @@ fn inside(
         Control::Withdraw(key) => withdraw(number, actions, key),
         Control::Commit => commit(alloc, number, actions),
         Control::Query(_) => Err(ScriptError::BadLine(number)),
+        Control::Sql(_) => Err(ScriptError::BadLine(number)),
         Control::Begin => Err(ScriptError::BadLine(number)),
         Control::Ask => Err(ScriptError::BadLine(number)),
         Control::Answer => Err(ScriptError::BadLine(number)),
@@ -240,6 +258,7 @@ fn in_block(
     match control {
         Control::Query(question) => ask_more(number, questions, question),
         Control::Answer => end_block(number, questions),
+        Control::Sql(_) => Err(ScriptError::BadLine(number)),
         Control::Begin => Err(ScriptError::BadLine(number)),
         Control::Open(_) => Err(ScriptError::BadLine(number)),
         Control::Withdraw(_) => Err(ScriptError::BadLine(number)),
@@ -331,7 +350,8 @@ impl Begun {
         ensures step { IfOk result (λ step. (line : ScriptLine)
             × (spec.line_or_bad (option_map line_of_control control) ≡ Ok line)
             × Follows (before + 1) (begun_in self) line step) }
-        ensures fault { IfErr result (IsFoundBy (refusal_at_end (begun_in self) ∷ checks_in (before + 1) (begun_in self)
+        ensures fault { IfErr result (IsFoundIn (before + 1) (spec.line_or_bad (option_map line_of_control control))
+            (refusal_at_end (begun_in self) ∷ checks_in (before + 1) (begun_in self)
             (spec.line_or_bad (option_map line_of_control control)))) }
     {
         let number = before + 1;
@@ -372,7 +392,8 @@ impl Begun {
         requires room { HasRoom before (begun_in self) }
         ensures step { IfOk result (λ step. (line : ScriptLine) × (spec.line_of (fields_of fields.now) ≡ Ok line)
             × Follows (before + 1) (begun_in self) line step) }
-        ensures fault { IfErr result (IsFoundBy (order_refused (begun_in self) (spec.word_of (fields_of fields.now)) ∷
+        ensures fault { IfErr result (IsFoundIn (before + 1) (spec.line_of (fields_of fields.now))
+            (order_refused (begun_in self) (spec.word_of (fields_of fields.now)) ∷
             checks_in (before + 1) (begun_in self) (spec.line_of (fields_of fields.now)))) }
     {
         let word = word_of(fields);

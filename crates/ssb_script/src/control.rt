@@ -8,10 +8,11 @@ ghost use Rattle.ssb_script.specs.Steps.{line_of_control};
 ghost use Rattle.ssb_script.specs.Requests.{action_of};
 
 use crate::question::question_at;
+use crate::statement::sql_of;
 use crate::word::ScriptWord;
 use csv::ByteRecord;
 use ssb_questions::Question;
-use ssb_schema::{Action, Order, number};
+use ssb_schema::{Action, Order, Text, number};
 use ssb_text::{has_columns, trimmed_at};
 use std::alloc::{AllocError, Global};
 
@@ -29,6 +30,8 @@ pub enum OrderOpening {
 pub enum Control {
     /// `query`: it asks.
     Query(Question),
+    /// `sql`: it asks the statement that this text spells.
+    Sql(Text),
     /// `begin`: a refresh begins.
     Begin,
     /// `add` or `amend`: an order begins.
@@ -93,6 +96,7 @@ impl Control {
         };
         Ok(match word {
             ScriptWord::Query => question_at(alloc, 1, 2, fields)?.map(Control::Query),
+            ScriptWord::Sql => sql_of(alloc, fields)?.map(Control::Sql),
             ScriptWord::Begin => Control::Begin.alone(fields),
             ScriptWord::Add => Control::Open(OrderOpening::Add).alone(fields),
             ScriptWord::Amend => Control::Open(OrderOpening::Amend).alone(fields),

@@ -5,6 +5,7 @@ ghost use Rattle.ssb_script.specs.Errors.{error_of_read};
 ghost use Rattle.ssb_script.specs.declared.error.ScriptError.TheVariants.{OutOfMemory};
 
 use ssb_schema::SchemaFault;
+use ssb_sql::SqlFault;
 use ssb_text::ReadError;
 use std::alloc::{AllocError, AllocFailed};
 use thiserror::Error;
@@ -36,6 +37,9 @@ pub enum ScriptError {
     /// This record is one question more than a block takes.
     #[error("78 TooManyQuestions {0}")]
     TooManyQuestions(u64),
+    /// The text of this `sql` record is no statement.
+    #[error("79 Sql {0} {1}")]
+    Sql(u64, SqlFault),
     /// Memory ran out.
     #[error("out of memory")]
     OutOfMemory,

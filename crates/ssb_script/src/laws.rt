@@ -3,12 +3,14 @@ ghost use Rattle.std.specs.Prelude.{ℕ, List};
 ghost use Rattle.ssb_script.specs.CuttingLaws.{HasCutting, HasOneCutting, HasScriptOfRequests, IsCutAsItComes};
 ghost use Rattle.ssb_script.specs.Laws.{HasNoFaultIfSpelled, HasOneReading, IsScriptOfQuestions};
 
-/// A text spells at most one list of requests, whatever the bounds of records.
+/// A text spells at most one list of requests, whatever the bounds of records; of a statement that is said of its text, its
+/// groups and its limit.
 pub fn one_reading()
     ensures { (text : List ℕ) → HasOneReading text }
 {}
 
-/// A text that spells a script has no fault: `read_script` refuses it only where memory or its reader fails.
+/// A text that spells a script has no fault: `read_script` refuses it only where memory or its reader fails, or where it
+/// asks a statement, for that statement's text.
 pub fn spelled_has_no_fault()
     ensures { (text : List ℕ) → HasNoFaultIfSpelled text }
 {}

@@ -49,6 +49,7 @@ mod questions;
 mod request;
 mod request_error;
 mod script;
+mod statement;
 mod together;
 mod word;
 
@@ -68,4 +69,5 @@ pub use questions::{MOST_ALONE, QuestionsError, read_questions};
 pub use request::{Asking, MOST_QUESTIONS, Request, Script};
 pub use request_error::RequestError;
 pub use script::{MOST_RECORDS, read_script};
+pub use statement::StatementAsked;
 pub use together::read_together;

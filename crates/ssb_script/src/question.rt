@@ -62,9 +62,9 @@ pub fn constants_from(
     Ok(Some(constants))
 }
 
-// Fields without a last one of no bytes.
+/// Fields without a last one of no bytes.
 #[tactic(auto, unfolding(crate::specs::Lines::without_closing))]
-fn without_closing<'a>(fields: &'a [&'a [u8]]) -> &'a [&'a [u8]]
+pub(crate) fn without_closing<'a>(fields: &'a [&'a [u8]]) -> &'a [&'a [u8]]
     ensures { map (λ field. field.now) result.now ≡ spec.without_closing (map (λ field. field.now) fields.now) }
 {
     match fields {

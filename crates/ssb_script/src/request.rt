@@ -1,7 +1,9 @@
 //! What a script asks, request by request.
-ghost use Rattle.std.specs.Prelude.{◌≡◌, IfOk};
-ghost use Rattle.ssb_script.specs.Requests.{questions_in};
+ghost use Rattle.std.specs.Prelude.{◌≡◌, IfErr, IfOk, None};
+ghost use Rattle.ssb_script.specs.Requests.{questions_in, statement_in};
+ghost use Rattle.ssb_script.specs.declared.request.Asking.TheVariants.{Statement as Stated};
 
+use crate::statement::StatementAsked;
 use ssb_questions::Question;
 use ssb_schema::{Items, Refresh};
 use std::alloc::{AllocError, Global};
@@ -10,12 +12,15 @@ use std::sync::Arc;
 /// The most questions of a block.
 pub const MOST_QUESTIONS: usize = 16;
 
-/// How questions are asked, which are answered together: one by a line of its own, or several in a block.
+/// How questions are asked, which are answered together: one by a line of its own, several in a block, or those of a
+/// statement.
 pub enum Asking {
     /// `query|NAME`: a question alone.
     Alone(Question),
     /// `ask` .. `answer`: 1 to 16 questions.
     Together(Items<Question>),
+    /// `sql|TEXT`: a statement.
+    Statement(StatementAsked),
 }
 
 impl Drop for Asking {
@@ -23,11 +28,23 @@ impl Drop for Asking {
         match self {
             Asking::Alone(_) => {}
             Asking::Together(_) => {}
+            Asking::Statement(_) => {}
         }
     }
 }
 
 impl Asking {
+    /// The statement, where one is asked; else this is given back.
+    pub fn into_statement(self) -> Result<StatementAsked, Asking>
+        ensures statement { IfOk result (λ asked. self ≡ Stated asked) }
+        ensures other { IfErr result (λ other. (other ≡ self) × (statement_in self ≡ None)) }
+    {
+        match self {
+            Asking::Statement(asked) => Ok(asked),
+            other => Err(other),
+        }
+    }
+
     /// The questions, in order.
     pub fn into_questions(self, alloc: Global) -> Result<Items<Question>, AllocError>
         ensures { IfOk result (λ questions. questions ≡ questions_in self) }
@@ -39,6 +56,7 @@ impl Asking {
                 Ok(Items::from_vec(questions))
             }
             Asking::Together(questions) => Ok(questions),
+            Asking::Statement(asked) => asked.shared_questions(alloc),
         }
     }
 }

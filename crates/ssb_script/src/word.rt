@@ -8,6 +8,7 @@ ghost use Rattle.ssb_script.specs.Lines.{spelling_of, word_spelled};
 #[derive(Clone, Copy, Debug, PartialEq, Eq)]
 pub(crate) enum ScriptWord {
     Query,
+    Sql,
     Begin,
     Add,
     Amend,
@@ -20,8 +21,9 @@ pub(crate) enum ScriptWord {
 }
 
 /// All words.
-pub(crate) const WORDS: [ScriptWord; 10] = [
+pub(crate) const WORDS: [ScriptWord; 11] = [
     ScriptWord::Query,
+    ScriptWord::Sql,
     ScriptWord::Begin,
     ScriptWord::Add,
     ScriptWord::Amend,
@@ -47,6 +49,13 @@ pub(crate) fn is_query(word: Option<ScriptWord>) -> bool
     matches!(word, Some(ScriptWord::Query))
 }
 
+/// Whether a record of this word is a `sql`.
+pub(crate) fn is_sql(word: Option<ScriptWord>) -> bool
+    ensures { result ≡ spec.is_sql word }
+{
+    matches!(word, Some(ScriptWord::Sql))
+}
+
 /// Whether a record of this word is an `abort`.
 pub(crate) fn is_abort(word: Option<ScriptWord>) -> bool
     ensures { result ≡ spec.is_abort word }
@@ -61,6 +70,7 @@ impl ScriptWord {
     {
         match self {
             ScriptWord::Query => b"query",
+            ScriptWord::Sql => b"sql",
             ScriptWord::Begin => b"begin",
             ScriptWord::Add => b"add",
             ScriptWord::Amend => b"amend",

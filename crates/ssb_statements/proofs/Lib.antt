@@ -1,5 +1,6 @@
 mod FirstLaws
 mod KeptLaws
+pub mod ListingLaws
 mod OrderLaws
 mod SideLaws
 mod StarLaws

@@ -2,5 +2,7 @@
 pub mod Statement
 -- the answers to its questions
 pub mod Arranged
+-- what is listed of it
+pub mod Listing
 pub mod SideBySide
 pub mod Laws

@@ -73,8 +73,8 @@ returns-then-branch-clause-fault g c = λ text known.
     c.next_record-2.new.reader c.loop-before.before (map request_of c.loop-before.requests.items)
     (begun_in c.loop-before.begun) (fields_of c.next_record-2.new.next) TooLong
     (c.loop-before.invariant.so_far text known) next few
-    (too_many c.args.max_records (c.loop-before.before + 1) (begun_in c.loop-before.begun)
-    (fields_of c.next_record-2.new.next) past))))
+    (inl (too_many c.args.max_records (c.loop-before.before + 1) (begun_in c.loop-before.begun)
+    (fields_of c.next_record-2.new.next) past)))))
 
 pub returns-clause-script : goal.returns-clause-script
 returns-clause-script g c =

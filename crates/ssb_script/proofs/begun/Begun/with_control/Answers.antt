@@ -1,10 +1,11 @@
-use Rattle.std.proofs.Common.{◌≡◌, ◌∙◌, ◌+◌, Option, None, ap, sym, refl, inr}
+use Rattle.std.proofs.Common.{◌≡◌, ◌∙◌, ◌+◌, Option, None, Ok, ap, sym, refl, inl, inr}
 use Rattle.std.specs.Option.{option_map}
 use Rattle.ssb_script.specs.Lines.{line_or_bad}
-use Rattle.ssb_script.specs.Steps.{ended_of, begun_in, line_of_control}
+use Rattle.ssb_script.specs.Steps.{ended_of, begun_in, begun_of, line_of_control}
 use Rattle.ssb_script.specs.declared.begun.Ended.TheVariants.{Nothing, Refresh, Asked}
 use Rattle.ssb_script.specs.declared.control.Control.{Control}
-use Rattle.ssb_script.proofs.StepLaws.{fault_after, room-ended, step_after}
+use Rattle.ssb_script.specs.Scripts.{checks_in}
+use Rattle.ssb_script.proofs.StepLaws.{fault_after, found_in, room-ended, step_after}
 use Rattle.ssb_script.proofs.begun.Begun.with_control.Goals as goal
 
 pub inside-requires : goal.inside-requires
@@ -15,7 +16,7 @@ inside-requires c =
     c.in_ok-ended.ensures.whole)
 
 pub returns-in-None-default-clause-fault : goal.returns-in-None-default-clause-fault
-returns-in-None-default-clause-fault c = inr (rw (c.in-None-default.is-0, c.in_ok-ended.ensures.whole) refl)
+returns-in-None-default-clause-fault c = inl (inr (rw (c.in-None-default.is-0, c.in_ok-ended.ensures.whole) refl))
 
 pub returns-in-Some-Nothing-clause-step : goal.returns-in-Some-Nothing-clause-step
 returns-in-Some-Nothing-clause-step c =
@@ -53,7 +54,10 @@ returns-in-Some-Refresh-clause-fault c =
     fault_after c.inside.result (c.args.before + 1) (begun_in c.args.self) None
     (line_or_bad (option_map line_of_control c.args.control)) c.in-Some-Refresh.control
     (Refresh c.in-Some-Refresh.actions)
-    ended c.in_ok-ended.ensures.whole spelled c.inside.ensures.fault
+    ended c.in_ok-ended.ensures.whole spelled
+    (found_in c.inside.result (c.args.before + 1) (Ok (line_of_control c.in-Some-Refresh.control))
+    (checks_in (c.args.before + 1) (begun_of (Refresh c.in-Some-Refresh.actions))
+    (Ok (line_of_control c.in-Some-Refresh.control))) c.inside.ensures.fault)
 
 pub in_block-requires : goal.in_block-requires
 in_block-requires c =
@@ -78,4 +82,7 @@ returns-in-Some-Asked-clause-fault c =
     sym c.in_ok-ended.ensures.ended ∙ c.in-Some-Asked.is-1 in
     fault_after c.in_block.result (c.args.before + 1) (begun_in c.args.self) None
     (line_or_bad (option_map line_of_control c.args.control)) c.in-Some-Asked.control (Asked c.in-Some-Asked.questions)
-    ended c.in_ok-ended.ensures.whole spelled c.in_block.ensures.fault
+    ended c.in_ok-ended.ensures.whole spelled
+    (found_in c.in_block.result (c.args.before + 1) (Ok (line_of_control c.in-Some-Asked.control))
+    (checks_in (c.args.before + 1) (begun_of (Asked c.in-Some-Asked.questions))
+    (Ok (line_of_control c.in-Some-Asked.control))) c.in_block.ensures.fault)
