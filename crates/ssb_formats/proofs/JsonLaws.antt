@@ -12,7 +12,7 @@ use Rattle.ssb_answers.specs.declared.answer.Answer.{Answer}
 use Rattle.ssb_answers.specs.declared.answer.Answer.TheVariants.{Rows, Unserved}
 use Rattle.ssb_answers.specs.declared.answer.ResultRow.{ResultRow}
 use Rattle.ssb_formats.specs.JsonText.{answer_members, list_data, row_data, sum_data, text_data, value_data}
-use Rattle.ssb_formats.specs.ReplyJson.{answer_data, refreshed_members}
+use Rattle.ssb_formats.specs.ReplyJson.{answer_data, listing_members, refreshed_members}
 use Rattle.ssb_formats.specs.Reports.{rows_members}
 use Rattle.ssb_formats.specs.StatementText as statement
 use Rattle.ssb_formats.specs.StatementText.{cell_data}
@@ -20,7 +20,8 @@ use Rattle.ssb_questions.specs.Query.{sum_first}
 use Rattle.ssb_questions.specs.declared.query.Query.{Query}
 use Rattle.ssb_questions.specs.declared.value.Value.{Value}
 use Rattle.ssb_questions.specs.declared.value.Value.TheVariants as printed
-use Rattle.ssb_formats.specs.declared.reports.StatementRows.{StatementRows}
+use Rattle.ssb_statements.specs.Listing.{ListingRecord, RowsRecord}
+use Rattle.ssb_statements.specs.Listing as listed
 use Rattle.ssb_statements.specs.declared.cell.StatementCell.{StatementCell}
 use Rattle.ssb_statements.specs.declared.cell.StatementCell.TheVariants.{Plain, Number, Decimal}
 
@@ -74,7 +75,7 @@ pub statement_exact : (at : ℕ) (heads : List (List ℕ)) (rows : List (List St
 statement_exact at heads rows =
     rw (items_exact text_data heads text_exact, items_exact statement.row_data rows cells_exact) refl
 
-pub titled_rows_exact : (title : List ℕ) (rows : StatementRows)
+pub titled_rows_exact : (title : List ℕ) (rows : RowsRecord)
     → members_have_float (put (codes "title") (text_data title) (rows_members rows)) ≡ false
 titled_rows_exact title rows = grind (arith, items_exact, text_exact, cells_exact)
 
@@ -90,3 +91,7 @@ pub refreshed_exact : (reply : Result Receipt RefreshError) → members_have_flo
 refreshed_exact (Ok receipt) = refl
 refreshed_exact (Err (Refused at action cause)) = refl
 refreshed_exact (Err OutOfMemory) = refl
+
+pub listing_exact : (listing : ListingRecord) → members_have_float (listing_members listing) ≡ false
+listing_exact (listed.Rows rows) = statement_exact rows.at rows.heads rows.rows
+listing_exact (listed.Unserved cause) = refl

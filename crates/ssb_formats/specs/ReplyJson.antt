@@ -8,9 +8,11 @@ use Rattle.row_store.specs.declared.refusal.RefreshError.{RefreshError}
 use Rattle.row_store.specs.declared.refusal.RefreshError.TheVariants.{Refused, OutOfMemory}
 use Rattle.ssb_answers.specs.declared.answer.Answer.{Answer}
 use Rattle.ssb_report.specs.RefreshText.{cause_text}
-use Rattle.ssb_report.specs.Replies.{Reply, Refreshed, Answered, Aborted}
+use Rattle.ssb_report.specs.Replies.{Reply, Refreshed, Answered, Listed, Aborted}
+use Rattle.ssb_statements.specs.Listing.{ListingRecord, Rows, Unserved}
 use Rattle.ssb_text.specs.Numbers.{line_feed}
-use Rattle.ssb_formats.specs.JsonText.{answer_members, json_text, list_data, object_line, text_data}
+use Rattle.ssb_formats.specs.JsonText.{answer_members, cause_name, json_text, list_data, object_line, text_data}
+use Rattle.ssb_formats.specs.Reports.{rows_members}
 
 -- a member alone
 abbrev pub one_member : List ℕ → Data → Members
@@ -45,8 +47,16 @@ answers_line [] = array_line []
 answers_line (answer ∷ []) = json_text answer
 answers_line (first ∷ next ∷ others) = array_line (first ∷ next ∷ others)
 
+-- what is listed of a statement: its rows, or why there are none
+abbrev pub listing_members : ListingRecord → Members
+listing_members (Rows rows) = rows_members rows
+listing_members (Unserved cause) =
+    member (codes "query") (text_data (codes "sql"))
+    (member (codes "unserved") (text_data (cause_name cause)) no_members)
+
 -- the line of a reply
 abbrev pub reply_line : Reply → List ℕ
 reply_line (Refreshed reply) = object_line (refreshed_members reply)
 reply_line (Answered answers) = answers_line answers
+reply_line (Listed answers listing) = object_line (listing_members listing)
 reply_line Aborted = object_line aborted_members

@@ -1,11 +1,12 @@
 -- What a session tells its client, in each of its formats.
 use Rattle.std.specs.Prelude.{ℕ, List, ◌++◌, codes}
-use Rattle.ssb_report.specs.Replies.{Reply, Refreshed, Answered, Aborted, reply_text}
+use Rattle.ssb_report.specs.Replies.{Reply, Refreshed, Answered, Listed, Aborted, reply_text}
 use Rattle.ssb_text.specs.Numbers.{line_feed}
 use Rattle.ssb_formats.specs.Formats.{answers_parted}
 use Rattle.ssb_formats.specs.JsonText.{object_line, text_data}
 use Rattle.ssb_formats.specs.ReplyFormats.{answer_format, format_name}
 use Rattle.ssb_formats.specs.ReplyJson.{one_member, reply_line}
+use Rattle.ssb_formats.specs.Reports.{listing_shown}
 use Rattle.ssb_formats.specs.declared.format.Format.{Format}
 use Rattle.ssb_formats.specs.declared.reply_format.ReplyFormat.{ReplyFormat}
 use Rattle.ssb_formats.specs.declared.reply_format.ReplyFormat.TheVariants.{Report, Table, Csv, Json, Markdown, Bars}
@@ -14,6 +15,7 @@ use Rattle.ssb_formats.specs.declared.reply_format.ReplyFormat.TheVariants.{Repo
 abbrev pub lines_of_reply : Format → Reply → List ℕ
 lines_of_reply format (Refreshed reply) = reply_text (Refreshed reply)
 lines_of_reply format (Answered answers) = answers_parted format answers
+lines_of_reply format (Listed answers listing) = listing_shown format listing
 lines_of_reply format Aborted = reply_text Aborted
 
 -- the same, and an empty line behind it

@@ -7,27 +7,32 @@ use Rattle.ssb_formats.specs.StatementText as statement
 use Rattle.ssb_formats.specs.declared.format.Format.{Format}
 use Rattle.ssb_formats.specs.declared.reports.Reported.{Reported}
 use Rattle.ssb_formats.specs.declared.reports.Reported.TheVariants.{Answered, Listed}
-use Rattle.ssb_formats.specs.declared.reports.StatementRows.{StatementRows}
+use Rattle.ssb_report.specs.StatementText.{listing_text}
+use Rattle.ssb_statements.specs.Listing.{ListingRecord, Rows, RowsRecord, Unserved, rows_of}
 
 -- the rows of a statement
-abbrev pub rows_shown : Format → StatementRows → List ℕ
-rows_shown format rows = statement.shown format rows.heads.items rows.are_numbers.items rows.at rows.rows.items
+abbrev pub rows_shown : Format → RowsRecord → List ℕ
+rows_shown format rows = statement.shown format rows.heads rows.are_numbers rows.at rows.rows
+
+-- what is listed of a statement; where there are no rows, as the report has it
+abbrev pub listing_shown : Format → ListingRecord → List ℕ
+listing_shown format (Rows rows) = rows_shown format rows
+listing_shown format (Unserved cause) = listing_text (Unserved cause)
 
 abbrev pub report_shown : Format → Reported → List ℕ
 report_shown format (Answered answer) = shown format answer.now
-report_shown format (Listed rows) = rows_shown format rows
+report_shown format (Listed rows) = rows_shown format (rows_of rows)
 
 -- a report as an object of JSON that has a title
-abbrev pub rows_members : StatementRows → Members
-rows_members rows =
-    statement.members rows.at (statement.heads_data rows.heads.items) (statement.rows_data rows.rows.items)
+abbrev pub rows_members : RowsRecord → Members
+rows_members rows = statement.members rows.at (statement.heads_data rows.heads) (statement.rows_data rows.rows)
 
-abbrev pub titled_rows_json : List ℕ → StatementRows → List ℕ
+abbrev pub titled_rows_json : List ℕ → RowsRecord → List ℕ
 titled_rows_json title rows = object_line (put (codes "title") (text_data title) (rows_members rows))
 
 abbrev pub titled_report_json : List ℕ → Reported → List ℕ
 titled_report_json title (Answered answer) = titled_json title answer.now
-titled_report_json title (Listed rows) = titled_rows_json title rows
+titled_report_json title (Listed rows) = titled_rows_json title (rows_of rows)
 
 -- a report behind another
 abbrev pub next_report_shown : Format → Reported → List ℕ

@@ -7,7 +7,8 @@ use Rattle.ssb_statements.specs.declared.cell.StatementCell.TheVariants.{Plain, 
 use Rattle.ssb_text.specs.Numbers.{line_feed}
 use Rattle.ssb_formats.specs.Alignment.{aligned_cells, aligned_line, narrow}
 use Rattle.ssb_formats.specs.BarsText.{bar_length, mark_of, room_beside, size_of}
-use Rattle.ssb_formats.specs.StatementCells.{alignments, texts_of, title_text}
+use Rattle.ssb_report.specs.StatementText.{texts_of}
+use Rattle.ssb_formats.specs.StatementCells.{alignments, title_text}
 use Rattle.ssb_formats.specs.declared.alignment.Alignment.{Alignment}
 use Rattle.ssb_formats.specs.declared.bar.Scale.{Scale}
 

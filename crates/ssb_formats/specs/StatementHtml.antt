@@ -4,7 +4,8 @@ use Rattle.ssb_statements.specs.declared.cell.StatementCell.{StatementCell}
 use Rattle.ssb_formats.specs.HtmlText.{bar_html, cells_html, head_html}
 use Rattle.ssb_formats.specs.Markup.{markup}
 use Rattle.ssb_formats.specs.StatementBars.{drawn_of, greatest_of}
-use Rattle.ssb_formats.specs.StatementCells.{texts_of, title_text}
+use Rattle.ssb_report.specs.StatementText.{texts_of}
+use Rattle.ssb_formats.specs.StatementCells.{title_text}
 use Rattle.ssb_formats.specs.declared.bar.Scale.{Scale}
 use Rattle.ssb_formats.specs.declared.markup.Markup.TheVariants.{LineOpen, LineClose, TableOpen, TableClose}
 use Rattle.ssb_formats.specs.declared.markup.Markup.TheVariants.{RowOpen, RowClose}

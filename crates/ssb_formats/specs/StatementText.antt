@@ -1,31 +1,20 @@
 -- The rows of a statement, in the formats.
-use Rattle.std.specs.Prelude.{ℕ, ℤ, Bool, List, [], ◌∷◌, ◌++◌, map, flat_map, length, codes, decimal, Option, Some, None}
-use Rattle.std.specs.List.{concat, join_with_byte}
+use Rattle.std.specs.Prelude.{ℕ, ℤ, Bool, List, ◌++◌, map, flat_map, length, codes, Option, Some, None}
 use Rattle.serde_json.specs.Data.{Data, Members, null, number, unsigned, member, no_members}
 use Rattle.ssb_statements.specs.declared.cell.StatementCell.{StatementCell}
 use Rattle.ssb_statements.specs.declared.cell.StatementCell.TheVariants.{Plain, Number, Decimal}
-use Rattle.ssb_text.specs.Numbers.{line_feed}
+use Rattle.ssb_report.specs.StatementText.{decimal_text, report_text, texts_of}
 use Rattle.ssb_formats.specs.Alignment.{aligned_line}
 use Rattle.ssb_formats.specs.CsvText.{csv_records}
 use Rattle.ssb_formats.specs.JsonText.{list_data, object_line, sum_data, text_data, value_data}
 use Rattle.ssb_formats.specs.MarkdownText.{line_text, rule_text as markdown_rule}
 use Rattle.ssb_formats.specs.TableText.{rule_text}
 use Rattle.ssb_formats.specs.StatementBars.{bars_text}
-use Rattle.ssb_formats.specs.StatementCells.{alignments, decimal_text, texts_of, title_text}
+use Rattle.ssb_formats.specs.StatementCells.{alignments, title_text}
 use Rattle.ssb_formats.specs.StatementHtml.{html_text}
 use Rattle.ssb_formats.specs.declared.alignment.Alignment.{Alignment}
 use Rattle.ssb_formats.specs.declared.format.Format.{Format}
 use Rattle.ssb_formats.specs.declared.format.Format.TheVariants.{Report, Csv, Json, Markdown, Table, Bars, Html}
-
--- the line before the rows: after how many commits, and how many rows; and a line for each, its cells joined by |
-abbrev pub report_head : ℕ → ℕ → List ℕ
-report_head at count = concat (codes "sql at " ∷ decimal at ∷ codes " rows " ∷ decimal count ∷ line_feed ∷ [])
-
-abbrev pub report_line : List StatementCell → List ℕ
-report_line row = join_with_byte 124 (texts_of row) ++ line_feed
-
-abbrev pub report_text : ℕ → List (List StatementCell) → List ℕ
-report_text at rows = report_head at (length rows) ++ flat_map report_line rows
 
 abbrev pub csv_text : List (List ℕ) → List (List StatementCell) → List ℕ
 csv_text heads rows = csv_records heads (map texts_of rows)

@@ -43,7 +43,10 @@ mod titled;
 pub use fault::FormatFault;
 pub use format::{Format, write_formatted};
 pub use laws::csv_is_read_back;
-pub use reply::{write_aborted_as, write_answers_as, write_fault_as, write_format, write_reply_as};
+pub use reply::{
+    write_aborted_as, write_answers_as, write_fault_as, write_format, write_listing_as,
+    write_reply_as,
+};
 pub use reply_format::{REPLY_FORMATS, ReplyFormat};
-pub use reports::{Reported, StatementRows, write_reports};
+pub use reports::{Reported, write_reports};
 pub use titled::write_board;

@@ -1,19 +1,24 @@
 //! What a session tells its client, written in one of its formats.
 
-ghost use Rattle.std.specs.Prelude.{◌≡◌, ◌++◌, IfOk, MatchOption};
+ghost use Rattle.std.specs.Prelude.{◌≡◌, ◌++◌, IfOk, List, MatchOption};
 ghost use Rattle.ssb_formats.specs.Formats.{Shows, answers_parted};
 ghost use Rattle.ssb_formats.specs.ReplyTexts.{fault_shown, format_shown, label_line, labelled, reply_shown};
-ghost use Rattle.ssb_report.specs.Replies.{Aborted, Answered, Refreshed, reply_text};
+ghost use Rattle.ssb_answers.specs.declared.answer.Answer.{Answer};
+ghost use Rattle.ssb_formats.specs.Reports.{listing_shown};
+ghost use Rattle.ssb_report.specs.Replies.{Aborted, Answered, Listed, Refreshed, reply_text};
+ghost use Rattle.ssb_statements.specs.Listing.{listing_of};
 ghost use Rattle.ssb_text.specs.Numbers.{line_feed};
 ghost use Rattle.ssb_text.specs.Written.{Writes};
 
 use crate::fault::FormatFault;
 use crate::format::{Format, outcome, write_parted, write_text};
 use crate::reply_format::ReplyFormat;
-use crate::reply_json::{aborted_line, answers_line, refreshed_line, text_line};
+use crate::reply_json::{aborted_line, answers_line, listing_line, refreshed_line, text_line};
+use crate::reports::rows_text;
 use row_store::{Receipt, RefreshError};
 use ssb_answers::Answer;
-use ssb_report::{write_aborted, write_answers, write_reply};
+use ssb_report::{write_aborted, write_answers, write_listing, write_reply};
+use ssb_statements::Listing;
 use ssb_text::{Piece, WriteFault, write_pieces};
 use std::alloc::{AllocError, Global};
 use std::io::Write;
@@ -47,6 +52,29 @@ fn parted_answers(alloc: Global, format: Format, answers: &[Answer]) -> Result<V
         }
         Err(_) => Err(AllocError),
     }
+}
+
+// What is listed of a statement in a format.
+fn listing_text(alloc: Global, format: Format, listing: &Listing) -> Result<Vec<u8>, AllocError>
+    ensures { IfOk result (λ text. text.items ≡ listing_shown format (listing_of listing.now)) }
+{
+    if let Listing::Rows(rows) = listing {
+        return rows_text(alloc, format, rows);
+    }
+    let mut text = Vec::new(alloc);
+    match write_listing(&mut text, listing) {
+        Ok(()) => Ok(text),
+        Err(_) => Err(AllocError),
+    }
+}
+
+// The same, and an empty line.
+fn parted_listing(alloc: Global, format: Format, listing: &Listing) -> Result<Vec<u8>, AllocError>
+    ensures { IfOk result (λ text. text.items ≡ listing_shown format (listing_of listing.now) ++ line_feed) }
+{
+    let mut text = listing_text(alloc, format, listing)?;
+    text.push(b'\n')?;
+    Ok(text)
 }
 
 // The report that something was dropped, and an empty line.
@@ -124,6 +152,24 @@ fn answered_text(
     }
 }
 
+// The text of what is listed of a statement; none where it is that of the report.
+fn listed_text(
+    alloc: Global,
+    format: ReplyFormat,
+    listing: &Listing,
+) -> Result<Option<Vec<u8>>, AllocError>
+    ensures { (answers : List Answer) → IfOk result (λ text. MatchOption text
+        (reply_shown format (Listed answers (listing_of listing.now))
+        ≡ reply_text (Listed answers (listing_of listing.now)))
+        (λ text. text.items ≡ reply_shown format (Listed answers (listing_of listing.now)))) }
+{
+    match format {
+        ReplyFormat::Report => Ok(None),
+        ReplyFormat::Json => Ok(Some(listing_line(alloc, listing)?)),
+        _ => Ok(Some(parted_listing(alloc, format.of_answers(), listing)?)),
+    }
+}
+
 // What tells that something was dropped; none where it is the report.
 fn aborted_text(alloc: Global, format: ReplyFormat) -> Result<Option<Vec<u8>>, AllocError>
     ensures { IfOk result (λ text. MatchOption text (reply_shown format Aborted ≡ reply_text Aborted)
@@ -187,6 +233,24 @@ pub fn write_answers_as<W: Write>(
     match answered_text(alloc, format, answers) {
         Ok(Some(text)) => write_text(writer, text.as_slice()),
         Ok(None) => outcome(write_answers(writer, answers)),
+        Err(_) => Err(FormatFault::OutOfMemory),
+    }
+}
+
+/// Writes what is listed of a statement as a session's format has it. The report takes no memory; any other takes that
+/// of its text, and where it runs out, nothing is written.
+pub fn write_listing_as<W: Write>(
+    alloc: Global,
+    writer: &mut W,
+    format: ReplyFormat,
+    listing: &Listing,
+) -> Result<(), FormatFault>
+    ensures { (answers : List Answer) → Shows (W.contents writer.old) (W.contents writer.new) result
+        (reply_shown format (Listed answers (listing_of listing.now))) }
+{
+    match listed_text(alloc, format, listing) {
+        Ok(Some(text)) => write_text(writer, text.as_slice()),
+        Ok(None) => outcome(write_listing(writer, listing)),
         Err(_) => Err(FormatFault::OutOfMemory),
     }
 }

@@ -4,14 +4,18 @@ ghost use Rattle.std.specs.Prelude.{◌≡◌, IfOk, IsUtf8, map, string_bytes};
 ghost use Rattle.serde_json.specs.View.{members_view, view};
 ghost use Rattle.ssb_formats.specs.JsonText.{object_line as line_of, text_data};
 ghost use Rattle.ssb_formats.specs.ReplyJson.{aborted_members, answer_data, answers_line, array_line, one_member};
-ghost use Rattle.ssb_formats.specs.ReplyJson.{refreshed_members, refused_members};
+ghost use Rattle.ssb_formats.specs.ReplyJson.{listing_members, refreshed_members, refused_members};
 ghost use Rattle.ssb_report.specs.RefreshText.{cause_text};
+ghost use Rattle.ssb_statements.specs.Listing as spec;
+ghost use Rattle.ssb_statements.specs.Listing.{listing_of};
 
-use crate::json_text::{answer_members, json_text, object_line};
+use crate::json_text::{answer_members, cause_name, json_text, object_line};
+use crate::reports::rows_members;
 use row_store::{Cause, Receipt, RefreshError};
 use serde_json::{Map, Value as Json, put};
-use ssb_answers::Answer;
+use ssb_answers::{Answer, Unserved};
 use ssb_report::write_cause;
+use ssb_statements::Listing;
 use std::alloc::{AllocError, Global};
 
 // The text that bytes are.
@@ -105,6 +109,36 @@ pub(crate) fn text_line(alloc: Global, name: &str, text: &str) -> Result<Vec<u8>
 {
     let value = Json::try_from_str(alloc, text)?;
     let members = one_member(alloc, name, value)?;
+    object_line(alloc, members)
+}
+
+// The members of what is listed without rows, for this cause.
+fn unserved_members(alloc: Global, cause: Unserved) -> Result<Map<String, Json>, AllocError>
+    ensures { IfOk result (λ members. members_view members.entries ≡ listing_members (spec.Unserved cause)) }
+{
+    let name = Json::try_from_str(alloc, "sql")?;
+    let cause = Json::try_from_str(alloc, cause_name(cause))?;
+    let mut members = Map::new(alloc);
+    put(&mut members, alloc, "query", name)?;
+    put(&mut members, alloc, "unserved", cause)?;
+    Ok(members)
+}
+
+// The members of what is listed of a statement.
+fn listing_members(alloc: Global, listing: &Listing) -> Result<Map<String, Json>, AllocError>
+    ensures { IfOk result (λ members. members_view members.entries ≡ listing_members (listing_of listing.now)) }
+{
+    match listing {
+        Listing::Rows(rows) => rows_members(alloc, rows),
+        Listing::Unserved(cause) => unserved_members(alloc, *cause),
+    }
+}
+
+/// The line of what is listed of a statement.
+pub(crate) fn listing_line(alloc: Global, listing: &Listing) -> Result<Vec<u8>, AllocError>
+    ensures { IfOk result (λ line. line.items ≡ line_of (listing_members (listing_of listing.now))) }
+{
+    let members = listing_members(alloc, listing)?;
     object_line(alloc, members)
 }
 

@@ -4,6 +4,7 @@ ghost use Rattle.std.specs.Prelude.{◌≡◌, ◌++◌, IfOk, MatchResult, OnOk
 ghost use Rattle.std.specs.Io.KnownBytes.{Appends};
 ghost use Rattle.serde_json.specs.View.{members_view};
 ghost use Rattle.ssb_formats.specs.Reports as spec;
+ghost use Rattle.ssb_statements.specs.Listing.{rows_of};
 ghost use Rattle.ssb_text.specs.Written.{AppendsPart};
 
 use crate::fault::FormatFault;
@@ -13,27 +14,34 @@ use crate::statement_cells::StatementHeads;
 use crate::statement_text::{statement_members, statement_text};
 use serde_json::{Map, Value as Json};
 use ssb_answers::Answer;
-use ssb_schema::{Items, Text};
-use ssb_statements::StatementCell;
+use ssb_schema::Text;
+use ssb_statements::StatementRows;
 use std::alloc::{AllocError, Global};
 use std::io::Write;
-
-/// The rows of a statement, with what their text needs.
-#[derive(Drop)]
-pub struct StatementRows {
-    pub heads: Vec<Text>,
-    /// Which of the columns have numbers.
-    pub are_numbers: Vec<bool>,
-    /// After how many commits the rows are so.
-    pub at: u64,
-    pub rows: Vec<Items<StatementCell>>,
-}
 
 /// What is reported.
 #[derive(Drop)]
 pub enum Reported<'a> {
     Answered(&'a Answer),
     Listed(StatementRows),
+}
+
+/// The rows of a statement in a format.
+pub(crate) fn rows_text(
+    alloc: Global,
+    format: Format,
+    rows: &StatementRows,
+) -> Result<Vec<u8>, AllocError>
+    ensures { IfOk result (λ text. text.items ≡ spec.rows_shown format (rows_of rows.now)) }
+{
+    let names = rows.heads.as_slice();
+    let are_numbers = rows.are_numbers.as_slice();
+    let heads = StatementHeads {
+        heads: names,
+        are_numbers,
+    };
+    let listed = rows.rows.as_slice();
+    statement_text(alloc, format, heads, rows.at, listed)
 }
 
 // Adds the rows of a statement.
@@ -43,16 +51,9 @@ fn push_rows(
     format: Format,
     rows: &StatementRows,
 ) -> Result<(), AllocError>
-    ensures { OnOk result (text.new.items ≡ text.old.items ++ spec.rows_shown format rows.now) }
+    ensures { OnOk result (text.new.items ≡ text.old.items ++ spec.rows_shown format (rows_of rows.now)) }
 {
-    let names = rows.heads.as_slice();
-    let are_numbers = rows.are_numbers.as_slice();
-    let heads = StatementHeads {
-        heads: names,
-        are_numbers,
-    };
-    let listed = rows.rows.as_slice();
-    let shown = statement_text(alloc, format, heads, rows.at, listed)?;
+    let shown = rows_text(alloc, format, rows)?;
     text.extend_from_slice(shown.as_slice())
 }
 
@@ -71,9 +72,12 @@ pub(crate) fn push_report(
     }
 }
 
-// The members of the object of rows.
-fn rows_members(alloc: Global, rows: &StatementRows) -> Result<Map<String, Json>, AllocError>
-    ensures { IfOk result (λ members. members_view members.entries ≡ spec.rows_members rows.now) }
+/// The members of the object of rows.
+pub(crate) fn rows_members(
+    alloc: Global,
+    rows: &StatementRows,
+) -> Result<Map<String, Json>, AllocError>
+    ensures { IfOk result (λ members. members_view members.entries ≡ spec.rows_members (rows_of rows.now)) }
 {
     let heads = rows.heads.as_slice();
     let listed = rows.rows.as_slice();
@@ -85,7 +89,7 @@ fn titled_rows_json(
     title: &Text,
     rows: &StatementRows,
 ) -> Result<Vec<u8>, AllocError>
-    ensures { IfOk result (λ text. text.items ≡ spec.titled_rows_json title.now rows.now) }
+    ensures { IfOk result (λ text. text.items ≡ spec.titled_rows_json title.now (rows_of rows.now)) }
 {
     let mut members = rows_members(alloc, rows)?;
     put_title(alloc, &mut members, title)?;

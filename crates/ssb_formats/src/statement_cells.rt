@@ -3,6 +3,7 @@
 ghost use Rattle.std.specs.Prelude.{◌≡◌, ◌++◌, IfOk, OnOk};
 ghost use Rattle.std.specs.String.{string_bytes};
 ghost use Rattle.ssb_formats.specs.StatementCells as spec;
+ghost use Rattle.ssb_report.specs.StatementText as printed;
 
 use crate::alignment::{Alignment, narrow, widened};
 use crate::cells::{sum_cell, value_cell};
@@ -21,14 +22,14 @@ pub(crate) struct StatementHeads<'a> {
 
 // The sign of ten-thousandths.
 fn sign_of(number: i128) -> &'static str
-    ensures { result.now ≡ spec.sign_of number }
+    ensures { result.now ≡ printed.sign_of number }
 {
     if number < 0 { "-" } else { "" }
 }
 
 // The four digits of a number below 10,000.
 fn push_digits(text: &mut String, number: u128) -> Result<(), AllocError>
-    ensures { OnOk result (string_bytes text.new ≡ string_bytes text.old ++ spec.digits_of number) }
+    ensures { OnOk result (string_bytes text.new ≡ string_bytes text.old ++ printed.digits_of number) }
 {
     text.push_str(Buffer::new().format(number / 1000))?;
     text.push_str(Buffer::new().format(number / 100 % 10))?;
@@ -38,7 +39,7 @@ fn push_digits(text: &mut String, number: u128) -> Result<(), AllocError>
 
 // Adds a size in ten-thousandths, in decimal.
 fn push_size(text: &mut String, size: u128) -> Result<(), AllocError>
-    ensures { OnOk result (string_bytes text.new ≡ string_bytes text.old ++ spec.size_text size) }
+    ensures { OnOk result (string_bytes text.new ≡ string_bytes text.old ++ printed.size_text size) }
 {
     text.push_str(Buffer::new().format(size / 10_000))?;
     text.push_str(".")?;
@@ -47,7 +48,7 @@ fn push_size(text: &mut String, size: u128) -> Result<(), AllocError>
 
 // Ten-thousandths in decimal.
 pub(crate) fn decimal_text(alloc: Global, number: i128) -> Result<Text, AllocError>
-    ensures { IfOk result (λ text. text ≡ spec.decimal_text number) }
+    ensures { IfOk result (λ text. text ≡ printed.decimal_text number) }
 {
     let mut text = String::from_str(alloc, sign_of(number))?;
     push_size(&mut text, number.unsigned_abs())?;
@@ -55,7 +56,7 @@ pub(crate) fn decimal_text(alloc: Global, number: i128) -> Result<Text, AllocErr
 }
 
 fn average_cell(alloc: Global, number: Option<i128>) -> Result<Text, AllocError>
-    ensures { IfOk result (λ text. text ≡ spec.average_text number) }
+    ensures { IfOk result (λ text. text ≡ printed.average_text number) }
 {
     match number {
         Some(number) => decimal_text(alloc, number),
@@ -64,7 +65,7 @@ fn average_cell(alloc: Global, number: Option<i128>) -> Result<Text, AllocError>
 }
 
 fn cell_text(alloc: Global, cell: &StatementCell) -> Result<Text, AllocError>
-    ensures { IfOk result (λ text. text ≡ spec.cell_text cell.now) }
+    ensures { IfOk result (λ text. text ≡ printed.cell_text cell.now) }
 {
     match cell {
         StatementCell::Plain(None) => Text::from_str(alloc, ""),
@@ -75,7 +76,7 @@ fn cell_text(alloc: Global, cell: &StatementCell) -> Result<Text, AllocError>
 }
 
 pub(crate) fn texts_of(alloc: Global, row: &[StatementCell]) -> Result<Vec<Text>, AllocError>
-    ensures { IfOk result (λ texts. texts.items ≡ spec.texts_of row.now) }
+    ensures { IfOk result (λ texts. texts.items ≡ printed.texts_of row.now) }
 {
     let mut texts = Vec::new(alloc);
     for cell in row {

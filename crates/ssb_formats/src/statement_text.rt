@@ -1,11 +1,10 @@
 //! The rows of a statement, under its heads.
 
 ghost use Rattle.std.specs.Prelude.{◌≡◌, ◌++◌, IfOk, OnOk, map};
-ghost use Rattle.std.specs.List.{join_with_byte};
 ghost use Rattle.serde_json.specs.View.{members_view, view};
 ghost use Rattle.ssb_formats.specs.Alignment.{aligned_line};
 ghost use Rattle.ssb_formats.specs.MarkdownText.{line_text};
-ghost use Rattle.ssb_formats.specs.StatementCells as printed;
+ghost use Rattle.ssb_report.specs.StatementText.{report_text, texts_of};
 ghost use Rattle.ssb_formats.specs.StatementText as spec;
 
 use crate::alignment::{Alignment, push_line};
@@ -17,15 +16,15 @@ use crate::statement_bars::bars_text;
 use crate::statement_cells::{StatementHeads, alignments, decimal_text, push_title, texts_of};
 use crate::statement_html::html_text;
 use crate::table_text::push_rule;
-use itoa::Buffer;
 use serde_json::{Map, Value as Json, put};
+use ssb_report::write_statement;
 use ssb_schema::{Items, Text};
 use ssb_statements::StatementCell;
 use std::alloc::{AllocError, Global};
 
 // The cells of each row.
 fn all_texts(alloc: Global, rows: &[Items<StatementCell>]) -> Result<Vec<Items<Text>>, AllocError>
-    ensures { IfOk result (λ all. all.items ≡ map printed.texts_of rows.now) }
+    ensures { IfOk result (λ all. all.items ≡ map texts_of rows.now) }
 {
     let mut all = Vec::new(alloc);
     for row in rows {
@@ -35,54 +34,15 @@ fn all_texts(alloc: Global, rows: &[Items<StatementCell>]) -> Result<Vec<Items<T
     Ok(all)
 }
 
-// Adds texts with a bar between one and the next.
-fn push_barred(text: &mut Vec<u8>, cells: &[Text]) -> Result<(), AllocError>
-    ensures { OnOk result (text.new.items ≡ text.old.items ++ join_with_byte 124 cells.now) }
-{
-    match cells {
-        [] => Ok(()),
-        [cell] => text.extend_from_slice(cell.as_str().as_bytes()),
-        [cell, cells @ ..] => {
-            text.extend_from_slice(cell.as_str().as_bytes())?;
-            text.push(b'|')?;
-            push_barred(text, cells)
-        }
-    }
-}
-
-// Adds the line before the rows of the report.
-fn push_report_head(text: &mut Vec<u8>, at: u64, count: usize) -> Result<(), AllocError>
-    ensures { OnOk result (text.new.items ≡ text.old.items ++ spec.report_head at count) }
-{
-    text.extend_from_slice(b"sql at ")?;
-    text.extend_from_slice(Buffer::new().format(at).as_bytes())?;
-    text.extend_from_slice(b" rows ")?;
-    text.extend_from_slice(Buffer::new().format(count).as_bytes())?;
-    Ok(text.push(b'\n')?)
-}
-
-fn push_report_line(
-    alloc: Global,
-    text: &mut Vec<u8>,
-    row: &Items<StatementCell>,
-) -> Result<(), AllocError>
-    ensures { OnOk result (text.new.items ≡ text.old.items ++ spec.report_line row.now) }
-{
-    let texts = texts_of(alloc, row.as_slice())?;
-    push_barred(text, texts.as_slice())?;
-    Ok(text.push(b'\n')?)
-}
-
 // The report: a line before the rows, and a line for each.
 fn report_text(alloc: Global, at: u64, rows: &[Items<StatementCell>]) -> Result<Vec<u8>, AllocError>
-    ensures { IfOk result (λ text. text.items ≡ spec.report_text at rows.now) }
+    ensures { IfOk result (λ text. text.items ≡ report_text at rows.now) }
 {
     let mut text = Vec::new(alloc);
-    push_report_head(&mut text, at, rows.len())?;
-    for row in rows {
-        push_report_line(alloc, &mut text, row)?;
+    match write_statement(&mut text, at, rows) {
+        Ok(()) => Ok(text),
+        Err(_) => Err(AllocError),
     }
-    Ok(text)
 }
 
 fn push_markdown_row(
@@ -90,7 +50,7 @@ fn push_markdown_row(
     text: &mut Vec<u8>,
     row: &Items<StatementCell>,
 ) -> Result<(), AllocError>
-    ensures { OnOk result (text.new.items ≡ text.old.items ++ line_text (printed.texts_of row.now)) }
+    ensures { OnOk result (text.new.items ≡ text.old.items ++ line_text (texts_of row.now)) }
 {
     let texts = texts_of(alloc, row.as_slice())?;
     push_markdown_line(text, texts.as_slice())
@@ -119,7 +79,7 @@ fn push_grid_line(
     alignments: &[Alignment],
     row: &Items<StatementCell>,
 ) -> Result<(), AllocError>
-    ensures { OnOk result (text.new.items ≡ text.old.items ++ aligned_line alignments.now (printed.texts_of row.now)) }
+    ensures { OnOk result (text.new.items ≡ text.old.items ++ aligned_line alignments.now (texts_of row.now)) }
 {
     let texts = texts_of(alloc, row.as_slice())?;
     push_line(text, alignments, texts.as_slice())

@@ -35,6 +35,7 @@ TakesRecord number old word fields step = (line : TraceLine) × SaysAfter word f
 -- a line that may stand in a refresh, behind its first
 abbrev pub StandsInside : ScriptLine → Type 0
 StandsInside (script.Query question) = ⊥
+StandsInside (script.Sql text) = ⊥
 StandsInside script.Begin = ⊥
 StandsInside script.Ask = ⊥
 StandsInside script.Answer = ⊥

@@ -16,7 +16,10 @@ use Rattle.ssb_schema.specs.declared.table.Table.{Table}
 use Rattle.ssb_schema.specs.declared.table.Table.TheVariants as table
 use Rattle.ssb_script.specs.declared.error.ScriptError.{ScriptError}
 use Rattle.ssb_script.specs.declared.error.ScriptError.TheVariants as script
-use Rattle.stream_sessions.specs.FaultLine.{fault_text, schema_text}
+use Rattle.ssb_sql.specs.declared.fault.SqlFault.{SqlFault}
+use Rattle.ssb_sql.specs.declared.fault.SqlFault.TheVariants as sql
+use Rattle.ssb_sql.specs.declared.fault.TextPlace.{TextPlace}
+use Rattle.stream_sessions.specs.FaultLine.{fault_text, placed_text, schema_text, sql_text}
 
 -- whether bytes are ASCII
 abbrev are_ascii : List ℕ → Bool
@@ -104,6 +107,25 @@ schema_is_text (schema.OutOfRange column) =
 schema_is_text (schema.FieldTooLong column) =
     behind (codes "11 FieldTooLong ") (column_name column ++ []) refl (last_column column)
 
+placed_is_text : (name : List ℕ) (place : TextPlace) → are_ascii name ≡ true → IsUtf8 (placed_text name place)
+placed_is_text name place ascii =
+    behind name (codes " " ++ (decimal place.line ++ (codes " " ++ (decimal place.column ++ [])))) ascii
+    (behind (codes " ") (decimal place.line ++ (codes " " ++ (decimal place.column ++ []))) refl
+    (IsUtf8-append (decimal place.line) (codes " " ++ (decimal place.column ++ [])) (number_is_text place.line)
+    (behind (codes " ") (decimal place.column ++ []) refl (last_number place.column))))
+
+sql_is_text : (fault : SqlFault) → IsUtf8 (sql_text fault)
+sql_is_text (sql.BadToken place) = placed_is_text (codes "51 BadToken") place refl
+sql_is_text (sql.Unexpected place) = placed_is_text (codes "52 Unexpected") place refl
+sql_is_text (sql.NotSupported place) = placed_is_text (codes "53 NotSupported") place refl
+sql_is_text (sql.UnknownName place) = placed_is_text (codes "54 UnknownName") place refl
+sql_is_text (sql.NotJoined place) = placed_is_text (codes "55 NotJoined") place refl
+sql_is_text (sql.NotAGroup place) = placed_is_text (codes "56 NotAGroup") place refl
+sql_is_text (sql.BadValue place) = placed_is_text (codes "57 BadValue") place refl
+sql_is_text (sql.TooMany place) = placed_is_text (codes "58 TooMany") place refl
+sql_is_text (sql.SameHead place) = placed_is_text (codes "59 SameHead") place refl
+sql_is_text sql.OutOfMemory = ascii_is_text (codes "out of memory") refl
+
 pub fault_is_text : (fault : ScriptError) → IsUtf8 (fault_text fault)
 fault_is_text (script.BadLine number) = behind (codes "70 BadLine ") (decimal number ++ []) refl (last_number number)
 fault_is_text script.NoCommit = ascii_is_text (codes "71 NoCommit") refl
@@ -114,6 +136,11 @@ fault_is_text (script.Row number why) =
     (behind (codes "73 Row ") (decimal number ++ (codes " " ++ [])) refl
     (IsUtf8-append (decimal number) (codes " " ++ []) (number_is_text number) (ascii_is_text (codes " " ++ []) refl)))
     (schema_is_text why)
+fault_is_text (script.Sql number why) =
+    IsUtf8-append (concat (codes "79 Sql " ∷ decimal number ∷ codes " " ∷ [])) (sql_text why)
+    (behind (codes "79 Sql ") (decimal number ++ (codes " " ++ [])) refl
+    (IsUtf8-append (decimal number) (codes " " ++ []) (number_is_text number) (ascii_is_text (codes " " ++ []) refl)))
+    (sql_is_text why)
 fault_is_text script.TooLong = ascii_is_text (codes "74 TooLong") refl
 fault_is_text script.Read = ascii_is_text (codes "75 Read") refl
 fault_is_text script.NoAnswer = ascii_is_text (codes "77 NoAnswer") refl

@@ -1,7 +1,7 @@
 -- What a client is told counts no more commits than a log has; and answers that are told one after another with the
 -- commits that came before.
 use Rattle.std.proofs.Common.{◌≡◌, ◌∙◌, ℕ, suc, ◌<◌, ◌≤◌, List, [], ◌∷◌, length, map, get_or}
-use Rattle.std.proofs.Common.{Result, Ok, Err, arith, ap, refl, subst, sym}
+use Rattle.std.proofs.Common.{Option, None, Some, Result, Ok, Err, arith, ap, refl, subst, sym}
 use Rattle.std.specs.List.{AllByRecursion}
 use Rattle.ssb_schema.specs.declared.refresh.Action.{Action}
 use Rattle.row_store.proofs.FewLaws.{few_commits_of}
@@ -22,10 +22,14 @@ use Rattle.history.specs.declared.request.PostedRequest.{PostedRequest}
 use Rattle.ssb_base.specs.Base.{Tables}
 use Rattle.row_store.specs.History.{CommitRecord}
 use Rattle.ssb_clients.specs.Clients as client
-use Rattle.ssb_report.specs.Replies.{Reply, Refreshed, Answered, Aborted}
-use Rattle.ssb_script.specs.Requests.{RequestRecord, Refresh, Ask, Abort}
-use Rattle.stream_sessions.specs.Served.{IsServed}
-use Rattle.stream_sessions.specs.WithPast.{IsOfFew, IsOfFewAnswer, IsOfFewOutcome}
+use Rattle.ssb_answers.specs.declared.answer.Answer.{Answer}
+use Rattle.ssb_report.specs.Replies.{Reply, Refreshed, Answered, Listed, Aborted, IsListedOf}
+use Rattle.ssb_script.specs.Requests.{RequestRecord, Refresh, Ask, Abort, questions_in, statement_in}
+use Rattle.ssb_sql.specs.declared.statement.Statement.{Statement}
+use Rattle.ssb_statements.specs.Listing.{ListingRecord, moment_of}
+use Rattle.ssb_statements.specs.Listing as listing
+use Rattle.stream_sessions.specs.Served.{IsAnswered, IsServed}
+use Rattle.stream_sessions.specs.WithPast.{IsOfFew, IsOfFewAnswer, IsOfFewListing, IsOfFewOutcome}
 
 few_seen : (t : TokenRecord) → IsSound t → length t.seen ≤ most_commits
 few_seen t sound =
@@ -58,21 +62,43 @@ few_answers base history asked (Rows questions at rows) few right =
     few_with at questions rows (omega (arith, few, right.2))
 few_answers base history asked (Unserved questions cause) few right = few_unserved cause questions
 
+few_moment : (answers : List Answer) → AllByRecursion IsOfFewAnswer answers → moment_of answers ≤ most_commits
+few_moment [] few = omega arith
+few_moment (variant.Rows question at rows ∷ answers) few = few.0
+few_moment (variant.Unserved question cause ∷ answers) few = omega arith
+
+few_listing : (statement : Option Statement) (answers : List Answer) (listed : ListingRecord)
+    → AllByRecursion IsOfFewAnswer answers → IsListedOf statement answers listed → IsOfFewListing listed
+few_listing None answers listed few is = absurd is
+few_listing (Some statement) answers (listing.Rows rows) few is =
+    omega (arith, is.1.at_is, few_moment answers few)
+few_listing (Some statement) answers (listing.Unserved cause) few is = tt
+
+answered_few : (before after : TokenRecord) (questions : Questions) (answers : List Answer)
+    → IsAnswered before questions answers after → AllByRecursion IsOfFewAnswer answers
+answered_few before after questions answers is =
+    subst (AllByRecursion IsOfFewAnswer) (sym is.answers_are)
+    (few_answers is.asking.table.base after.seen is.polled.asked is.response (few_seen after is.sound) is.polled.right)
+
 -- what is served tells of no more commits than a log has
 pub served_is_of_few : (number : ℕ) (before after : TokenRecord) (request : RequestRecord) (reply : Reply)
     → IsServed number before request reply after → IsOfFew reply
 served_is_of_few number before after (Refresh actions) (Refreshed outcome) is =
     few_outcome before number actions outcome after is.0 is.1
 served_is_of_few number before after (Ask asking) (Answered answers) is =
-    subst (AllByRecursion IsOfFewAnswer) (sym is.answers_are)
-    (few_answers is.asking.table.base after.seen is.polled.asked is.response (few_seen after is.sound) is.polled.right)
+    answered_few before after (questions_in asking) answers is.1
+served_is_of_few number before after (Ask asking) (Listed answers listed) is =
+    let few = answered_few before after (questions_in asking) answers is.1 in
+    (few, few_listing (statement_in asking) answers listed few is.0)
 served_is_of_few number before after Abort Aborted is = tt
 served_is_of_few number before after (Refresh actions) (Answered answers) is = absurd is
+served_is_of_few number before after (Refresh actions) (Listed answers listed) is = absurd is
 served_is_of_few number before after (Refresh actions) Aborted is = absurd is
 served_is_of_few number before after (Ask asking) (Refreshed outcome) is = absurd is
 served_is_of_few number before after (Ask asking) Aborted is = absurd is
 served_is_of_few number before after Abort (Refreshed outcome) is = absurd is
 served_is_of_few number before after Abort (Answered answers) is = absurd is
+served_is_of_few number before after Abort (Listed answers listed) is = absurd is
 
 -- a list of which each element is that of another, mapped
 pub mapped_all : {X : Type 0} (f : X → X) (old new : List X) → length new ≡ length old

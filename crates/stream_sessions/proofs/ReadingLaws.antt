@@ -2,7 +2,7 @@
 use Rattle.std.proofs.Common.{◌≡◌, ◌∙◌, ◌||◌, ℕ, Bool, true, false, List, [], ◌∷◌, ◌++◌, inl, inr, refl, sym, ap, Result, Ok, Err}
 use Rattle.std.proofs.lemmas.List.Folds.{list_any-append}
 use Rattle.history.specs.Tokens.{TokenRecord}
-use Rattle.ssb_report.specs.Replies.{Reply, Refreshed, Answered, Aborted}
+use Rattle.ssb_report.specs.Replies.{Reply, Refreshed, Answered, Listed, Aborted}
 use Rattle.ssb_script.specs.Requests.{RequestRecord, Refresh, Ask, Abort}
 use Rattle.stream_sessions.specs.Answers.{BreaksOff, IsAnswered}
 use Rattle.stream_sessions.specs.Conversation.{AddsReply, ConversesTo, IsConversation}
@@ -38,12 +38,15 @@ served_mine : (number : ℕ) (old new : TokenRecord) (request : RequestRecord) (
     → is_refresh request ≡ false → IsServed number old request reply new → new.mine ≡ old.mine
 served_mine number old new (Refresh actions) reply none is = absurd (not_both none)
 served_mine number old new (Ask asking) (Answered answers) none is =
-    ap (λ (t : TokenRecord). t.mine) is.polled.now ∙ ap (λ (t : TokenRecord). t.mine) is.asked.now
+    ap (λ (t : TokenRecord). t.mine) is.1.polled.now ∙ ap (λ (t : TokenRecord). t.mine) is.1.asked.now
+served_mine number old new (Ask asking) (Listed answers listing) none is =
+    ap (λ (t : TokenRecord). t.mine) is.1.polled.now ∙ ap (λ (t : TokenRecord). t.mine) is.1.asked.now
 served_mine number old new (Ask asking) (Refreshed reply) none is = absurd is
 served_mine number old new (Ask asking) Aborted none is = absurd is
 served_mine number old new Abort Aborted none is = ap (λ (t : TokenRecord). t.mine) is
 served_mine number old new Abort (Refreshed reply) none is = absurd is
 served_mine number old new Abort (Answered answers) none is = absurd is
+served_mine number old new Abort (Listed answers listing) none is = absurd is
 
 all_mine : (number : ℕ) (old new : TokenRecord) (asked : List RequestRecord) (replies : List Reply)
     → has_refresh asked ≡ false → AreServed number old asked replies new → new.mine ≡ old.mine

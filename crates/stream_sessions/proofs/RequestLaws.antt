@@ -13,7 +13,7 @@ use Rattle.row_store.specs.declared.refusal.RefreshError.TheVariants as refusal
 use Rattle.history.specs.Tokens.{TokenRecord, IsSound}
 use Rattle.history.specs.Members.{number_of}
 use Rattle.ssb_script.specs.Requests.{RequestRecord, Refresh, Ask, Abort}
-use Rattle.ssb_report.specs.Replies.{Reply, Refreshed, Answered, Aborted}
+use Rattle.ssb_report.specs.Replies.{Reply, Refreshed, Answered, Listed, Aborted}
 use Rattle.ssb_text.proofs.WrittenLaws.{appends_none, appends_both}
 use Rattle.ssb_clients.specs.Clients as client
 use Rattle.row_store.specs.History.{CommitRecord}
@@ -156,13 +156,16 @@ pub few_replies : (number : ℕ) (old new : TokenRecord) (request : RequestRecor
     → IsServed number old request reply new → answer_count reply ≤ question_count request
 few_replies number old new (Refresh actions) (Refreshed result) is = grind arith
 few_replies number old new (Ask asking) (Answered answers) is = grind (arith, asked_same, few_answers)
+few_replies number old new (Ask asking) (Listed answers listing) is = grind (arith, asked_same, few_answers)
 few_replies number old new Abort Aborted is = grind arith
 few_replies number old new (Refresh actions) (Answered answers) is = grind arith
+few_replies number old new (Refresh actions) (Listed answers listing) is = grind arith
 few_replies number old new (Refresh actions) Aborted is = grind arith
 few_replies number old new (Ask asking) (Refreshed result) is = grind arith
 few_replies number old new (Ask asking) Aborted is = grind arith
 few_replies number old new Abort (Refreshed result) is = grind arith
 few_replies number old new Abort (Answered answers) is = grind arith
+few_replies number old new Abort (Listed answers listing) is = grind arith
 
 -- room for many is room for few, where anything is kept
 pub room_for : {X : Type 0} (kept : Option X) (count room : X → ℕ) (few many : ℕ) → few ≤ many

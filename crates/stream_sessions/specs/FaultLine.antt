@@ -6,6 +6,9 @@ use Rattle.ssb_schema.specs.declared.fault.SchemaFault.{SchemaFault}
 use Rattle.ssb_schema.specs.declared.fault.SchemaFault.TheVariants as schema
 use Rattle.ssb_script.specs.declared.error.ScriptError.{ScriptError}
 use Rattle.ssb_script.specs.declared.error.ScriptError.TheVariants as script
+use Rattle.ssb_sql.specs.declared.fault.SqlFault.{SqlFault}
+use Rattle.ssb_sql.specs.declared.fault.SqlFault.TheVariants as sql
+use Rattle.ssb_sql.specs.declared.fault.TextPlace.{TextPlace}
 use Rattle.ssb_formats.specs.ReplyTexts.{fault_shown}
 use Rattle.ssb_formats.specs.declared.reply_format.ReplyFormat.{ReplyFormat}
 
@@ -25,6 +28,23 @@ schema_text (schema.TooManyRows table) = concat (codes "9 TooManyRows " ∷ tabl
 schema_text (schema.OutOfRange column) = concat (codes "10 OutOfRange " ∷ column_name column ∷ [])
 schema_text (schema.FieldTooLong column) = concat (codes "11 FieldTooLong " ∷ column_name column ∷ [])
 
+-- a name, and the line and the character of a place, both from 1
+abbrev pub placed_text : List ℕ → TextPlace → List ℕ
+placed_text name place = concat (name ∷ codes " " ∷ decimal place.line ∷ codes " " ∷ decimal place.column ∷ [])
+
+-- the number, the name and the place of a statement's fault
+abbrev pub sql_text : SqlFault → List ℕ
+sql_text (sql.BadToken place) = placed_text (codes "51 BadToken") place
+sql_text (sql.Unexpected place) = placed_text (codes "52 Unexpected") place
+sql_text (sql.NotSupported place) = placed_text (codes "53 NotSupported") place
+sql_text (sql.UnknownName place) = placed_text (codes "54 UnknownName") place
+sql_text (sql.NotJoined place) = placed_text (codes "55 NotJoined") place
+sql_text (sql.NotAGroup place) = placed_text (codes "56 NotAGroup") place
+sql_text (sql.BadValue place) = placed_text (codes "57 BadValue") place
+sql_text (sql.TooMany place) = placed_text (codes "58 TooMany") place
+sql_text (sql.SameHead place) = placed_text (codes "59 SameHead") place
+sql_text sql.OutOfMemory = codes "out of memory"
+
 -- the number, the name and the values of a script's fault
 abbrev pub fault_text : ScriptError → List ℕ
 fault_text (script.BadLine record_number) = concat (codes "70 BadLine " ∷ decimal record_number ∷ [])
@@ -36,6 +56,8 @@ fault_text script.TooLong = codes "74 TooLong"
 fault_text script.Read = codes "75 Read"
 fault_text script.NoAnswer = codes "77 NoAnswer"
 fault_text (script.TooManyQuestions record_number) = concat (codes "78 TooManyQuestions " ∷ decimal record_number ∷ [])
+fault_text (script.Sql record_number why) =
+    concat (codes "79 Sql " ∷ decimal record_number ∷ codes " " ∷ []) ++ sql_text why
 fault_text script.OutOfMemory = codes "out of memory"
 
 -- what is told of a fault

@@ -1,7 +1,7 @@
 -- What is kept of what a client is told.
 use Rattle.std.specs.Prelude.{◌≡◌, ℕ, List, ◌++◌, length, Option, Some, None}
 use Rattle.ssb_audit.specs.declared.trace.Told.{Told}
-use Rattle.ssb_report.specs.Replies.{Reply, Refreshed, Answered, Aborted}
+use Rattle.ssb_report.specs.Replies.{Reply, Refreshed, Answered, Listed, Aborted}
 use Rattle.ssb_script.specs.Requests.{RequestRecord, Refresh, Ask, Abort, questions_in}
 
 -- these answers are kept behind those that were kept before, where any are kept
@@ -14,6 +14,7 @@ KeepsMore (Some old) None more = ⊥
 -- how many answers a reply has
 abbrev pub answer_count : Reply → ℕ
 answer_count (Answered answers) = length answers
+answer_count (Listed answers listing) = length answers
 answer_count (Refreshed reply) = 0
 answer_count Aborted = 0
 

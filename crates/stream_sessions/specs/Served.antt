@@ -1,5 +1,5 @@
 -- A client's requests, served one after another by a server.
-use Rattle.std.specs.Prelude.{◌≡◌, ℕ, ◌+◌, ◌<◌, List, [], ◌∷◌, ◌++◌, length, take, flat_map, Option}
+use Rattle.std.specs.Prelude.{◌≡◌, ℕ, ◌+◌, ◌<◌, List, [], ◌∷◌, ◌++◌, length, take, flat_map, Option, None}
 use Rattle.std.specs.Io.KnownBytes.{Appends}
 use Rattle.history_core.specs.declared.response.Response.{Response}
 use Rattle.history_core.specs.Events.{Questions}
@@ -7,8 +7,8 @@ use Rattle.history_core.specs.Responses.{answers_in}
 use Rattle.ssb_answers.specs.declared.answer.Answer.{Answer}
 use Rattle.ssb_answers.specs.declared.answer.Answer.TheVariants.{Rows, Unserved}
 use Rattle.history.specs.Tokens.{TokenRecord, IsSound}
-use Rattle.ssb_script.specs.Requests.{RequestRecord, Refresh, Ask, Abort, questions_in}
-use Rattle.ssb_report.specs.Replies.{Reply, Refreshed, Answered, Aborted, reply_text}
+use Rattle.ssb_script.specs.Requests.{RequestRecord, Refresh, Ask, Abort, questions_in, statement_in}
+use Rattle.ssb_report.specs.Replies.{Reply, Refreshed, Answered, Listed, Aborted, IsListedOf, reply_text}
 use Rattle.ssb_report.specs.Report.{report_of}
 use Rattle.ssb_clients.specs.Clients as client
 use Rattle.ssb_clients.specs.Clients.{Asks, Polls}
@@ -33,14 +33,19 @@ pub record IsAnswered (before : TokenRecord) (questions : Questions) (answers : 
 abbrev pub IsServed : ℕ → TokenRecord → RequestRecord → Reply → TokenRecord → Type 0
 IsServed number before (Refresh actions) (Refreshed reply) after =
     client.Refreshed before number actions reply after × IsSound after
-IsServed number before (Ask asking) (Answered answers) after = IsAnswered before (questions_in asking) answers after
+IsServed number before (Ask asking) (Answered answers) after =
+    (statement_in asking ≡ None) × IsAnswered before (questions_in asking) answers after
+IsServed number before (Ask asking) (Listed answers listing) after =
+    IsListedOf (statement_in asking) answers listing × IsAnswered before (questions_in asking) answers after
 IsServed number before Abort Aborted after = after ≡ before
 IsServed number before (Refresh actions) (Answered answers) after = ⊥
+IsServed number before (Refresh actions) (Listed answers listing) after = ⊥
 IsServed number before (Refresh actions) Aborted after = ⊥
 IsServed number before (Ask asking) (Refreshed reply) after = ⊥
 IsServed number before (Ask asking) Aborted after = ⊥
 IsServed number before Abort (Refreshed reply) after = ⊥
 IsServed number before Abort (Answered answers) after = ⊥
+IsServed number before Abort (Listed answers listing) after = ⊥
 
 -- the replies to a client's requests, each of which finds the client as the one before it left it
 abbrev pub AreServed : ℕ → TokenRecord → List RequestRecord → List Reply → TokenRecord → Type 0
@@ -58,6 +63,7 @@ told_by client (Unserved question cause) = []
 -- the answers with rows that a reply has
 abbrev pub told_of : ℕ → Reply → List Told
 told_of client (Answered answers) = flat_map (told_by client) answers
+told_of client (Listed answers listing) = flat_map (told_by client) answers
 told_of client (Refreshed reply) = []
 told_of client Aborted = []
 

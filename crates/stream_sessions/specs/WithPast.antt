@@ -9,7 +9,9 @@ use Rattle.ssb_answers.specs.declared.answer.Answer.TheVariants.{Rows, Unserved}
 use Rattle.ssb_base.specs.Limits.{most_commits}
 use Rattle.ssb_formats.specs.ReplyTexts.{reply_shown}
 use Rattle.ssb_formats.specs.declared.reply_format.ReplyFormat.{ReplyFormat}
-use Rattle.ssb_report.specs.Replies.{Reply, Refreshed, Answered, Aborted}
+use Rattle.ssb_report.specs.Replies.{Reply, Refreshed, Answered, Listed, Aborted}
+use Rattle.ssb_statements.specs.Listing.{ListingRecord, RowsRecord}
+use Rattle.ssb_statements.specs.Listing as listing
 use Rattle.stream_sessions.specs.declared.past.Past.{Past}
 
 -- the most commits that may have come before: 2^62
@@ -27,10 +29,24 @@ abbrev pub answer_with_past : ℕ → Answer → Answer
 answer_with_past past (Rows question at rows) = Rows question (past + at) rows
 answer_with_past past (Unserved question cause) = Unserved question cause
 
+-- so are those of a statement
+abbrev pub rows_with_past : ℕ → RowsRecord → RowsRecord
+rows_with_past past rows = record {
+  heads = rows.heads;
+  are_numbers = rows.are_numbers;
+  at = past + rows.at;
+  rows = rows.rows;
+}
+
+abbrev pub listing_with_past : ℕ → ListingRecord → ListingRecord
+listing_with_past past (listing.Rows rows) = listing.Rows (rows_with_past past rows)
+listing_with_past past (listing.Unserved cause) = listing.Unserved cause
+
 -- a reply, where so many commits came before
 abbrev pub with_past : ℕ → Reply → Reply
 with_past past (Refreshed outcome) = Refreshed (outcome_with_past past outcome)
 with_past past (Answered answers) = Answered (map (answer_with_past past) answers)
+with_past past (Listed answers listed) = Listed (map (answer_with_past past) answers) (listing_with_past past listed)
 with_past past Aborted = Aborted
 
 -- what a session tells of a reply in its format, and of replies one after another
@@ -50,7 +66,12 @@ abbrev pub IsOfFewAnswer : Answer → Type 0
 IsOfFewAnswer (Rows question at rows) = at ≤ most_commits
 IsOfFewAnswer (Unserved question cause) = Unit {0}
 
+abbrev pub IsOfFewListing : ListingRecord → Type 0
+IsOfFewListing (listing.Rows rows) = rows.at ≤ most_commits
+IsOfFewListing (listing.Unserved cause) = Unit {0}
+
 abbrev pub IsOfFew : Reply → Type 0
 IsOfFew (Refreshed outcome) = IsOfFewOutcome outcome
 IsOfFew (Answered answers) = AllByRecursion IsOfFewAnswer answers
+IsOfFew (Listed answers listed) = AllByRecursion IsOfFewAnswer answers × IsOfFewListing listed
 IsOfFew Aborted = Unit {0}

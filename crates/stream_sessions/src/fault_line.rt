@@ -4,11 +4,13 @@ ghost use Rattle.std.specs.Prelude.{◌≡◌, IfOk, IsUtf8};
 ghost use Rattle.ssb_formats.specs.Formats.{Shows};
 ghost use Rattle.ssb_formats.specs.ReplyTexts.{fault_shown};
 ghost use Rattle.ssb_text.specs.Written.{Writes};
-ghost use Rattle.stream_sessions.specs.FaultLine.{fault_line, fault_text, schema_text};
+ghost use Rattle.stream_sessions.specs.FaultLine.{fault_line, fault_text, placed_text, schema_text};
+ghost use Rattle.stream_sessions.specs.FaultLine.{sql_text};
 
 use ssb_formats::{FormatFault, ReplyFormat, write_fault_as};
 use ssb_schema::SchemaFault;
 use ssb_script::ScriptError;
+use ssb_sql::{SqlFault, TextPlace};
 use ssb_text::{Piece, WriteFault, write_pieces};
 use std::alloc::{AllocError, Global};
 use std::io::Write;
@@ -64,6 +66,44 @@ fn write_schema_fault<W: Write>(writer: &mut W, fault: SchemaFault) -> Result<()
     }
 }
 
+// A name, and a place in a text.
+fn write_placed<'a, W: Write>(
+    writer: &mut W,
+    name: &'a str,
+    place: TextPlace,
+) -> Result<(), WriteFault>
+    ensures { Writes (W.contents writer.old) (W.contents writer.new) result (placed_text name.now place) }
+{
+    write_pieces(
+        writer,
+        &[
+            Piece::Text(name),
+            Piece::Text(" "),
+            Piece::Number(place.line as u64),
+            Piece::Text(" "),
+            Piece::Number(place.column as u64),
+        ],
+    )
+}
+
+// The number, the name and the place of a statement's fault.
+fn write_sql_fault<W: Write>(writer: &mut W, fault: SqlFault) -> Result<(), WriteFault>
+    ensures { Writes (W.contents writer.old) (W.contents writer.new) result (sql_text fault) }
+{
+    match fault {
+        SqlFault::BadToken(place) => write_placed(writer, "51 BadToken", place),
+        SqlFault::Unexpected(place) => write_placed(writer, "52 Unexpected", place),
+        SqlFault::NotSupported(place) => write_placed(writer, "53 NotSupported", place),
+        SqlFault::UnknownName(place) => write_placed(writer, "54 UnknownName", place),
+        SqlFault::NotJoined(place) => write_placed(writer, "55 NotJoined", place),
+        SqlFault::NotAGroup(place) => write_placed(writer, "56 NotAGroup", place),
+        SqlFault::BadValue(place) => write_placed(writer, "57 BadValue", place),
+        SqlFault::TooMany(place) => write_placed(writer, "58 TooMany", place),
+        SqlFault::SameHead(place) => write_placed(writer, "59 SameHead", place),
+        SqlFault::OutOfMemory => write_pieces(writer, &[Piece::Text("out of memory")]),
+    }
+}
+
 // The number, the name and the values of a script's fault.
 fn write_fault<W: Write>(writer: &mut W, fault: ScriptError) -> Result<(), WriteFault>
     ensures { Writes (W.contents writer.old) (W.contents writer.new) result (fault_text fault) }
@@ -96,6 +136,17 @@ fn write_fault<W: Write>(writer: &mut W, fault: ScriptError) -> Result<(), Write
             writer,
             &[Piece::Text("78 TooManyQuestions "), Piece::Number(record)],
         ),
+        ScriptError::Sql(record, why) => {
+            write_pieces(
+                writer,
+                &[
+                    Piece::Text("79 Sql "),
+                    Piece::Number(record),
+                    Piece::Text(" "),
+                ],
+            )?;
+            write_sql_fault(writer, why)
+        }
         ScriptError::OutOfMemory => write_pieces(writer, &[Piece::Text("out of memory")]),
     }
 }

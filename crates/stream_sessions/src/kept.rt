@@ -60,7 +60,10 @@ pub(crate) fn keep_reply(told: &mut Option<Vec<Told>>, client: u32, reply: Reply
     let Some(kept) = told else {
         return;
     };
-    if let Reply::Answered(answers) = reply {
-        keep_all(kept, client, answers);
+    match reply {
+        Reply::Answered(answers) => keep_all(kept, client, answers),
+        Reply::Listed(answers, _listing) => keep_all(kept, client, answers),
+        Reply::Refreshed(_outcome) => {}
+        Reply::Aborted => {}
     }
 }

@@ -13,7 +13,7 @@ pub fn one_moment()
 {}
 
 /// A legal script that is answered request by request, as it comes, has the replies of the whole script, where the
-/// session takes refreshes or the script has none.
+/// session takes refreshes or the script has none; or the text of a statement that it asks is refused.
 pub fn replies_of_script()
     ensures { (text : List ℕ) → HasRepliesOfScript text }
 {}

@@ -29,8 +29,8 @@
 //!
 //! Three laws: what is told in such a conversation is the replies to the requests that were taken, in order, and
 //! nothing else (`specs/Exchange.antt`); a legal script without lone CRs and byte order marks, whose refreshes are
-//! taken, has the replies of the whole script though it is answered request by request (`specs/WholeScripts.antt`); a
-//! session that takes no refreshes commits nothing (`specs/ReadingOnly.antt`).
+//! taken, has the replies of the whole script though it is answered request by request, or the text of a statement is
+//! refused (`specs/WholeScripts.antt`); a session that takes no refreshes commits nothing (`specs/ReadingOnly.antt`).
 //!
 //! ```text
 //! serve_requests(&service, &mut client, script, &mut report, &mut told, &mut NoMeter)?;

@@ -33,6 +33,7 @@ pub(crate) fn question_count(request: &Request) -> usize
         Request::Refresh(_) => 0,
         Request::Ask(Asking::Alone(_)) => 1,
         Request::Ask(Asking::Together(questions)) => questions.len(),
+        Request::Ask(Asking::Statement(asked)) => asked.statement.questions.len(),
         Request::Abort => 0,
     }
 }

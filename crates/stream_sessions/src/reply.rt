@@ -1,5 +1,5 @@
 //! The reply to one request of a client.
-ghost use Rattle.std.specs.Prelude.{◌≡◌, false, OnErr, IfOk};
+ghost use Rattle.std.specs.Prelude.{◌≡◌, ℕ, false, OnErr, IfOk};
 ghost use Rattle.std.specs.Option.{is_some};
 ghost use Rattle.history.specs.Members.{number_of};
 ghost use Rattle.history_core.specs.declared.event.Who.TheVariants.{Client as IsNumbered};
@@ -7,7 +7,8 @@ ghost use Rattle.ssb_formats.specs.Formats.{Shows};
 ghost use Rattle.ssb_formats.specs.ReplyTexts.{reply_shown};
 ghost use Rattle.ssb_report.specs.Replies.{reply_text};
 ghost use Rattle.ssb_text.specs.Written.{Writes};
-ghost use Rattle.ssb_script.specs.Requests.{questions_in, request_of};
+ghost use Rattle.ssb_script.specs.Requests.{Ask, request_of};
+ghost use Rattle.ssb_script.specs.declared.request.Asking.TheVariants.{Statement as Stated};
 ghost use Rattle.stream_sessions.specs.OneRequest.{AreAlike};
 ghost use Rattle.stream_sessions.specs.Replies.{reply_of};
 ghost use Rattle.stream_sessions.specs.Served.{IsAnswered, IsServed};
@@ -16,9 +17,14 @@ use crate::service::Service;
 use row_store::{Follower, Receipt, RefreshError};
 use ssb_answers::Answer;
 use ssb_clients::Client;
-use ssb_formats::{FormatFault, ReplyFormat, write_aborted_as, write_answers_as, write_reply_as};
-use ssb_report::{write_aborted, write_answers, write_reply};
-use ssb_script::{Asking, Request};
+use ssb_formats::{
+    FormatFault, ReplyFormat, write_aborted_as, write_answers_as, write_listing_as, write_reply_as,
+};
+use ssb_questions::Question;
+use ssb_report::{write_aborted, write_answers, write_listing, write_reply};
+use ssb_schema::Items;
+use ssb_script::{Asking, Request, StatementAsked};
+use ssb_statements::{Listing, listed};
 use ssb_text::WriteFault;
 use std::alloc::{AllocError, Global};
 use std::io::Write;
@@ -31,6 +37,8 @@ pub enum Reply {
     Refreshed(Result<Receipt, RefreshError>),
     /// An answer to each question that was asked, in order.
     Answered(Vec<Answer>),
+    /// An answer to each question of a statement, and what is listed of these.
+    Listed(Vec<Answer>, Listing),
     /// What was begun is dropped.
     Aborted,
 }
@@ -43,6 +51,7 @@ impl Reply {
         match self {
             Reply::Refreshed(result) => write_reply(writer, result),
             Reply::Answered(answers) => write_answers(writer, answers.as_slice()),
+            Reply::Listed(_, listing) => write_listing(writer, listing),
             Reply::Aborted => write_aborted(writer),
         }
     }
@@ -62,6 +71,7 @@ impl Reply {
             Reply::Answered(answers) => {
                 write_answers_as(alloc, writer, format, answers.as_slice())
             }
+            Reply::Listed(_, listing) => write_listing_as(alloc, writer, format, listing),
             Reply::Aborted => write_aborted_as(alloc, writer, format),
         }
     }
@@ -71,15 +81,14 @@ impl Reply {
 fn answers_to<W: Follower + Drop, R: Wait, K>(
     service: &Service<'_, W, R, K>,
     client: &mut Client<W>,
-    asking: Asking,
+    questions: Items<Question>,
 ) -> Result<Vec<Answer>, AllocError>
     requires table { client.old.table ≡ service.now.server.now }
     requires quiet { is_some client.old.asked ≡ false }
-    ensures answered { IfOk result (λ answers. IsAnswered client.old (questions_in asking) answers.items client.new) }
+    ensures answered { IfOk result (λ answers. IsAnswered client.old questions answers.items client.new) }
     ensures refused { OnErr result (client.new ≡ client.old) }
     ensures same { AreAlike client.old client.new }
 {
-    let questions = asking.into_questions(service.alloc)?;
     let mut answers = Vec::with_capacity(service.alloc, questions.len())?;
     client.ask(service.server, questions);
     client.soundness();
@@ -87,6 +96,47 @@ fn answers_to<W: Follower + Drop, R: Wait, K>(
     client.soundness();
     response.put_answers(&mut answers);
     Ok(answers)
+}
+
+// Asks the questions of a statement in one request, and lists its rows. Where memory runs out for these, that is listed.
+fn rows_to<W: Follower + Drop, R: Wait, K>(
+    service: &Service<'_, W, R, K>,
+    client: &mut Client<W>,
+    asked: StatementAsked,
+) -> Result<Reply, AllocError>
+    requires table { client.old.table ≡ service.now.server.now }
+    requires quiet { is_some client.old.asked ≡ false }
+    ensures served { (number : ℕ) → IfOk result (λ reply. IsServed number client.old (Ask (Stated asked))
+        (reply_of reply) client.new) }
+    ensures refused { OnErr result (client.new ≡ client.old) }
+    ensures same { AreAlike client.old client.new }
+{
+    let questions = asked.shared_questions(service.alloc)?;
+    let answers = answers_to(service, client, questions)?;
+    let listing = listed(service.alloc, &asked.statement, answers.as_slice());
+    Ok(Reply::Listed(answers, listing))
+}
+
+// Asks what is asked in one request.
+fn told_to<W: Follower + Drop, R: Wait, K>(
+    service: &Service<'_, W, R, K>,
+    client: &mut Client<W>,
+    asking: Asking,
+) -> Result<Reply, AllocError>
+    requires table { client.old.table ≡ service.now.server.now }
+    requires quiet { is_some client.old.asked ≡ false }
+    ensures served { (number : ℕ) → IfOk result (λ reply. IsServed number client.old (Ask asking) (reply_of reply)
+        client.new) }
+    ensures refused { OnErr result (client.new ≡ client.old) }
+    ensures same { AreAlike client.old client.new }
+{
+    match asking.into_statement() {
+        Ok(asked) => rows_to(service, client, asked),
+        Err(asking) => {
+            let questions = asking.into_questions(service.alloc)?;
+            Ok(Reply::Answered(answers_to(service, client, questions)?))
+        }
+    }
 }
 
 /// The reply to a request of a client: the server was asked for what it asks. It waits for the rows and for answers.
@@ -111,10 +161,7 @@ pub(crate) fn reply_to<W: Follower + Drop, R: Wait, K>(
             client.soundness();
             Ok(Reply::Refreshed(result))
         }
-        Request::Ask(asking) => {
-            let answers = answers_to(service, client, asking)?;
-            Ok(Reply::Answered(answers))
-        }
+        Request::Ask(asking) => told_to(service, client, asking),
         Request::Abort => Ok(Reply::Aborted),
     }
 }

@@ -3,13 +3,15 @@
 ghost use Rattle.std.specs.Prelude.{◌≡◌, map};
 ghost use Rattle.std.specs.List.{AllByRecursion};
 ghost use Rattle.stream_sessions.specs.Replies.{reply_of};
-ghost use Rattle.stream_sessions.specs.WithPast.{IsOfFew, IsOfFewAnswer, IsOfFewOutcome};
-ghost use Rattle.stream_sessions.specs.WithPast.{answer_with_past, outcome_with_past, with_past};
+ghost use Rattle.ssb_statements.specs.Listing.{listing_of};
+ghost use Rattle.stream_sessions.specs.WithPast.{IsOfFew, IsOfFewAnswer, IsOfFewListing, IsOfFewOutcome};
+ghost use Rattle.stream_sessions.specs.WithPast.{answer_with_past, listing_with_past, outcome_with_past, with_past};
 
 use crate::past::Past;
 use crate::reply::Reply;
 use row_store::{Receipt, RefreshError};
 use ssb_answers::Answer;
+use ssb_statements::{Listing, StatementRows};
 
 // The outcome of a refresh, told with the commits that came before.
 fn outcome_with_past(
@@ -57,6 +59,29 @@ fn add_past_to_all(answers: &mut [Answer], past: Past)
     }
 }
 
+// What is listed of a statement, told with the commits that came before.
+fn listing_with_past(listing: Listing, past: Past) -> Listing
+    requires { IsOfFewListing (listing_of listing) }
+    ensures { listing_of result ≡ listing_with_past past.commits (listing_of listing) }
+{
+    match listing {
+        Listing::Rows(
+            StatementRows {
+                heads,
+                are_numbers,
+                at,
+                rows,
+            },
+        ) => Listing::Rows(StatementRows {
+            heads,
+            are_numbers,
+            at: past.with(at),
+            rows,
+        }),
+        Listing::Unserved(cause) => Listing::Unserved(cause),
+    }
+}
+
 impl Reply {
     /// The reply, told with the commits that came before.
     pub(crate) fn with_past(self, past: Past) -> Reply
@@ -69,6 +94,11 @@ impl Reply {
                 let mut answers = answers;
                 add_past_to_all(&mut answers, past);
                 Reply::Answered(answers)
+            }
+            Reply::Listed(answers, listing) => {
+                let mut answers = answers;
+                add_past_to_all(&mut answers, past);
+                Reply::Listed(answers, listing_with_past(listing, past))
             }
             Reply::Aborted => Reply::Aborted,
         }

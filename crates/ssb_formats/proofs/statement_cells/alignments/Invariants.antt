@@ -1,6 +1,6 @@
 use Rattle.std.proofs.Common.{◌≡◌, fold, map, take}
 use Rattle.ssb_formats.specs.Alignment.{narrow, widened}
-use Rattle.ssb_formats.specs.StatementCells.{texts_of}
+use Rattle.ssb_report.specs.StatementText.{texts_of}
 use Rattle.ssb_formats.proofs.statement_cells.alignments.Given as goal
 
 abbrev pub invariant-loop-row : goal.invariant-loop-row

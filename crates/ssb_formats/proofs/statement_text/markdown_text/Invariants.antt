@@ -1,6 +1,6 @@
 use Rattle.std.proofs.Common.{◌≡◌, ◌++◌, flat_map, take}
 use Rattle.ssb_formats.specs.MarkdownText.{line_text, rule_text}
-use Rattle.ssb_formats.specs.StatementCells.{texts_of}
+use Rattle.ssb_report.specs.StatementText.{texts_of}
 use Rattle.ssb_formats.proofs.statement_text.markdown_text.Given as goal
 
 abbrev pub invariant-loop-row : goal.invariant-loop-row

@@ -1,6 +1,6 @@
 use Rattle.std.proofs.Common.{◌≡◌, ◌++◌, flat_map, take}
 use Rattle.ssb_formats.specs.Alignment.{aligned_line}
-use Rattle.ssb_formats.specs.StatementCells.{texts_of}
+use Rattle.ssb_report.specs.StatementText.{texts_of}
 use Rattle.ssb_formats.specs.TableText.{rule_text}
 use Rattle.ssb_formats.proofs.statement_text.push_grid.Given as goal
 

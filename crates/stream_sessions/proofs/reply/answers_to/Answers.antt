@@ -1,7 +1,5 @@
-use Rattle.std.proofs.Common.{◌≡◌, ◌++◌, ◌∙◌, length, ap, subst, arith}
-use Rattle.history_core.specs.Events.{Questions}
+use Rattle.std.proofs.Common.{◌≡◌, ◌++◌, ◌∙◌, length, ap, arith}
 use Rattle.history_core.specs.Responses.{answers_in}
-use Rattle.stream_sessions.specs.Served.{IsAnswered}
 use Rattle.stream_sessions.proofs.RequestLaws.{answered, asked_same}
 use Rattle.stream_sessions.proofs.reply.answers_to.Goals as goal
 
@@ -21,6 +19,5 @@ returns-clause-answered g c =
     let are : c.put_answers.new.answers.items ≡ answers_in c.await_answer-response.result =
     c.put_answers.ensures ∙ ap (λ l. l ++ answers_in c.await_answer-response.result)
     c.in_ok-answers.ensures.items in
-    subst (λ (questions : Questions). IsAnswered c.args.client.now questions c.put_answers.new.answers.items
-    c.await_answer-response.new.self) c.in_ok-questions.ensures (answered _ _ _ _ _ _ c.ask.ensures.asked
-    c.soundness.ensures c.await_answer-response.ensures.polled c.soundness-2.ensures are)
+    answered _ _ _ _ _ _ c.ask.ensures.asked c.soundness.ensures c.await_answer-response.ensures.polled
+    c.soundness-2.ensures are
