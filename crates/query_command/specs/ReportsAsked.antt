@@ -1,21 +1,15 @@
 -- What several reports are, each an answer or the rows of a statement.
-use Rattle.std.specs.Prelude.{⊤, ◌≡◌, ℕ, Bool, true, false, List, [], ◌∷◌, map, option_map, slice_get, unwrap_or}
+use Rattle.std.specs.Prelude.{⊤, ◌≡◌, ℕ, List, [], ◌∷◌, map}
 use Rattle.ssb_base.specs.Base.{Tables}
-use Rattle.ssb_schema.specs.declared.column.Column.{Column}
 use Rattle.ssb_questions.specs.declared.query.Query.{Query}
 use Rattle.ssb_questions.specs.declared.value.Value.{Value}
 use Rattle.ssb_answers.specs.declared.answer.Answer.{Answer}
-use Rattle.ssb_formats.specs.Cells.{takes_numbers}
 use Rattle.ssb_formats.specs.Reports.{reports_shown}
 use Rattle.ssb_formats.specs.Titled.{board_shown}
 use Rattle.ssb_formats.specs.declared.format.Format.{Format}
 use Rattle.ssb_formats.specs.declared.reports.Reported.{Reported}
 use Rattle.ssb_formats.specs.declared.reports.Reported.TheVariants.{Answered, Listed}
-use Rattle.ssb_formats.specs.declared.reports.StatementRows.{StatementRows}
-use Rattle.ssb_sql.specs.declared.statement.Shown.{Shown}
-use Rattle.ssb_sql.specs.declared.statement.Shown.TheVariants.{Group, Sum, Count, Average}
-use Rattle.ssb_sql.specs.declared.statement.Statement.{Statement}
-use Rattle.ssb_statements.specs.Arranged.{AreArranged}
+use Rattle.ssb_statements.specs.Listing.{HasRows, rows_of}
 use Rattle.query_command.specs.Reported.{opening_answer}
 use Rattle.query_command.specs.declared.asking.ReportAsked.{ReportAsked}
 use Rattle.query_command.specs.declared.asking.ReportAsked.TheVariants as asked
@@ -25,27 +19,12 @@ abbrev pub questions_in : ReportAsked → List (Query × List Value)
 questions_in (asked.Question question) = question ∷ []
 questions_in (asked.Statement statement) = statement.questions.items
 
--- whether a printed column has numbers
-abbrev pub is_number : List Column → Shown → Bool
-is_number groups (Group place) = unwrap_or (option_map takes_numbers (slice_get groups place)) false
-is_number groups (Sum place) = true
-is_number groups (Count place) = true
-is_number groups (Average sum lines) = true
-
--- rows are those of a statement, whose questions have these answers, after so many commits
-pub record HasRows (statement : Statement) (answers : List Answer) (after : ℕ) (rows : StatementRows) : Type 0 where
-  pub heads : rows.heads.items ≡ statement.heads.items
-  pub are_numbers : rows.are_numbers.items ≡ map (is_number statement.groups.items) statement.shown.items
-  pub at : rows.at ≡ after
-  pub arranged : AreArranged answers statement.shown.items statement.having.items statement.order.items statement.limit
-      rows.rows.items
-
 -- a report is what is asked, of these answers to its questions
 abbrev pub IsReported : List Answer → ℕ → ReportAsked → Reported → Type 0
 IsReported answers after (asked.Question question) (Answered answer) = answers ≡ answer.now ∷ []
 IsReported answers after (asked.Question question) (Listed rows) = ⊥
 IsReported answers after (asked.Statement statement) (Answered answer) = ⊥
-IsReported answers after (asked.Statement statement) (Listed rows) = HasRows statement answers after rows
+IsReported answers after (asked.Statement statement) (Listed rows) = HasRows statement answers after (rows_of rows)
 
 -- each report is what is asked in its place, where questions are answered so
 abbrev pub AreReported : (Query × List Value → Answer) → ℕ → List ReportAsked → List Reported → Type 0

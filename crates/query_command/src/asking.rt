@@ -2,19 +2,17 @@
 
 ghost use Rattle.std.specs.Prelude.{◌≡◌, ◌∷◌, ◌++◌, [], List, IfOk, OnOk, flat_map, map};
 ghost use Rattle.query_command.specs.ReportsAsked as spec;
-ghost use Rattle.query_command.specs.ReportsAsked.{AreReported, HasRows};
+ghost use Rattle.query_command.specs.ReportsAsked.{AreReported};
 ghost use Rattle.ssb_answers.specs.declared.answer.Answer.{Answer};
 ghost use Rattle.ssb_formats.specs.declared.reports.Reported.{Reported};
 ghost use Rattle.ssb_questions.specs.declared.query.Query.{Query};
 ghost use Rattle.ssb_questions.specs.declared.value.Value.{Value};
 
 use ssb_answers::Answer;
-use ssb_formats::{Reported, StatementRows};
-use ssb_questions::clause::kind_in;
-use ssb_questions::{ConstantKind, Question};
-use ssb_schema::Column;
-use ssb_sql::{Shown, Statement};
-use ssb_statements::arranged;
+use ssb_formats::Reported;
+use ssb_questions::Question;
+use ssb_sql::Statement;
+use ssb_statements::statement_rows;
 use std::alloc::{AllocError, Global};
 
 /// What is reported.
@@ -24,29 +22,6 @@ pub enum ReportAsked {
     Question(Question),
     /// The rows of a statement.
     Statement(Statement),
-}
-
-// Whether a printed column has numbers.
-fn is_number(groups: &[Column], shown: Shown) -> bool
-    ensures { result ≡ spec.is_number groups.now shown }
-{
-    match shown {
-        Shown::Group(place) => match groups.get(place) {
-            Some(column) => matches!(kind_in(*column), ConstantKind::Number),
-            None => false,
-        },
-        Shown::Sum(_) | Shown::Count(_) | Shown::Average(_, _) => true,
-    }
-}
-
-fn number_flags(alloc: Global, groups: &[Column], shown: &[Shown]) -> Result<Vec<bool>, AllocError>
-    ensures { IfOk result (λ flags. flags.items ≡ map (spec.is_number groups.now) shown.now) }
-{
-    let mut flags = Vec::new(alloc);
-    for one in shown {
-        flags.push(is_number(groups, *one))?;
-    }
-    Ok(flags)
 }
 
 // The questions of what is asked.
@@ -84,28 +59,6 @@ pub(crate) fn questions_of(
     Ok(questions)
 }
 
-// The rows of a statement, of the answers to its questions, which are after so many commits.
-fn rows_of(
-    alloc: Global,
-    statement: &Statement,
-    answers: &[Answer],
-    after: u64,
-) -> Result<StatementRows, AllocError>
-    ensures { IfOk result (λ rows. HasRows statement.now answers.now after rows) }
-{
-    let rows = arranged(alloc, statement, answers)?;
-    let groups = statement.groups.as_slice();
-    let columns = statement.shown.as_slice();
-    let are_numbers = number_flags(alloc, groups, columns)?;
-    let heads = statement.heads.clone()?;
-    Ok(StatementRows {
-        heads,
-        are_numbers,
-        at: after,
-        rows,
-    })
-}
-
 // Adds what the answers to the questions of a report make of it. Each question has one, so nothing is left out.
 fn push_report<'a>(
     alloc: Global,
@@ -126,7 +79,7 @@ fn push_report<'a>(
             }
         }
         ReportAsked::Statement(statement) => {
-            let rows = rows_of(alloc, statement, answers, after)?;
+            let rows = statement_rows(alloc, statement, answers, after)?;
             reports.push(Reported::Listed(rows))?;
         }
     }

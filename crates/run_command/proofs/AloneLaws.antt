@@ -28,7 +28,7 @@ use Rattle.std.specs.Option.{is_some}
 use Rattle.history_core.specs.declared.event.Who.TheVariants.{Client}
 use Rattle.ssb_script.specs.Requests.{RequestRecord, Refresh, Ask, Abort, questions_in}
 use Rattle.ssb_script.specs.declared.request.Asking.{Asking}
-use Rattle.ssb_report.specs.Replies.{Reply, Refreshed, Answered, Aborted, AreAnswers, IsReply, committed_by}
+use Rattle.ssb_report.specs.Replies.{Reply, Refreshed, Answered, Listed, Aborted, AreAnswers, IsReply, committed_by}
 use Rattle.ssb_report.specs.Replies.{with_commits}
 use Rattle.ssb_report.specs.Replies.{warehouse_answer}
 use Rattle.ssb_report.specs.Report.{AreReplies, committed}
@@ -186,13 +186,28 @@ are_one_threads old new (Refresh actions ∷ requests) (Refreshed reply ∷ repl
     (are_one_threads mid new requests replies served.2 still (asked_nothing mid.asked alike.quiet))
 are_one_threads old new (Ask asking ∷ requests) (Answered answers ∷ replies) served alone quiet =
     let mid = served.0 in
-    let is = served.1 in
+    let is = served.1.1 in
     let questions = questions_in asking in
     let alike = answered_alike old is.asking mid questions is.response is.asked is.polled in
     let still = alone_still old mid alike alone in
-    one_more old mid new (Ask asking) (Answered answers) requests replies
-    (answered_reply old is.asking mid questions is.response answers is.asked is.polled alone is.asking_sound is.sound
-    is.answers_are)
+    one_more old mid new (Ask asking) (Answered answers) requests replies (
+      served.1.0,
+      answered_reply old is.asking mid questions is.response answers is.asked is.polled alone is.asking_sound is.sound
+          is.answers_are,
+    )
+    (answered_own old is.asking mid asking is.response answers is.asked is.polled)
+    (are_one_threads mid new requests replies served.2 still (asked_nothing mid.asked alike.quiet))
+are_one_threads old new (Ask asking ∷ requests) (Listed answers listing ∷ replies) served alone quiet =
+    let mid = served.0 in
+    let is = served.1.1 in
+    let questions = questions_in asking in
+    let alike = answered_alike old is.asking mid questions is.response is.asked is.polled in
+    let still = alone_still old mid alike alone in
+    one_more old mid new (Ask asking) (Listed answers listing) requests replies (
+      served.1.0,
+      answered_reply old is.asking mid questions is.response answers is.asked is.polled alone is.asking_sound is.sound
+          is.answers_are,
+    )
     (answered_own old is.asking mid asking is.response answers is.asked is.polled)
     (are_one_threads mid new requests replies served.2 still (asked_nothing mid.asked alike.quiet))
 are_one_threads old new (Abort ∷ requests) (Aborted ∷ replies) served alone quiet =
@@ -207,6 +222,9 @@ are_one_threads old new (Ask asking ∷ requests) (Refreshed reply ∷ replies) 
 are_one_threads old new (Ask asking ∷ requests) (Aborted ∷ replies) served alone quiet = absurd served.1
 are_one_threads old new (Abort ∷ requests) (Refreshed reply ∷ replies) served alone quiet = absurd served.1
 are_one_threads old new (Abort ∷ requests) (Answered answers ∷ replies) served alone quiet = absurd served.1
+are_one_threads old new (Abort ∷ requests) (Listed answers listing ∷ replies) served alone quiet = absurd served.1
+are_one_threads old new (Refresh actions ∷ requests) (Listed answers listing ∷ replies) served alone quiet =
+    absurd served.1
 
 pub alone_sees_its_own : AloneSeesItsOwn
 alone_sees_its_own t alone sound = sym (alone_sees t alone sound)

@@ -25,7 +25,7 @@ use Rattle.history.specs.Words.{request}
 use Rattle.history.specs.declared.request.PostedRequest.{PostedRequest as Asked}
 use Rattle.history.proofs.HistoryLaws.{prefix_trans}
 use Rattle.ssb_script.specs.Requests.{RequestRecord, Refresh, Ask, Abort, questions_in}
-use Rattle.ssb_report.specs.Replies.{Reply, Refreshed, Answered, Aborted}
+use Rattle.ssb_report.specs.Replies.{Reply, Refreshed, Answered, Listed, Aborted}
 use Rattle.ssb_audit.specs.declared.trace.Told.{Told}
 use Rattle.ssb_audit.specs.Legal.{IsTrueOf, NeverGoBack}
 use Rattle.ssb_clients.specs.Clients as client
@@ -119,7 +119,11 @@ one_goes : (number : ℕ) (before : TokenRecord) (request : RequestRecord) (repl
 one_goes number before (Refresh actions) (Refreshed reply) after served =
     refreshed_goes before number actions reply after served.0
 one_goes number before (Ask asking) (Answered answers) after served =
-    answered_goes before (questions_in asking) answers after served
+    answered_goes before (questions_in asking) answers after served.1
+one_goes number before (Ask asking) (Listed answers listing) after served =
+    answered_goes before (questions_in asking) answers after served.1
+one_goes number before (Refresh actions) (Listed answers listing) after served = absurd served
+one_goes number before Abort (Listed answers listing) after served = absurd served
 one_goes number before Abort Aborted after served = subst (Goes before) (sym served) (goes_nowhere before)
 one_goes number before (Refresh actions) (Answered answers) after served = absurd served
 one_goes number before (Refresh actions) Aborted after served = absurd served
@@ -133,7 +137,11 @@ one_told : (base : Tables) (number : ℕ) (before : TokenRecord) (request : Requ
     → AllByRecursion (IsBetween base number before after) (told_of number reply)
 one_told base number before (Refresh actions) (Refreshed reply) after over served = tt
 one_told base number before (Ask asking) (Answered answers) after over served =
-    answers_between base number before (questions_in asking) answers after over served
+    answers_between base number before (questions_in asking) answers after over served.1
+one_told base number before (Ask asking) (Listed answers listing) after over served =
+    answers_between base number before (questions_in asking) answers after over served.1
+one_told base number before (Refresh actions) (Listed answers listing) after over served = absurd served
+one_told base number before Abort (Listed answers listing) after over served = absurd served
 one_told base number before Abort Aborted after over served = tt
 one_told base number before (Refresh actions) (Answered answers) after over served = absurd served
 one_told base number before (Refresh actions) Aborted after over served = absurd served
@@ -212,8 +220,13 @@ one_orderly : (number : ℕ) (before : TokenRecord) (request : RequestRecord) (r
     → IsServed number before request reply after → Orderly (told_of number reply)
 one_orderly number before (Refresh actions) (Refreshed reply) after served = tt
 one_orderly number before (Ask asking) (Answered answers) after served =
-    subst (λ l. Orderly (flat_map (told_by number) l)) (sym served.answers_are)
-    (response_orderly number served.response)
+    subst (λ l. Orderly (flat_map (told_by number) l)) (sym served.1.answers_are)
+    (response_orderly number served.1.response)
+one_orderly number before (Ask asking) (Listed answers listing) after served =
+    subst (λ l. Orderly (flat_map (told_by number) l)) (sym served.1.answers_are)
+    (response_orderly number served.1.response)
+one_orderly number before (Refresh actions) (Listed answers listing) after served = absurd served
+one_orderly number before Abort (Listed answers listing) after served = absurd served
 one_orderly number before Abort Aborted after served = tt
 one_orderly number before (Refresh actions) (Answered answers) after served = absurd served
 one_orderly number before (Refresh actions) Aborted after served = absurd served

@@ -27,6 +27,7 @@ script_status _ = 1
 -- the same of the questions that are to stand
 abbrev pub questions_status : QuestionsError → ℕ
 questions_status (questions.NotAQuestion number) = 1
+questions_status (questions.Sql number why) = 1
 questions_status questions.Read = 4
 questions_status questions.OutOfMemory = 4
 

@@ -67,7 +67,7 @@ fn questions_status(fault: QuestionsError) -> u8
     ensures { result ≡ questions_status fault }
 {
     match fault {
-        QuestionsError::NotAQuestion(_) => 1,
+        QuestionsError::NotAQuestion(_) | QuestionsError::Sql(_, _) => 1,
         QuestionsError::Read | QuestionsError::OutOfMemory => 4,
     }
 }
@@ -129,7 +129,7 @@ impl fmt::Display for Fault {
 impl From<StandingError> for Fault {
     ghost from_gives = { λ error fault. status_of fault ≡ not_standing_status error };
 
-    // The record of a question has the number behind its place, which is counted from 0.
+    // Questions are counted from 1, and their places from 0.
     fn from(error: StandingError) -> Fault {
         match error {
             StandingError::OutOfMemory => Fault::OutOfMemory,

@@ -10,7 +10,8 @@ use std::alloc::Global;
 use std::fmt;
 use std::io::Read;
 
-/// The first of the questions that are to stand which has too many groups, by the number of its record.
+/// The first of the questions that are to stand which has too many groups, by its number; those of a statement follow one
+/// another.
 #[derive(Clone, Copy, Debug, PartialEq, Eq)]
 pub struct TooManyGroups(pub u64);
 
@@ -20,7 +21,7 @@ impl fmt::Display for TooManyGroups {
     }
 }
 
-/// The questions that the source asks, 1 to 64 `query` records and nothing else; or its first fault.
+/// The questions that the source asks, 1 to 64 by `query` and `sql` records and nothing else; or its first fault.
 pub fn read_standing<I: Read + Drop>(alloc: Global, source: I) -> Result<Vec<Question>, Fault>
     ensures questions { IfOk result (λ questions. AreAskedAlone (I.remaining source) questions.items) }
     ensures fault { IfErr result (IsStandingFault (I.remaining source)) }

@@ -10,10 +10,10 @@ use crate::reports::{EmptyAnswer, KeptReports, Reports, ToldRefusal};
 use csv::ByteRecord;
 use ssb_questions::Question;
 use ssb_schema::Refresh;
-use ssb_script::{MOST_RECORDS, Request, Script, read_questions, read_script};
+use ssb_script::{Asking, MOST_RECORDS, Request, Script, read_questions, read_script};
 use ssb_sql::statements_of;
 use ssb_text::{next_record, record_reader};
-use std::alloc::Global;
+use std::alloc::{AllocError, Global};
 use std::io::Write;
 use std::rt::Files;
 use std::{fmt, io};
@@ -51,6 +51,16 @@ fn script_of<F: Files + AllocGlobal>(
     Ok(read_script(files.alloc(), source, MOST_RECORDS).ok())
 }
 
+// A question for each report that is told of what is asked: those of a statement have one, and the same tests.
+fn told_questions(alloc: Global, asking: Asking) -> Result<Vec<Question>, AllocError> {
+    let is_statement = matches!(&asking, Asking::Statement(_));
+    let mut questions = asking.into_questions(alloc)?.into_vec();
+    if is_statement {
+        questions.truncate(1);
+    }
+    Ok(questions)
+}
+
 // Notes what the question asks that an answer of a run is to.
 fn note_answer<F: Files + AllocGlobal, E: Write>(
     files: &F,
@@ -65,7 +75,7 @@ fn note_answer<F: Files + AllocGlobal, E: Write>(
     let mut left = empty.answer;
     for request in script.requests {
         if let Request::Ask(asking) = request {
-            for question in asking.into_questions(files.alloc())?.as_slice() {
+            for question in told_questions(files.alloc(), asking)?.as_slice() {
                 left = left.saturating_sub(1);
                 if left == 0 {
                     return note_question(notes, question, true, err);
@@ -280,7 +290,7 @@ fn note_request<F: Files + AllocGlobal, E: Write>(
     let mut notes = Notes::new(ColumnValues::new(files, tables));
     for request in script.requests {
         if let Request::Ask(asking) = request {
-            for question in asking.into_questions(alloc)?.as_slice() {
+            for question in told_questions(alloc, asking)?.as_slice() {
                 note_question(&mut notes, question, true, err)?;
             }
         }

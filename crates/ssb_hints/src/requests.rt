@@ -39,8 +39,8 @@ impl<'a> fmt::Display for PromptHelp<'a> {
                 "{word} begins no request; help lists the words and the queries"
             ),
             PromptHelp::NoSql => f.write_str(
-                "there is no SQL at this prompt; star asks for sums here, as help star shows, and ssb_live query --sql \
-                 answers a statement",
+                "of SQL this prompt reads SELECT alone, up to its ;, over these tables; orders come and go between begin and \
+                 commit, as help begin shows",
             ),
             PromptHelp::NoTables => f.write_str(
                 "the tables are customer, supplier, part, date and lineorder; help star lists the columns that can be \
@@ -59,9 +59,9 @@ impl<'a> fmt::Display for PromptHelp<'a> {
     }
 }
 
-static SQL: [&str; 17] = [
-    "select", "insert", "update", "delete", "create", "drop", "alter", "with", "explain", "values",
-    "set", "use", "truncate", "merge", "grant", "copy", "pragma",
+static SQL: [&str; 16] = [
+    "insert", "update", "delete", "create", "drop", "alter", "with", "explain", "values", "set",
+    "use", "truncate", "merge", "grant", "copy", "pragma",
 ];
 
 static TABLES: [&str; 9] = [
@@ -96,8 +96,8 @@ fn request_words(alloc: Global) -> Result<Vec<&'static str>, AllocError> {
         words.push(query.name())?;
     }
     for word in [
-        "query", "begin", "ask", "format", "help", "status", "timing", "quit", "exit", "abort",
-        "commit", "add", "amend", "withdraw", "line", "answer",
+        "query", "select", "begin", "ask", "format", "help", "status", "timing", "quit", "exit",
+        "abort", "commit", "add", "amend", "withdraw", "line", "answer",
     ] {
         words.push(word)?;
     }

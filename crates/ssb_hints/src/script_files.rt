@@ -7,8 +7,11 @@ use crate::observed_files::ObservedFiles;
 use crate::paths::help_with_path;
 use crate::records::open_plain;
 use crate::script_help::ScriptHelp;
-use crate::scripts::{help_with_record, record_told, show_record, write_script_help};
-use ssb_script::{MOST_RECORDS, ScriptError, read_script};
+use crate::scripts::{
+    help_with_record, help_with_sql, record_told, show_record, write_script_help,
+};
+use ssb_script::{MOST_RECORDS, Request, Script, ScriptError, read_script};
+use std::alloc::Global;
 use std::io;
 use std::io::Write;
 use std::rt::Files;
@@ -70,6 +73,60 @@ fn help_with_question<F: Files, E: Write>(
     write_line(err, &ScriptHelp::OnlyQuestions)
 }
 
+// Says what is wrong with the statement of a record.
+fn help_with_sql_record<F: Files, E: Write>(
+    files: &ObservedFiles<'_, F>,
+    path: &str,
+    number: &str,
+    err: &mut E,
+) -> io::Result<()> {
+    let Ok(number) = number.parse::<u64>() else {
+        return Ok(());
+    };
+    let source = open_plain(files, path)?;
+    match show_record(files.alloc(), path, source, number, err)? {
+        Some(record) => help_with_sql(files.alloc(), &record, err),
+        None => Ok(()),
+    }
+}
+
+// The number of the record that asks the question of a number, where records ask one or more each.
+fn record_of_question(alloc: Global, script: Script, number: usize) -> io::Result<Option<u64>> {
+    let mut left = number;
+    let mut record = 0u64;
+    for request in script.requests {
+        record = record.saturating_add(1);
+        if let Request::Ask(asking) = request {
+            let count = asking.into_questions(alloc)?.len();
+            if left <= count {
+                return Ok(Some(record));
+            }
+            left = left.saturating_sub(count);
+        }
+    }
+    Ok(None)
+}
+
+// Shows the record that asks the question of a number that a fault has in words.
+fn show_question<F: Files, E: Write>(
+    files: &ObservedFiles<'_, F>,
+    path: &str,
+    number: &str,
+    err: &mut E,
+) -> io::Result<()> {
+    let alloc = files.alloc();
+    let Ok(number) = number.parse::<usize>() else {
+        return Ok(());
+    };
+    let Ok(script) = read_script(alloc, open_plain(files, path)?, MOST_RECORDS) else {
+        return Ok(());
+    };
+    if let Some(record) = record_of_question(alloc, script, number)? {
+        show_record(alloc, path, open_plain(files, path)?, record, err)?;
+    }
+    Ok(())
+}
+
 /// Says what is wrong with the file of the questions that are to stand, by the words of its fault.
 pub fn help_with_standing<F: Files, E: Write>(
     files: &ObservedFiles<'_, F>,
@@ -80,8 +137,9 @@ pub fn help_with_standing<F: Files, E: Write>(
     match words {
         ["75", ..] => help_with_path(files, path, err),
         ["98", _, number] => help_with_question(files, path, number, err),
+        ["79", _, number, ..] => help_with_sql_record(files, path, number, err),
         ["99", _, number] => {
-            show_told(files, path, number, err)?;
+            show_question(files, path, number, err)?;
             write_line(err, &ScriptHelp::TooManyGroups)
         }
         _ => Ok(()),

@@ -48,6 +48,8 @@ pub enum ScriptHelp<'a> {
     RequestTooLong,
     /// The server takes no refreshes.
     ReadOnly,
+    /// What a `sql` record takes, and where.
+    Statement,
     /// Only questions may stand.
     OnlyQuestions,
     /// A question that is to stand has too many groups.
@@ -58,12 +60,16 @@ pub enum ScriptHelp<'a> {
 fn said(help: &ScriptHelp<'_>) -> &'static str {
     match help {
         ScriptHelp::Words => {
-            "a record begins with query, ask, answer, begin, add, amend, line, withdraw, commit or abort, in a live \
+            "a record begins with query, sql, ask, answer, begin, add, amend, line, withdraw, commit or abort, in a live \
              session also with format, in small letters and without spaces"
         }
         ScriptHelp::Format =>
             "format stands alone, in a live session; it takes report, table, csv, json, markdown or bars",
         ScriptHelp::Key => "withdraw takes one field, the key of an order",
+        ScriptHelp::Statement => {
+            "sql takes the text of a statement, and stands alone, in no block; the questions of a statement are answered \
+             together"
+        }
         ScriptHelp::EmptyBlock => {
             "nothing stands between the first and the last line of the block; take both away, or put an action or a \
              question between them"
@@ -85,7 +91,7 @@ fn said(help: &ScriptHelp<'_>) -> &'static str {
              journal's disk, and start the server again"
         }
         ScriptHelp::OnlyQuestions =>
-            "a file of standing questions has 1 to 64 query records and no others",
+            "a file of standing questions has query and sql records alone, and 1 to 64 questions",
         ScriptHelp::TooManyGroups => {
             "it may have more than 65536 groups, of which no totals are kept; group it by fewer columns, test more, or \
              take it out: asked, it is answered all the same"
@@ -120,7 +126,7 @@ impl<'a> fmt::Display for ScriptHelp<'a> {
             }
             ScriptHelp::Place(word) => write!(
                 f,
-                "{word} is in a wrong place; query, ask and begin stand alone, add, amend and withdraw between begin \
+                "{word} is in a wrong place; query, sql, ask and begin stand alone, add, amend and withdraw between begin \
                  and commit, line below add or amend"
             ),
             ScriptHelp::NoEnd(path, number, word) => {

@@ -5,6 +5,7 @@ use crate::nearest::nearest;
 use crate::questions::{QuestionHelp, help_with_question};
 use crate::records::{record_of, text_at, texts_from};
 use crate::script_help::ScriptHelp;
+use crate::statements::help_with_statement;
 use csv::ByteRecord;
 use ssb_schema::{Column, Kind, SchemaFault, Table, number};
 use ssb_script::ScriptError;
@@ -14,9 +15,9 @@ use std::io;
 use std::io::{Read, Write};
 
 // The words that records begin with.
-const WORDS: [&str; 11] = [
-    "query", "begin", "add", "amend", "line", "withdraw", "commit", "ask", "answer", "abort",
-    "format",
+const WORDS: [&str; 12] = [
+    "query", "sql", "begin", "add", "amend", "line", "withdraw", "commit", "ask", "answer",
+    "abort", "format",
 ];
 
 // The column of a `line` record that is no number where one is wanted.
@@ -97,6 +98,7 @@ fn help_with_fields<E: Write>(
         ["line", rest @ ..] => help_with_line(alloc, record, rest.len(), err),
         ["withdraw", ..] => help_with_key(record, err),
         ["format", ..] => write_line(err, &ScriptHelp::Format),
+        ["sql", ..] => write_line(err, &ScriptHelp::Statement),
         [word] if stands_alone(word) => write_line(err, &ScriptHelp::Place(word)),
         [word, ..] if stands_alone(word) => write_line(err, &ScriptHelp::Alone(word)),
         [word, ..] => help_with_word(alloc, word, err),
@@ -155,13 +157,21 @@ fn help_with_schema<E: Write>(
     }
 }
 
+/// Says what is wrong with the statement of a `sql` record, which is read once more.
+pub fn help_with_sql<E: Write>(alloc: Global, record: &ByteRecord, err: &mut E) -> io::Result<()> {
+    let texts = texts_from(alloc, record, 1)?;
+    let text = texts.as_slice().join(alloc, "|")?;
+    help_with_statement(alloc, text.as_str(), err)
+}
+
 /// The number of the record that a fault is told of, from 1, where it is told of one.
 pub fn record_told(fault: &ScriptError) -> Option<u64> {
     match fault {
         ScriptError::BadLine(number)
         | ScriptError::EmptyBlock(number)
         | ScriptError::Row(number, _)
-        | ScriptError::TooManyQuestions(number) => Some(*number),
+        | ScriptError::TooManyQuestions(number)
+        | ScriptError::Sql(number, _) => Some(*number),
         _ => None,
     }
 }
@@ -178,6 +188,7 @@ pub fn write_record_help<E: Write>(
         ScriptError::EmptyBlock(_) => write_line(err, &ScriptHelp::EmptyBlock),
         ScriptError::Row(_, fault) => help_with_schema(alloc, record, *fault, err),
         ScriptError::TooManyQuestions(_) => write_line(err, &ScriptHelp::TooManyQuestions),
+        ScriptError::Sql(_, _) => help_with_sql(alloc, record, err),
         _ => Ok(()),
     }
 }

@@ -7,6 +7,7 @@
 //!               ├─ q1.1 1994 1 3 0 24            the session reads query|Q1.1|1994|1|3|0|24
 //!               ├─ star COUNT 'C_CITY=CHINA    0' the session reads query|star|COUNT|C_CITY=CHINA    0
 //!               ├─ withdraw 7;                   the session reads withdraw|7
+//!               ├─ SELECT .. and its lines to ;  the session reads sql|SELECT .. ;, on one line
 //!               └─ any other                     the session reads it as it was typed
 //! a reply ──────┬─ fault: .., refused at ..      help below it on the screen, about the request that was typed
 //!               └─ any other
@@ -33,6 +34,7 @@ mod quotes;
 mod record_word;
 mod request;
 mod request_help;
+mod statement;
 mod stopwatch;
 mod word;
 

@@ -1,9 +1,10 @@
 //! A terminal that is read: a prompt before each wait, and the words that are its own.
 
-use crate::fields::trimmed;
+use crate::fields::{are_alike, said, trimmed};
 use crate::on_demand::ShowsOnDemand;
 use crate::question::session_line;
 use crate::request::TypedRequest;
+use crate::statement::{TypedStatement, begins_statement};
 use crate::stopwatch::ReplyWatch;
 use crate::word::TerminalWord;
 use ssb_script::{BlockKind, begun_behind, ends_request};
@@ -24,6 +25,9 @@ const PROMPT: &str = "> ";
 const REFRESH_PROMPT: &str = "begin> ";
 
 const ASK_PROMPT: &str = "ask> ";
+
+// Where a statement goes on.
+const STATEMENT_PROMPT: &str = "sql> ";
 
 // What the session reads where the terminal does what a line says. It has no reply.
 const NOTHING: &[u8] = b"\n";
@@ -140,6 +144,27 @@ impl<'a, C: Clock, I: Read + Drop, E: Write + Drop, S: ShowsOnDemand> Prompted<'
         Ok(())
     }
 
+    // Takes the lines of a statement, of which the first was read, up to its end or that of the input; an `abort` in place
+    // of one drops it.
+    fn take_statement(&mut self) -> io::Result<()> {
+        let mut statement = TypedStatement::new(self.alloc)?;
+        for _ in 0..u64::MAX {
+            if are_alike(b"abort", said(self.line.as_slice())) {
+                self.ready.extend_from_slice(NOTHING)?;
+                return Ok(());
+            }
+            statement.add(self.line.as_slice())?;
+            if statement.has_ended() || self.line.is_empty() {
+                break;
+            }
+            let _ = self.screen.write_all(STATEMENT_PROMPT.as_bytes());
+            self.line.clear();
+            self.terminal.read_until(b'\n', &mut self.line)?;
+        }
+        self.line = statement.into_record()?;
+        self.hand_on()
+    }
+
     // Waits for the next line, and does what it says, or makes ready what a session reads for it.
     fn take_line(&mut self) -> io::Result<()> {
         self.line.clear();
@@ -152,6 +177,9 @@ impl<'a, C: Clock, I: Read + Drop, E: Write + Drop, S: ShowsOnDemand> Prompted<'
         self.terminal.read_until(b'\n', &mut self.line)?;
         match TerminalWord::typed(self.line.as_slice()) {
             Some(word) => self.obey(word),
+            None if self.begun.is_none() && begins_statement(self.line.as_slice()) => {
+                self.take_statement()
+            }
             None => self.hand_on(),
         }
     }
