@@ -7,6 +7,8 @@
             print(nation, year, revenue)
         first, second = live.ask_together(["Q1.1", ("Q2.1", "MFGR#12", "AMERICA")])
         assert first.at == second.at                # both are of one moment
+        top = live.ask_sql("SELECT d_year, sum(lo_revenue) AS revenue, count(*) FROM lineorder JOIN date "
+                           "ON lo_orderdate = d_datekey GROUP BY d_year ORDER BY revenue DESC LIMIT 3")
         with live.refresh() as refresh:             # committed at the end of the block, or Refused
             refresh.withdraw(7)
         print("commit", refresh.committed)
@@ -37,6 +39,7 @@ import errno
 import fcntl
 import functools
 import itertools
+import json
 import math
 import operator
 import os
@@ -385,6 +388,15 @@ def record_of(question):
     return "|".join(("query", question[0], *question[1]))
 
 
+def statement_of(text):
+    """A text of SQL as one line: a space stands for each end of a line outside of texts, and for a comment."""
+    def plain(found):
+        if found[1] and re.search(r"[\r\n]", found[1]):
+            raise WrongValue("a text of a statement has an end of a line")
+        return found[1] or " "
+    return re.sub(r"('[^']*')|--[^\r\n]*|/\*.*?\*/|[\r\n]+", plain, text, flags=re.DOTALL).strip()
+
+
 def value_of(column, field):
     if column not in NUMBERS:
         return field
@@ -537,6 +549,13 @@ class Connection:
         values that lines have are asked for, by a question more for each column."""
         return list(self._unknown(answer, time.monotonic() + self.timeout))
 
+    def ask_sql(self, text):
+        """The rows of a statement of SQL, under its heads. An average is the text of its digits."""
+        if not isinstance(text, str):
+            raise WrongType(f"the statement is {shown(text)}; a text is wanted", None, text)
+        record = f"sql|{statement_of(text)}"
+        return self._request(["format|json", record, "format|report"], 3, self._rows, told_of=[record])
+
     def refresh(self):
         """A refresh, for a `with` block: it is committed at the block's end, or Refused is raised there."""
         return Refresh(self)
@@ -590,15 +609,16 @@ class Connection:
                 told = ": " + ", ".join(values) if len(values) <= MOST_TOLD else ""
                 yield f"no line has {column} {value}; its {len(values)} values{told}"
 
-    def _request(self, records, replies, read, deadline=None):
-        """Sends the records of a request, and gives what `read` makes of its replies."""
+    def _request(self, records, replies, read, deadline=None, told_of=None):
+        """Sends the records of a request, and gives what `read` makes of its replies. A fault is told of one of these, or
+        of `told_of`."""
         request = "".join(f"{record}\n" for record in records).encode(errors="surrogatepass")
         if len(request) > MOST_BYTES:
             raise ProgrammingError(f"a request has at most {MOST_BYTES:,} bytes, and this one has {len(request):,}")
         try:
             return self._exchange(request, replies, lambda text: read(text.decode(errors="surrogateescape")), deadline)
         except (Fault, Refused) as told:
-            told.look_at(records)
+            told.look_at(told_of or records)
             raise
 
     def _exchange(self, request, replies, read, deadline=None):
@@ -624,6 +644,19 @@ class Connection:
             rows = [self._row(columns, next(lines)) for _ in range(int(found[3]))]
             answers.append(Answer(name, constants, at, columns, rows))
         return answers
+
+    def _rows(self, text):
+        """The answer to a statement, whose reply is an object of JSON between those to two words."""
+        line = text.split("\n")[1]
+        with contextlib.suppress(ValueError, AttributeError, KeyError, TypeError):
+            reply = json.loads(line)
+            if "fault" in reply:
+                self._raise(f"fault: {reply['fault']}")
+            if "unserved" in reply:
+                self._raise(f"sql unserved: {reply['unserved']}")
+            rows = list(map(tuple, reply["rows"]))
+            return Answer("sql", (), self._seen_now(reply["at"]), tuple(reply["columns"]), rows)
+        return self._raise(line)
 
     def _row(self, columns, line):
         fields = line.split("|")

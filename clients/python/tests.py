@@ -151,6 +151,25 @@ class Answers(Trial):
         self.assertIsInstance(told.exception, ImportError)
         self.assertEqual(len(answer.rows), 3)
 
+    def test_a_statement_has_its_heads_and_its_rows(self):
+        answer = self.live.ask_sql("""
+            SELECT c_nation, sum(lo_revenue) AS revenue, count(*), avg(lo_quantity)   -- ; by nation
+            FROM lineorder JOIN customer ON lo_custkey = c_custkey /* and
+            so on */ GROUP BY c_nation ORDER BY revenue;""")
+        self.assertEqual(answer.columns, ("C_NATION", "revenue", "COUNT", "AVG(LO_QUANTITY)"))
+        self.assertEqual([row[:2] for row in answer], [("CHINA", 1475), ("UNITED STATES", 2910)])
+        self.assertRegex(answer[0][3], r"\d+\.\d{4}")
+        self.assertEqual(self.live.ask_sql("SELECT count(*) FROM lineorder WHERE lo_quantity = 50").rows, [(0,)])
+        self.assertEqual(self.live.ask("Q1.1").rows, [(Q1_1,)])
+
+    def test_a_statement_that_is_none_is_a_fault(self):
+        with self.raises(ssb_live.Fault, "79 Sql 1 53 NotSupported 1 8") as told:
+            self.live.ask_sql("SELECT max(lo_revenue)\nFROM lineorder")
+        self.assertEqual((told.exception.number, told.exception.record), (79, "sql|SELECT max(lo_revenue) FROM lineorder"))
+        with self.raises(ssb_live.ProgrammingError, "end of a line"):
+            self.live.ask_sql("SELECT count(*) FROM lineorder, customer WHERE lo_custkey = c_custkey AND c_city = 'A\nB'")
+        self.assertEqual(self.live.ask("Q1.1").rows, [(Q1_1,)])
+
     def test_constants_are_sent_as_they_are(self):
         self.assertEqual(self.live.ask("Q1.1", 1994, 1, 1, 0, 24).rows, [(500,)])
         self.assertEqual(self.live.ask("star", "COUNT", "C_CITY=CHINA    0", "ORDER=SUM").rows, [(2,)])
