@@ -70,11 +70,20 @@ impl<'a> ChangedWord<'a> {
     }
 }
 
+/// How signed lines are written.
+#[derive(Clone, Copy)]
+pub enum LinesFormatWord {
+    Report,
+    Csv,
+    Json,
+}
+
 /// The words of `changes`.
 #[derive(Drop)]
 pub struct ChangesWords<'a> {
     pub changed: ChangedWord<'a>,
     pub start: StartWord,
+    pub format: LinesFormatWord,
     pub quiet: bool,
     pub hints: HintsWord,
 }
@@ -85,6 +94,15 @@ fn start_of(matches: &ArgMatches<'_>) -> StartWord {
         return StartWord::Base;
     }
     StartWord::After(matches.get_one::<u64>("after").unwrap_or(0))
+}
+
+// The format that the words name; without the word it is the report.
+fn format_of(matches: &ArgMatches<'_>) -> LinesFormatWord {
+    match word_of(matches, "format") {
+        "csv" => LinesFormatWord::Csv,
+        "json" => LinesFormatWord::Json,
+        _ => LinesFormatWord::Report,
+    }
 }
 
 // Where groups come from; the grammar lets no two words through.
@@ -112,6 +130,7 @@ pub(crate) fn changes_words<'a>(
     Ok(ChangesWords {
         changed: changed_of(alloc, matches)?,
         start: start_of(matches),
+        format: format_of(matches),
         quiet: matches.get_flag("quiet"),
         hints: hints_of(matches),
     })

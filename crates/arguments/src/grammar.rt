@@ -487,6 +487,17 @@ fn behind() -> Word {
     )
 }
 
+// How signed lines are written.
+fn lines_format() -> Word {
+    Word::text(
+        "format",
+        &["FORMAT"],
+        "How the lines are written: csv and json with the names of their fields",
+    )
+    .named(&["report", "csv", "json"])
+    .or("report")
+}
+
 // The words of `changes`.
 fn changes<'a>(alloc: Global, program: Command<'a>) -> Result<Command<'a>, AllocError> {
     let words = [
@@ -502,6 +513,7 @@ fn changes<'a>(alloc: Global, program: Command<'a>) -> Result<Command<'a>, Alloc
             "The loaded lines first, as those of commit 0; with --store those of the newest tables",
         )
         .not_beside(&["after"]),
+        lines_format(),
         quiet(),
         hints(),
         no_hints(),

@@ -194,10 +194,13 @@ With --store the tables and the commits are those of a store, with which a serve
 first commit. What lies before its oldest tables is gone. Begin there with --base: the lines of its newest tables come
 first, as those of the commit that these are after.
 
+With --format csv the fields are parted by commas, below a line with their names: COMMIT, SIGN, and those of a line
+order, LO_ORDERKEY and so on. With --format json each line is an object whose members have these names.
+
 Examples:
   ssb_live changes --data tables --journal orders.journal --base
   ssb_live changes --data tables --journal orders.journal --after 1204
-  ssb_live changes --store warehouse --base
+  ssb_live changes --store warehouse --base --format csv > signed.csv
   ssb_live ship --journal orders.journal | ssb_live changes --data tables --feed -";
 
 /// What `ship --help` shows.

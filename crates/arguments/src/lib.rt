@@ -25,7 +25,7 @@ mod ship;
 mod store;
 mod word;
 
-pub use changes::{ChangedWord, ChangesWords, GroupsWord, StartWord};
+pub use changes::{ChangedWord, ChangesWords, GroupsWord, LinesFormatWord, StartWord};
 pub use help::{REFRESH_HELP, SCHEMA_HELP, STAR_HELP, TERMINAL_HELP};
 pub use job::{
     AuditWords, ExplainWords, ExportWords, ExportedWord, FormatWord, HintsWord, Job, JournalWord,

@@ -8,8 +8,10 @@ use Rattle.row_store.specs.Lines.{added_by, lines_after_action, lines_after_refr
 use Rattle.ssb_base.specs.Base.{Tables}
 use Rattle.ssb_schema.specs.declared.line.LineFields.{LineFields}
 use Rattle.ssb_schema.specs.declared.refresh.Action.{Action}
-use Rattle.changes_command.specs.Signed.{SignedLine, asked_of, changes_behind, changes_by_all, changes_text}
+use Rattle.changes_command.specs.Signed.{SignedLine, asked_of, changes_behind, changes_by_all}
+use Rattle.changes_command.specs.SignedText.{lines_text}
 use Rattle.changes_command.specs.Signed.{is_asked, signed, taken_by}
+use Rattle.changes_command.specs.declared.format.ChangesFormat.{ChangesFormat}
 use Rattle.changes_command.specs.declared.signed.ChangesStart.{ChangesStart}
 use Rattle.changes_command.specs.declared.signed.Sign.{Sign}
 use Rattle.changes_command.specs.declared.signed.Sign.TheVariants.{Came, Went}
@@ -20,10 +22,10 @@ pub asked_both : (start : ChangesStart) (one other : List SignedLine)
 asked_both start one other = filter-append (λ (l : SignedLine). is_asked start l.commit) one other
 
 -- the text of what is asked for, some and then others
-pub asked_text : (start : ChangesStart) (one other : List SignedLine) → changes_text (asked_of start (one ++ other))
-    ≡ changes_text (asked_of start one) ++ changes_text (asked_of start other)
-asked_text start one other =
-    ap changes_text (asked_both start one other) ∙ text_both (asked_of start one) (asked_of start other)
+pub asked_text : (format : ChangesFormat) (start : ChangesStart) (one other : List SignedLine) → lines_text format (asked_of start (one ++ other))
+    ≡ lines_text format (asked_of start one) ++ lines_text format (asked_of start other)
+asked_text format start one other =
+    ap (lines_text format) (asked_both start one other) ∙ text_both format (asked_of start one) (asked_of start other)
 
 -- all of what one commit changes is asked for, or none
 pub all_asked : (start : ChangesStart) (commit : ℕ) (sign : Sign) (lines : List LineFields)
@@ -93,22 +95,22 @@ lines_after_more base history more =
     fold-append (λ now (commit : CommitRecord). lines_after_refresh now commit.actions) base.lines history more
 
 -- the text of what one commit more changes
-pub text_of_next : (start : ChangesStart) (before : ℕ) (lines : List LineFields) (front : List CommitRecord)
-    (commit : CommitRecord) → changes_text (asked_of start (changes_behind before lines (front ++ commit ∷ [])))
-    ≡ changes_text (asked_of start (changes_behind before lines front)) ++ changes_text
+pub text_of_next : (format : ChangesFormat) (start : ChangesStart) (before : ℕ) (lines : List LineFields) (front : List CommitRecord)
+    (commit : CommitRecord) → lines_text format (asked_of start (changes_behind before lines (front ++ commit ∷ [])))
+    ≡ lines_text format (asked_of start (changes_behind before lines front)) ++ lines_text format
     (asked_of start (changes_by_all (before + length front + 1) (lines_behind lines front) commit.actions))
-text_of_next start before lines front commit =
+text_of_next format start before lines front commit =
     let own = changes_by_all (before + length front + 1) (lines_behind lines front) commit.actions in
-    ap (λ l. changes_text (asked_of start l)) (behind_both before lines front (commit ∷ [])
+    ap (λ l. lines_text format (asked_of start l)) (behind_both before lines front (commit ∷ [])
     ∙ ap (λ l. changes_behind before lines front ++ l) (append-nil own))
-    ∙ asked_text start (changes_behind before lines front) own
+    ∙ asked_text format start (changes_behind before lines front) own
 
 -- the text of what more commits change comes behind that of others
-pub text_behind : (start : ChangesStart) (past : ℕ) (base : Tables) (history more : List CommitRecord)
-    → changes_text (asked_of start (changes_behind past base.lines (history ++ more)))
-    ≡ changes_text (asked_of start (changes_behind past base.lines history))
-    ++ changes_text (asked_of start (changes_behind (past + length history) (lines_after base history) more))
-text_behind start past base history more =
-    ap (λ l. changes_text (asked_of start l)) (behind_both past base.lines history more)
-    ∙ asked_text start (changes_behind past base.lines history)
+pub text_behind : (format : ChangesFormat) (start : ChangesStart) (past : ℕ) (base : Tables) (history more : List CommitRecord)
+    → lines_text format (asked_of start (changes_behind past base.lines (history ++ more)))
+    ≡ lines_text format (asked_of start (changes_behind past base.lines history))
+    ++ lines_text format (asked_of start (changes_behind (past + length history) (lines_after base history) more))
+text_behind format start past base history more =
+    ap (λ l. lines_text format (asked_of start l)) (behind_both past base.lines history more)
+    ∙ asked_text format start (changes_behind past base.lines history)
     (changes_behind (past + length history) (lines_after base history) more)

@@ -11,7 +11,9 @@ use Rattle.ssb_journal.specs.Replays.{IsReplayFault}
 use Rattle.ssb_journal.specs.declared.replaying.ReplayFault.{ReplayFault}
 use Rattle.ssb_schema.specs.declared.refresh.Action.{Action}
 use Rattle.ssb_text.proofs.WrittenLaws.{appends_both}
-use Rattle.changes_command.specs.Signed.{asked_of, changes_behind, changes_by_all, changes_text}
+use Rattle.changes_command.specs.Signed.{asked_of, changes_behind, changes_by_all}
+use Rattle.changes_command.specs.SignedText.{lines_text}
+use Rattle.changes_command.specs.declared.format.ChangesFormat.{ChangesFormat}
 use Rattle.changes_command.specs.declared.signed.ChangesStart.{ChangesStart}
 use Rattle.changes_command.proofs.AskedLaws.{lines_after_more, lines_behind, text_of_next}
 use Rattle.changes_command.proofs.FaultLaws.{refused_of_more}
@@ -81,37 +83,37 @@ made_is_accepted store new part commit actions made one same legal =
     subst (λ l. refusal_of store.base store.log l ≡ None) (sym same) accepted
 
 -- what one commit more changes
-pub next_written : (start : ChangesStart) (past : ℕ) (base : Tables) (log commits : List CommitRecord)
+pub next_written : (format : ChangesFormat) (start : ChangesStart) (past : ℕ) (base : Tables) (log commits : List CommitRecord)
     (store : Warehouse) (i : ℕ) (commit : CommitRecord) (actions : List Action) (a b e : Option (List ℕ))
     → i < length commits → commit ≡ get_or commits i commit → store ≡ record { base = base; log = log ++ take i commits }
     → actions ≡ commit.actions
-    → Appends a b (changes_text (asked_of start (changes_behind (past + length log) (lines_after base log)
+    → Appends a b (lines_text format (asked_of start (changes_behind (past + length log) (lines_after base log)
     (take i commits))))
-    → Appends b e (changes_text (asked_of start (changes_by_all (past + length store.log + 1)
+    → Appends b e (lines_text format (asked_of start (changes_by_all (past + length store.log + 1)
     (lines_after store.base store.log) actions)))
-    → Appends a e (changes_text (asked_of start (changes_behind (past + length log) (lines_after base log)
+    → Appends a e (lines_text format (asked_of start (changes_behind (past + length log) (lines_after base log)
     (take (i + 1) commits))))
-next_written start past base log commits store i commit actions a b e within is_there is same so_far more =
+next_written format start past base log commits store i commit actions a b e within is_there is same so_far more =
     let front = take i commits in
     let lines = lines_after base log in
     let before = past + length log in
     let next : take (i + 1) commits ≡ front ++ commit ∷ [] =
     take_more commits i commit within ∙ ap (λ c. front ++ c ∷ []) (sym is_there) in
-    let moved : Appends b e (changes_text (asked_of start (changes_by_all (past + length (log ++ front) + 1)
+    let moved : Appends b e (lines_text format (asked_of start (changes_by_all (past + length (log ++ front) + 1)
     (lines_after base (log ++ front)) actions)))
-    = subst (λ (s : Warehouse). Appends b e (changes_text (asked_of start (changes_by_all (past + length s.log + 1)
+    = subst (λ (s : Warehouse). Appends b e (lines_text format (asked_of start (changes_by_all (past + length s.log + 1)
     (lines_after s.base s.log) actions)))) is more in
     let many : past + length (log ++ front) ≡ before + length front = omega (arith, length-append log front) in
-    let own : Appends b e (changes_text (asked_of start (changes_by_all (before + length front + 1)
+    let own : Appends b e (lines_text format (asked_of start (changes_by_all (before + length front + 1)
     (lines_behind lines front) commit.actions)))
-    = subst (λ l. Appends b e (changes_text (asked_of start (changes_by_all (before + length front + 1)
+    = subst (λ l. Appends b e (lines_text format (asked_of start (changes_by_all (before + length front + 1)
     (lines_behind lines front) l)))) same
-    (subst (λ l. Appends b e (changes_text (asked_of start (changes_by_all (before + length front + 1) l actions))))
+    (subst (λ l. Appends b e (lines_text format (asked_of start (changes_by_all (before + length front + 1) l actions))))
     (lines_after_more base log front)
-    (subst (λ n. Appends b e (changes_text (asked_of start (changes_by_all (n + 1) (lines_after base (log ++ front))
+    (subst (λ n. Appends b e (lines_text format (asked_of start (changes_by_all (n + 1) (lines_after base (log ++ front))
     actions)))) many moved)) in
-    subst (λ l. Appends a e (changes_text (asked_of start (changes_behind before lines l)))) (sym next)
-    (subst (Appends a e) (sym (text_of_next start before lines front commit))
-    (appends_both a b e (changes_text (asked_of start (changes_behind before lines front)))
-    (changes_text (asked_of start (changes_by_all (before + length front + 1) (lines_behind lines front)
+    subst (λ l. Appends a e (lines_text format (asked_of start (changes_behind before lines l)))) (sym next)
+    (subst (Appends a e) (sym (text_of_next format start before lines front commit))
+    (appends_both a b e (lines_text format (asked_of start (changes_behind before lines front)))
+    (lines_text format (asked_of start (changes_by_all (before + length front + 1) (lines_behind lines front)
     commit.actions))) so_far own))

@@ -12,26 +12,27 @@ use Rattle.changes_command.specs.Fed.{EndsWhole, Feeds, IsFeedRefusal, TellsFeed
 use Rattle.changes_command.specs.Written.{IsFileRefusal, IsWritten, TellsFileFault}
 use Rattle.changes_command.specs.declared.fault.ChangesRefusal.{ChangesRefusal}
 use Rattle.changes_command.specs.declared.feed_fault.FeedRefusal.{FeedRefusal}
+use Rattle.changes_command.specs.declared.format.ChangesFormat.{ChangesFormat}
 use Rattle.changes_command.specs.declared.signed.ChangesStart.{ChangesStart}
 
 -- what is told of a file is told of a stream
-pub as_of_file : (base : Tables) (marks : List TableMark) (known : Option (List ℕ)) (start : ChangesStart)
+pub as_of_file : (base : Tables) (marks : List TableMark) (known : Option (List ℕ)) (past : ℕ) (start : ChangesStart)
     (why : JobFault ChangesRefusal) (told : JobFault FeedRefusal)
-    → ((b : Tables) (m : List TableMark) (stream : List ℕ) (s : ChangesStart) → TellsFileFault b m stream 0 s why
-    → TellsStreamFault b m stream s told)
-    → IsFileRefusal base marks known 0 start why → IsFeedRefusal base marks known start told
-as_of_file base marks known start why told same is = record {
+    → ((b : Tables) (m : List TableMark) (stream : List ℕ) (p : ℕ) (s : ChangesStart)
+    → TellsFileFault b m stream p s why → TellsStreamFault b m stream p s told)
+    → IsFileRefusal base marks known past start why → IsFeedRefusal base marks known past start told
+as_of_file base marks known past start why told same is = record {
   stream = is.file;
   is_stream = is.is_file;
-  told = same base marks is.file start is.told;
+  told = same base marks is.file past start is.told;
 }
 
 -- over the tables that were loaded
-pub feeds_of : (texts : Table → List ℕ) (known held_known : Option (List ℕ)) (base held : Tables) (marks : List TableMark)
-    (stream : List ℕ) (start : ChangesStart) (old new : Option (List ℕ)) → IsLoadedToServe texts base → AreMarks base marks
+pub feeds_of : (format : ChangesFormat) (texts : Table → List ℕ) (known held_known : Option (List ℕ)) (base held : Tables) (marks : List TableMark)
+    (stream : List ℕ) (past : ℕ) (start : ChangesStart) (old new : Option (List ℕ)) → IsLoadedToServe texts base → AreMarks base marks
     → HaveChecksums texts marks → held_known ≡ known → IsKnown held_known stream → held ≡ base → EndsWhole stream
-    → IsWritten held marks stream 0 start old new → Feeds texts known start old new
-feeds_of texts known held_known base held marks stream start old new loaded marked checked whose is_stream same whole
+    → IsWritten held marks stream past start format old new → Feeds texts known past start format old new
+feeds_of format texts known held_known base held marks stream past start old new loaded marked checked whose is_stream same whole
     written = record {
       base = base;
       loaded = loaded;
@@ -42,23 +43,23 @@ feeds_of texts known held_known base held marks stream start old new loaded mark
         stream = stream;
         is_stream = subst (λ (k : Option (List ℕ)). IsKnown k stream) whose is_stream;
         whole = whole;
-        is = subst (λ (t : Tables). IsWritten t marks stream 0 start old new) same written;
+        is = subst (λ (t : Tables). IsWritten t marks stream past start format old new) same written;
       };
     }
 
 -- what a fault of a stream tells of the texts
 pub feed_fault_tells : (texts : Table → List ℕ) (known held_known : Option (List ℕ)) (base held : Tables)
-    (marks : List TableMark) (start : ChangesStart) (why : JobFault FeedRefusal) → IsLoadedToServe texts base
+    (marks : List TableMark) (past : ℕ) (start : ChangesStart) (why : JobFault FeedRefusal) → IsLoadedToServe texts base
     → AreMarks base marks → HaveChecksums texts marks → held_known ≡ known → held ≡ base
-    → IsFeedRefusal held marks held_known start why → TellsFeedFault texts known start why
-feed_fault_tells texts known held_known base held marks start (job.Program why) loaded marked checked whose same is =
+    → IsFeedRefusal held marks held_known past start why → TellsFeedFault texts known past start why
+feed_fault_tells texts known held_known base held marks past start (job.Program why) loaded marked checked whose same is =
     λ one. absurd (omega (arith, is.told, one))
-feed_fault_tells texts known held_known base held marks start (job.Found why) loaded marked checked whose same is = record {
+feed_fault_tells texts known held_known base held marks past start (job.Found why) loaded marked checked whose same is = record {
   base = base;
   loaded = loaded;
   marks = marks;
   marked = marked;
   checked = checked;
-  holds = subst (λ (t : Tables). IsFeedRefusal t marks known start (job.Found why)) same
-      (subst (λ (k : Option (List ℕ)). IsFeedRefusal held marks k start (job.Found why)) whose is);
+  holds = subst (λ (t : Tables). IsFeedRefusal t marks known past start (job.Found why)) same
+      (subst (λ (k : Option (List ℕ)). IsFeedRefusal held marks k past start (job.Found why)) whose is);
 }

@@ -1,5 +1,7 @@
 pub mod SignLaws
 pub mod TextLaws
+pub mod CsvLaws
+pub mod JsonLaws
 pub mod HeldLaws
 pub mod AskedLaws
 pub mod FaultLaws

@@ -19,8 +19,12 @@ use Rattle.ssb_schema.specs.declared.line.LineFields.{LineFields}
 use Rattle.ssb_schema.specs.declared.refresh.Action.{Action}
 use Rattle.ssb_schema.specs.declared.refresh.Action.TheVariants.{Add, Amend, Withdraw}
 use Rattle.ssb_text.specs.TableText.{row_text}
-use Rattle.changes_command.specs.Signed.{SignedLine, changes_by, changes_by_all, changes_text, sign_text, signed}
-use Rattle.changes_command.specs.Signed.{signed_text, taken_by}
+use Rattle.changes_command.specs.Signed.{SignedLine, changes_by, changes_by_all, signed}
+use Rattle.changes_command.specs.SignedText.{barred, lines_text, sign_text}
+use Rattle.changes_command.specs.Signed.{taken_by}
+use Rattle.changes_command.specs.SignedText.{signed_text}
+use Rattle.changes_command.specs.declared.format.ChangesFormat.{ChangesFormat}
+use Rattle.changes_command.specs.declared.format.ChangesFormat.TheVariants.{Report}
 use Rattle.changes_command.specs.declared.signed.Sign.{Sign}
 use Rattle.changes_command.specs.declared.signed.Sign.TheVariants.{Came, Went}
 
@@ -33,46 +37,46 @@ on_ok (Err e) P is = tt
 abbrev pub lead : ℕ → List ℕ → List ℕ
 lead commit mark = decimal commit ++ (mark ++ [])
 
-pub signed_in_parts : (commit : ℕ) (sign : Sign) (line : LineFields)
-    → signed_text commit sign line ≡ lead commit (sign_text sign) ++ row_text (line_values line)
-signed_in_parts commit sign line =
-    ap (λ mark. decimal commit ++ (mark ++ row_text (line_values line))) (sym (append-nil (sign_text sign)))
-    ∙ sym (append_assoc (decimal commit) (sign_text sign ++ []) (row_text (line_values line)))
+pub report_in_parts : (commit : ℕ) (sign : Sign) (line : LineFields)
+    → signed_text Report commit sign line ≡ lead commit (barred (sign_text sign)) ++ row_text (line_values line)
+report_in_parts commit sign line =
+    ap (λ mark. decimal commit ++ (mark ++ row_text (line_values line))) (sym (append-nil (barred (sign_text sign))))
+    ∙ sym (append_assoc (decimal commit) (barred (sign_text sign) ++ []) (row_text (line_values line)))
 
 -- lines with one commit and one sign
-pub text_of_signed : (commit : ℕ) (sign : Sign) (lines : List LineFields)
-    → changes_text (signed commit sign lines) ≡ flat_map (signed_text commit sign) lines
-text_of_signed commit sign [] = refl
-text_of_signed commit sign (line ∷ lines) =
-    ap (λ text. signed_text commit sign line ++ text) (text_of_signed commit sign lines)
+pub text_of_signed : (format : ChangesFormat) (commit : ℕ) (sign : Sign) (lines : List LineFields)
+    → lines_text format (signed commit sign lines) ≡ flat_map (signed_text format commit sign) lines
+text_of_signed format commit sign [] = refl
+text_of_signed format commit sign (line ∷ lines) =
+    ap (λ text. signed_text format commit sign line ++ text) (text_of_signed format commit sign lines)
 
-pub text_both : (one other : List SignedLine) → changes_text (one ++ other) ≡ changes_text one ++ changes_text other
-text_both one other = flat_map-append (λ (l : SignedLine). signed_text l.commit l.sign l.line) one other
+pub text_both : (format : ChangesFormat) (one other : List SignedLine) → lines_text format (one ++ other) ≡ lines_text format one ++ lines_text format other
+text_both format one other = flat_map-append (λ (l : SignedLine). signed_text format l.commit l.sign l.line) one other
 
 -- what an action changes
-pub text_of_action : (commit : ℕ) (lines : List LineFields) (action : Action)
-    → changes_text (changes_by commit lines action)
-    ≡ flat_map (signed_text commit Went) (taken_by lines action) ++ flat_map (signed_text commit Came) (added_by action)
-text_of_action commit lines action =
-    text_both (signed commit Went (taken_by lines action)) (signed commit Came (added_by action))
-    ∙ ap (λ text. text ++ changes_text (signed commit Came (added_by action)))
-    (text_of_signed commit Went (taken_by lines action))
-    ∙ ap (λ text. flat_map (signed_text commit Went) (taken_by lines action) ++ text)
-    (text_of_signed commit Came (added_by action))
+pub text_of_action : (format : ChangesFormat) (commit : ℕ) (lines : List LineFields) (action : Action)
+    → lines_text format (changes_by commit lines action)
+    ≡ flat_map (signed_text format commit Went) (taken_by lines action) ++ flat_map (signed_text format commit Came) (added_by action)
+text_of_action format commit lines action =
+    text_both format (signed commit Went (taken_by lines action)) (signed commit Came (added_by action))
+    ∙ ap (λ text. text ++ lines_text format (signed commit Came (added_by action)))
+    (text_of_signed format commit Went (taken_by lines action))
+    ∙ ap (λ text. flat_map (signed_text format commit Went) (taken_by lines action) ++ text)
+    (text_of_signed format commit Came (added_by action))
 
-pub text_of_added : (commit : ℕ) (lines order : List LineFields)
-    → changes_text (changes_by commit lines (Add order)) ≡ flat_map (signed_text commit Came) order
-text_of_added commit lines order = text_of_action commit lines (Add order)
+pub text_of_added : (format : ChangesFormat) (commit : ℕ) (lines order : List LineFields)
+    → lines_text format (changes_by commit lines (Add order)) ≡ flat_map (signed_text format commit Came) order
+text_of_added format commit lines order = text_of_action format commit lines (Add order)
 
-pub text_of_amended : (commit : ℕ) (lines order : List LineFields)
-    → changes_text (changes_by commit lines (Amend order))
-    ≡ flat_map (signed_text commit Went) (lines_of (order_key order) lines) ++ flat_map (signed_text commit Came) order
-text_of_amended commit lines order = text_of_action commit lines (Amend order)
+pub text_of_amended : (format : ChangesFormat) (commit : ℕ) (lines order : List LineFields)
+    → lines_text format (changes_by commit lines (Amend order))
+    ≡ flat_map (signed_text format commit Went) (lines_of (order_key order) lines) ++ flat_map (signed_text format commit Came) order
+text_of_amended format commit lines order = text_of_action format commit lines (Amend order)
 
-pub text_of_withdrawn : (commit key : ℕ) (lines : List LineFields)
-    → changes_text (changes_by commit lines (Withdraw key)) ≡ flat_map (signed_text commit Went) (lines_of key lines)
-text_of_withdrawn commit key lines =
-    text_of_action commit lines (Withdraw key) ∙ append-nil (flat_map (signed_text commit Went) (lines_of key lines))
+pub text_of_withdrawn : (format : ChangesFormat) (commit key : ℕ) (lines : List LineFields)
+    → lines_text format (changes_by commit lines (Withdraw key)) ≡ flat_map (signed_text format commit Went) (lines_of key lines)
+text_of_withdrawn format commit key lines =
+    text_of_action format commit lines (Withdraw key) ∙ append-nil (flat_map (signed_text format commit Went) (lines_of key lines))
 
 -- what actions change, some and then others
 pub changes_both : (commit : ℕ) (lines : List LineFields) (one other : List Action)
@@ -85,33 +89,33 @@ changes_both commit lines (action ∷ one) other =
     (changes_by_all commit (lines_after_action lines action) one)
     (changes_by_all commit (lines_after_refresh lines (action ∷ one)) other))
 
-module _ (commit : ℕ) (lines : List LineFields) (actions : List Action) (i : ℕ) (action : Action)
+module _ (format : ChangesFormat) (commit : ℕ) (lines : List LineFields) (actions : List Action) (i : ℕ) (action : Action)
     (within : i < length actions) (is : action ≡ get_or actions i action) where
   -- the text of what the first actions change, and the next
-  pub text_more : changes_text (changes_by_all commit lines (take (i + 1) actions))
-      ≡ changes_text (changes_by_all commit lines (take i actions))
-      ++ changes_text (changes_by commit (lines_after_refresh lines (take i actions)) action)
+  pub text_more : lines_text format (changes_by_all commit lines (take (i + 1) actions))
+      ≡ lines_text format (changes_by_all commit lines (take i actions))
+      ++ lines_text format (changes_by commit (lines_after_refresh lines (take i actions)) action)
   text_more =
       let now = lines_after_refresh lines (take i actions) in
-      ap (λ l. changes_text (changes_by_all commit lines l))
+      ap (λ l. lines_text format (changes_by_all commit lines l))
       (take_more actions i action within ∙ ap (λ x. take i actions ++ x ∷ []) (sym is))
-      ∙ ap changes_text (changes_both commit lines (take i actions) (action ∷ []))
-      ∙ text_both (changes_by_all commit lines (take i actions)) (changes_by_all commit now (action ∷ []))
-      ∙ ap (λ l. changes_text (changes_by_all commit lines (take i actions)) ++ changes_text l)
+      ∙ ap (lines_text format) (changes_both commit lines (take i actions) (action ∷ []))
+      ∙ text_both format (changes_by_all commit lines (take i actions)) (changes_by_all commit now (action ∷ []))
+      ∙ ap (λ l. lines_text format (changes_by_all commit lines (take i actions)) ++ lines_text format l)
       (append-nil (changes_by commit now action))
 
   -- and what the others change comes behind
-  pub text_in_parts : changes_text (changes_by_all commit lines actions)
-      ≡ (changes_text (changes_by_all commit lines (take i actions))
-      ++ changes_text (changes_by commit (lines_after_refresh lines (take i actions)) action))
-      ++ changes_text (changes_by_all commit (lines_after_refresh lines (take (i + 1) actions)) (drop (i + 1) actions))
+  pub text_in_parts : lines_text format (changes_by_all commit lines actions)
+      ≡ (lines_text format (changes_by_all commit lines (take i actions))
+      ++ lines_text format (changes_by commit (lines_after_refresh lines (take i actions)) action))
+      ++ lines_text format (changes_by_all commit (lines_after_refresh lines (take (i + 1) actions)) (drop (i + 1) actions))
   text_in_parts =
       let front = take (i + 1) actions in
       let back = drop (i + 1) actions in
-      let rest = changes_text (changes_by_all commit (lines_after_refresh lines front) back) in
-      ap (λ l. changes_text (changes_by_all commit lines l)) (sym (take-append-drop (i + 1) actions))
-      ∙ ap changes_text (changes_both commit lines front back)
-      ∙ text_both (changes_by_all commit lines front) (changes_by_all commit (lines_after_refresh lines front) back)
+      let rest = lines_text format (changes_by_all commit (lines_after_refresh lines front) back) in
+      ap (λ l. lines_text format (changes_by_all commit lines l)) (sym (take-append-drop (i + 1) actions))
+      ∙ ap (lines_text format) (changes_both commit lines front back)
+      ∙ text_both format (changes_by_all commit lines front) (changes_by_all commit (lines_after_refresh lines front) back)
       ∙ ap (λ text. text ++ rest) text_more
 
 -- an element that is there is read there

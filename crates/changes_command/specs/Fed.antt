@@ -18,6 +18,7 @@ use Rattle.changes_command.specs.Written.{IsWritten, TellsFileFault}
 use Rattle.changes_command.specs.declared.feed_fault.FeedFault.TheVariants.{NotAFeed, FeedEnded}
 use Rattle.changes_command.specs.declared.feed_fault.FeedRefusal.{FeedRefusal}
 use Rattle.changes_command.specs.declared.feed_fault.FeedRefusal.TheVariants as feed
+use Rattle.changes_command.specs.declared.format.ChangesFormat.{ChangesFormat}
 use Rattle.changes_command.specs.declared.signed.ChangesStart.{ChangesStart}
 
 -- behind the whole groups of a stream stands nothing, or a closed gate alone
@@ -35,30 +36,30 @@ abbrev pub IsNoFeed : List TableMark → List ℕ → Type 0
 IsNoFeed marks stream =
     TellsOpenFault marks stream (Journal NotAJournal) ⊎ TellsOpenFault marks stream (Journal (Damaged 1))
 
--- what is told of a stream over tables: what is told of a journal's file, before whose commits none came, or that it is
--- no feed, or was cut off
-abbrev pub TellsStreamFault : Tables → List TableMark → List ℕ → ChangesStart → JobFault FeedRefusal → Type 0
-TellsStreamFault base marks stream start (job.Program why) = status_of why ≡ 4
-TellsStreamFault base marks stream start (job.Found (feed.Changes why)) =
-    TellsFileFault base marks stream 0 start (job.Found why)
-TellsStreamFault base marks stream start (job.Found (feed.Feed NotAFeed)) = IsNoFeed marks stream
-TellsStreamFault base marks stream start (job.Found (feed.Feed FeedEnded)) = IsCutOff marks stream
+-- what is told of a stream over tables, where so many commits came before: what is told of a journal's file, or that it
+-- is no feed, or was cut off
+abbrev pub TellsStreamFault : Tables → List TableMark → List ℕ → ℕ → ChangesStart → JobFault FeedRefusal → Type 0
+TellsStreamFault base marks stream past start (job.Program why) = status_of why ≡ 4
+TellsStreamFault base marks stream past start (job.Found (feed.Changes why)) =
+    TellsFileFault base marks stream past start (job.Found why)
+TellsStreamFault base marks stream past start (job.Found (feed.Feed NotAFeed)) = IsNoFeed marks stream
+TellsStreamFault base marks stream past start (job.Found (feed.Feed FeedEnded)) = IsCutOff marks stream
 
 -- why the changes of a stream are not written: of the stream, which is the known one, where one is known, this is told
-pub record IsFeedRefusal (base : Tables) (marks : List TableMark) (known : Option (List ℕ)) (start : ChangesStart)
-    (why : JobFault FeedRefusal) : Type 0 where
+pub record IsFeedRefusal (base : Tables) (marks : List TableMark) (known : Option (List ℕ)) (past : ℕ)
+    (start : ChangesStart) (why : JobFault FeedRefusal) : Type 0 where
   pub stream : List ℕ
   pub is_stream : IsKnown known stream
-  pub told : TellsStreamFault base marks stream start why
+  pub told : TellsStreamFault base marks stream past start why
 
--- what is asked for of the signed lines of a stream was written, all of it, where no commits came before; the stream is
--- the known one, where one is known
-pub record IsFed (base : Tables) (marks : List TableMark) (known : Option (List ℕ)) (start : ChangesStart)
-    (old new : Option (List ℕ)) : Type 0 where
+-- what is asked for of the signed lines of a stream was written in a format, all of it, where so many commits came
+-- before; the stream is the known one, where one is known
+pub record IsFed (base : Tables) (marks : List TableMark) (known : Option (List ℕ)) (past : ℕ) (start : ChangesStart)
+    (format : ChangesFormat) (old new : Option (List ℕ)) : Type 0 where
   pub stream : List ℕ
   pub is_stream : IsKnown known stream
   pub whole : EndsWhole stream
-  pub is : IsWritten base marks stream 0 start old new
+  pub is : IsWritten base marks stream past start format old new
 
 -- the five texts spell a base, and this holds over it and the marks of its tables
 pub record OverTexts (texts : Table → List ℕ) (Holds : Tables → List TableMark → Type 0) : Type 0 where
@@ -69,11 +70,13 @@ pub record OverTexts (texts : Table → List ℕ) (Holds : Tables → List Table
   pub checked : HaveChecksums texts marks
   pub holds : Holds base marks
 
-abbrev pub Feeds : (Table → List ℕ) → Option (List ℕ) → ChangesStart → Option (List ℕ) → Option (List ℕ) → Type 0
-Feeds texts known start old new = OverTexts texts (λ base marks. IsFed base marks known start old new)
+abbrev pub Feeds : (Table → List ℕ) → Option (List ℕ) → ℕ → ChangesStart → ChangesFormat → Option (List ℕ)
+    → Option (List ℕ) → Type 0
+Feeds texts known past start format old new =
+    OverTexts texts (λ base marks. IsFed base marks known past start format old new)
 
 -- what a fault tells: that the texts are refused; or what the stream is over the base that they spell
-abbrev pub TellsFeedFault : (Table → List ℕ) → Option (List ℕ) → ChangesStart → JobFault FeedRefusal → Type 0
-TellsFeedFault texts known start (job.Program why) = status_of why ≡ 1 → AreRefusedToServe texts
-TellsFeedFault texts known start (job.Found why) =
-    OverTexts texts (λ base marks. IsFeedRefusal base marks known start (job.Found why))
+abbrev pub TellsFeedFault : (Table → List ℕ) → Option (List ℕ) → ℕ → ChangesStart → JobFault FeedRefusal → Type 0
+TellsFeedFault texts known past start (job.Program why) = status_of why ≡ 1 → AreRefusedToServe texts
+TellsFeedFault texts known past start (job.Found why) =
+    OverTexts texts (λ base marks. IsFeedRefusal base marks known past start (job.Found why))

@@ -1,4 +1,7 @@
 pub mod Signed
+pub mod SignedText
+pub mod CsvText
+pub mod JsonText
 pub mod Laws
 pub mod Held
 pub mod Status

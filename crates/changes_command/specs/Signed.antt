@@ -1,15 +1,12 @@
 -- A history as signed lines: those that its commits brought, and those that they took away.
 use Rattle.std.specs.Prelude.{ℕ, ◌+◌, Bool, true, nat_lt, List, [], ◌∷◌, ◌++◌, map, filter}
-use Rattle.std.specs.Prelude.{flat_map, codes, decimal}
 use Rattle.row_store.specs.History.{CommitRecord}
 use Rattle.row_store.specs.Lines.{added_by, lines_after_action, lines_after_refresh, lines_of}
 use Rattle.ssb_base.specs.Base.{Tables}
 use Rattle.ssb_schema.specs.Orders.{order_key}
-use Rattle.ssb_schema.specs.Rows.{line_values}
 use Rattle.ssb_schema.specs.declared.line.LineFields.{LineFields}
 use Rattle.ssb_schema.specs.declared.refresh.Action.{Action}
 use Rattle.ssb_schema.specs.declared.refresh.Action.TheVariants.{Add, Amend, Withdraw}
-use Rattle.ssb_text.specs.TableText.{row_text}
 use Rattle.changes_command.specs.declared.signed.ChangesStart.{ChangesStart}
 use Rattle.changes_command.specs.declared.signed.ChangesStart.TheVariants.{Loaded, Behind}
 use Rattle.changes_command.specs.declared.signed.Sign.{Sign}
@@ -64,16 +61,3 @@ is_asked (Behind count) commit = nat_lt count commit
 -- those of the signed lines that are asked for
 abbrev pub asked_of : ChangesStart → List SignedLine → List SignedLine
 asked_of start lines = filter (λ (l : SignedLine). is_asked start l.commit) lines
-
--- the sign of a line, between bars
-abbrev pub sign_text : Sign → List ℕ
-sign_text Came = codes "|1|"
-sign_text Went = codes "|-1|"
-
--- a line with a commit and a sign, as it is written
-abbrev pub signed_text : ℕ → Sign → LineFields → List ℕ
-signed_text commit sign line = decimal commit ++ (sign_text sign ++ row_text (line_values line))
-
--- signed lines, one after another
-abbrev pub changes_text : List SignedLine → List ℕ
-changes_text lines = flat_map (λ (l : SignedLine). signed_text l.commit l.sign l.line) lines

@@ -18,9 +18,11 @@ use Rattle.ssb_journal.specs.Opening.{TellsOpenFault}
 use Rattle.ssb_journal.specs.Replays.{IsReplayFault}
 use Rattle.ssb_journal.specs.declared.head.TableMark.{TableMark}
 use Rattle.ssb_schema.specs.declared.table.Table.{Table}
-use Rattle.changes_command.specs.Signed.{asked_of, changes_text, signed_lines}
+use Rattle.changes_command.specs.Signed.{asked_of, signed_lines}
+use Rattle.changes_command.specs.SignedText.{changes_text}
 use Rattle.changes_command.specs.declared.fault.ChangesRefusal.{ChangesRefusal}
 use Rattle.changes_command.specs.declared.fault.ChangesRefusal.TheVariants as refusal
+use Rattle.changes_command.specs.declared.format.ChangesFormat.{ChangesFormat}
 use Rattle.changes_command.specs.declared.signed.ChangesStart.{ChangesStart}
 use Rattle.changes_command.specs.declared.signed.ChangesStart.TheVariants.{Loaded, Behind}
 
@@ -39,21 +41,21 @@ abbrev pub TellsTorn : List ℕ → ℕ → Type 0
 TellsTorn file count = (torn : List ℕ) × AreTorn file torn × (count ≡ length torn)
 
 -- the commits that a file has over tables of these marks are a legal history over a base, and the text of what is asked
--- for of its signed lines was written, where so many commits came before
+-- for of its signed lines was written in a format, where so many commits came before
 pub record IsWritten (base : Tables) (marks : List TableMark) (file : List ℕ) (past : ℕ) (start : ChangesStart)
-    (old new : Option (List ℕ)) : Type 0 where
+    (format : ChangesFormat) (old new : Option (List ℕ)) : Type 0 where
   pub commits : List CommitRecord
   pub has : HasCommits marks commits file
   pub legal : IsLegal base commits
   pub begins : BeginsBehind past start
   pub reaches : Reaches start (past + length commits)
-  pub written : Appends old new (changes_text (asked_of start (signed_lines past base commits)))
+  pub written : Appends old new (changes_text format (asked_of start (signed_lines past base commits)))
 
 -- and there are so many commits, with those that came before
-abbrev pub IsWrittenUpTo : Tables → List TableMark → List ℕ → ℕ → ChangesStart → ℕ → Option (List ℕ) → Option (List ℕ)
-    → Type 0
-IsWrittenUpTo base marks file past start after old new =
-    (is : IsWritten base marks file past start old new) × (after ≡ past + length is.commits)
+abbrev pub IsWrittenUpTo : Tables → List TableMark → List ℕ → ℕ → ChangesStart → ChangesFormat → ℕ
+    → Option (List ℕ) → Option (List ℕ) → Type 0
+IsWrittenUpTo base marks file past start format after old new =
+    (is : IsWritten base marks file past start format old new) × (after ≡ past + length is.commits)
 
 -- why commits are not written: they are no history over the base; or a write failed, or memory ran out
 abbrev pub IsCommitsFault : Tables → List CommitRecord → JobFault ChangesRefusal → Type 0
@@ -105,9 +107,10 @@ pub record IsFileRefusal (base : Tables) (marks : List TableMark) (known : Optio
   pub told : TellsFileFault base marks file past start why
 
 -- the five texts spell a base; the commits that the journal's file has are a legal history over it, and what is asked
--- for of its signed lines was written, where so many commits came before. The file is the known one, where one is known
+-- for of its signed lines was written in a format, where so many commits came before. The file is the known one, where
+-- one is known
 pub record Changes (texts : Table → List ℕ) (known : Option (List ℕ)) (past : ℕ) (start : ChangesStart)
-    (old new : Option (List ℕ)) : Type 0 where
+    (format : ChangesFormat) (old new : Option (List ℕ)) : Type 0 where
   pub base : Tables
   pub loaded : IsLoadedToServe texts base
   pub marks : List TableMark
@@ -115,13 +118,13 @@ pub record Changes (texts : Table → List ℕ) (known : Option (List ℕ)) (pas
   pub checked : HaveChecksums texts marks
   pub file : List ℕ
   pub is_file : IsKnown known file
-  pub is : IsWritten base marks file past start old new
+  pub is : IsWritten base marks file past start format old new
 
 -- and there are so many commits, with those that came before
-abbrev pub ChangesUpTo : (Table → List ℕ) → Option (List ℕ) → ℕ → ChangesStart → ℕ → Option (List ℕ) → Option (List ℕ)
-    → Type 0
-ChangesUpTo texts known past start after old new =
-    (changes : Changes texts known past start old new) × (after ≡ past + length changes.is.commits)
+abbrev pub ChangesUpTo : (Table → List ℕ) → Option (List ℕ) → ℕ → ChangesStart → ChangesFormat → ℕ → Option (List ℕ)
+    → Option (List ℕ) → Type 0
+ChangesUpTo texts known past start format after old new =
+    (changes : Changes texts known past start format old new) × (after ≡ past + length changes.is.commits)
 
 -- the five texts spell a base; of the journal's file this is told over it
 pub record TellsOverTexts (texts : Table → List ℕ) (known : Option (List ℕ)) (past : ℕ) (start : ChangesStart)

@@ -28,7 +28,7 @@ pub struct ChangesPlace<'j, 'b, P> {
     pub journal: &'j P,
     /// The bytes of the tables, which are counted while these are loaded.
     pub bytes: &'b TableBytes,
-    /// Which changes are written.
+    /// Which changes are written, and how.
     pub asked: AskedChanges,
     /// Whether it is told how many commits the journal has.
     pub tells: bool,
@@ -65,8 +65,8 @@ pub fn write_changes<R: Threads + Sync + AllocGlobal, P: OpensJournal, I: Read +
     out: &mut W,
 ) -> Result<ReadHistory<P::Disk>, ChangesFault>
     ensures written { IfOk result (λ read. (texts : Table → List ℕ) → AreRows I.remaining tables texts
-        → ChangesUpTo texts (P.holds place.now.journal.now) place.now.asked.past place.now.asked.start read.after
-        (W.contents out.old) (W.contents out.new)) }
+        → ChangesUpTo texts (P.holds place.now.journal.now) place.now.asked.past place.now.asked.start
+        place.now.asked.format read.after (W.contents out.old) (W.contents out.new)) }
     ensures fault { IfErr result (λ fault. (texts : Table → List ℕ) → AreRows I.remaining tables texts
         → TellsChangesFault texts (P.holds place.now.journal.now) (P.is_taken place.now.journal.now)
         (P.is_missing place.now.journal.now) place.now.asked.past place.now.asked.start fault) }
@@ -119,7 +119,7 @@ pub fn changes<
 ) -> Result<(), ChangesFault>
     ensures written { OnOk result ((texts : Table → List ℕ) → AreRows I.remaining tables texts
         → Changes texts (P.holds place.now.journal.now) place.now.asked.past place.now.asked.start
-        (W.contents out.old) (W.contents out.new)) }
+        place.now.asked.format (W.contents out.old) (W.contents out.new)) }
     ensures fault { IfErr result (λ fault. (texts : Table → List ℕ) → AreRows I.remaining tables texts
         → TellsChangesFault texts (P.holds place.now.journal.now) (P.is_taken place.now.journal.now)
         (P.is_missing place.now.journal.now) place.now.asked.past place.now.asked.start fault) }
@@ -155,7 +155,7 @@ pub fn run_changes<
 ) -> u8
     ensures written { result ≡ 0 → (texts : Table → List ℕ) → AreRows I.remaining tables texts
         → Changes texts (P.holds place.now.journal.now) place.now.asked.past place.now.asked.start
-        (W.contents out.old) (W.contents out.new) }
+        place.now.asked.format (W.contents out.old) (W.contents out.new) }
     ensures others { result ≢ 0 → result ≢ 1 → result ≡ 4 }
 {
     match changes(rt, hashing, tables, place, out, err) {

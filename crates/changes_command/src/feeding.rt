@@ -9,6 +9,7 @@ ghost use Rattle.ssb_text.specs.Layouts.{AreRows};
 ghost use Rattle.changes_command.specs.Fed.{EndsWhole, Feeds, IsFeedRefusal, TellsFeedFault, TellsStreamFault};
 ghost use Rattle.changes_command.specs.Status.{feeding_status};
 ghost use Rattle.changes_command.specs.Written.{IsWritten, TellsFileFault};
+ghost use Rattle.changes_command.specs.declared.signed.ChangesStart.{ChangesStart};
 
 use crate::asked::AskedChanges;
 use crate::changing::tell_read;
@@ -17,7 +18,6 @@ use crate::fault::ChangesRefusal::Journal;
 use crate::feed_fault::{FeedFault, FeedJobFault, FeedRefusal};
 use crate::feed_stream::FeedStream;
 use crate::history::{ChangesSource, ReadHistory, hand_on, write_history};
-use crate::signed::ChangesStart;
 use journal::UnreadDisk;
 use journal_opening::{OpeningFault, table_marks};
 use ssb_files::JobFault::{Found, Program};
@@ -37,16 +37,16 @@ pub struct FeedPlace<'b, G: Read + Drop> {
     pub input: G,
     /// The bytes of the tables, which are counted while these are loaded.
     pub bytes: &'b TableBytes,
-    /// Which changes are written.
-    pub start: ChangesStart,
+    /// Which changes are written, and how.
+    pub asked: AskedChanges,
     /// Whether it is told how many commits have come.
     pub tells: bool,
 }
 
 // What is told of a stream where this is told of a journal's file.
 fn of_file(fault: ChangesFault) -> FeedJobFault
-    ensures { (base : Tables) (marks : List TableMark) (stream : List ℕ) (start : ChangesStart)
-        → TellsFileFault base marks stream 0 start fault → TellsStreamFault base marks stream start result }
+    ensures { (base : Tables) (marks : List TableMark) (stream : List ℕ) (past : ℕ) (start : ChangesStart)
+        → TellsFileFault base marks stream past start fault → TellsStreamFault base marks stream past start result }
 {
     match fault {
         Program(fault) => Program(fault),
@@ -66,18 +66,17 @@ pub fn write_feed<'a, U: UnreadDisk + Drop, W: Write>(
     alloc: Global,
     hashing: RandomState,
     source: ChangesSource<'a, U>,
-    start: ChangesStart,
+    asked: AskedChanges,
     out: &mut W,
 ) -> Result<ReadHistory<U::Whole>, FeedJobFault>
     requires unread { U.taken source.file ≡ [] }
     ensures written { IfOk result (λ read. IsWritten source.entry.base.value source.entry.marks.now
-        (U.Whole.seen read.found) 0 start (W.contents out.old) (W.contents out.new)) }
+        (U.Whole.seen read.found) asked.past asked.start asked.format (W.contents out.old) (W.contents out.new)) }
     ensures whole { IfOk result (λ read. EndsWhole (U.Whole.seen read.found)) }
     ensures known { IfOk result (λ read. IsKnown (U.holds source.entry.file) (U.Whole.seen read.found)) }
     ensures fault { IfErr result (IsFeedRefusal source.entry.base.value source.entry.marks.now
-        (U.holds source.entry.file) start) }
+        (U.holds source.entry.file) asked.past asked.start) }
 {
-    let asked = AskedChanges { past: 0, start };
     match write_history(rt, alloc, hashing, source, asked, out) {
         Ok(read) if read.torn > 0 => Err(Found(FeedRefusal::Feed(FeedFault::FeedEnded))),
         Ok(read) => Ok(read),
@@ -96,9 +95,10 @@ pub fn follow<R: Threads + Sync + AllocGlobal, I: Read + Drop, G: Read + Drop, W
     err: &mut E,
 ) -> Result<(), FeedJobFault>
     ensures written { OnOk result ((texts : Table → List ℕ) → AreRows I.remaining tables texts
-        → Feeds texts (G.remaining feed.entry.input) feed.entry.start (W.contents out.old) (W.contents out.new)) }
+        → Feeds texts (G.remaining feed.entry.input) feed.entry.asked.past feed.entry.asked.start
+        feed.entry.asked.format (W.contents out.old) (W.contents out.new)) }
     ensures fault { IfErr result (λ fault. (texts : Table → List ℕ) → AreRows I.remaining tables texts
-        → TellsFeedFault texts (G.remaining feed.entry.input) feed.entry.start fault) }
+        → TellsFeedFault texts (G.remaining feed.entry.input) feed.entry.asked.past feed.entry.asked.start fault) }
     ensures words { IfErr result (λ fault. feeding_status fault ≢ 2) }
     ensures trace { IfErr result (λ fault. feeding_status fault ≢ 3) }
 {
@@ -107,7 +107,7 @@ pub fn follow<R: Threads + Sync + AllocGlobal, I: Read + Drop, G: Read + Drop, W
     let FeedPlace {
         input,
         bytes,
-        start,
+        asked,
         tells,
     } = feed;
     let read = checked_base_of(rt, alloc, tables, LoadedFor::Serving)?;
@@ -120,7 +120,7 @@ pub fn follow<R: Threads + Sync + AllocGlobal, I: Read + Drop, G: Read + Drop, W
         file: FeedStream::new(input),
         together: 1,
     };
-    match write_feed(rt, alloc, hashing, source, start, out) {
+    match write_feed(rt, alloc, hashing, source, asked, out) {
         Ok(read) => {
             tell_read(err, &read, tells);
             Ok(())
@@ -152,7 +152,8 @@ pub fn run_feed<
     err: &mut E,
 ) -> u8
     ensures written { result ≡ 0 → (texts : Table → List ℕ) → AreRows I.remaining tables texts
-        → Feeds texts (G.remaining feed.entry.input) feed.entry.start (W.contents out.old) (W.contents out.new) }
+        → Feeds texts (G.remaining feed.entry.input) feed.entry.asked.past feed.entry.asked.start
+        feed.entry.asked.format (W.contents out.old) (W.contents out.new) }
     ensures others { result ≢ 0 → result ≢ 1 → result ≡ 4 }
 {
     match follow(rt, hashing, tables, feed, out, err) {

@@ -7,12 +7,14 @@ ghost use Rattle.row_store.specs.History.{lines_after};
 ghost use Rattle.row_store.specs.Refusals.{refusal_of};
 ghost use Rattle.ssb_files.specs.declared.fault.Fault.TheVariants as common;
 ghost use Rattle.ssb_files.specs.declared.job.JobFault.TheVariants as job;
-ghost use Rattle.changes_command.specs.Signed.{asked_of, changes_behind, changes_by_all, changes_text, signed};
+ghost use Rattle.changes_command.specs.Signed.{asked_of, changes_behind, changes_by_all, signed};
+ghost use Rattle.changes_command.specs.SignedText.{heads_text, lines_text};
 ghost use Rattle.changes_command.specs.Written.{IsCommitsFault, IsFileRefusal, IsTooFar, IsWrittenUpTo, Reaches, TellsTorn};
 
 use crate::asked::AskedChanges;
 use crate::fault::ChangesRefusal::Journal;
 use crate::fault::{ChangesFault, ChangesRefusal};
+use crate::format::{ChangesFormat, heads};
 use crate::signed::{ChangesStart, Sign};
 use crate::writing::{write_commit, write_lines};
 use journal::{Disk, Found as FoundFile, UnreadDisk};
@@ -23,7 +25,7 @@ use ssb_files::Fault;
 use ssb_files::JobFault::{Found, Program};
 use ssb_journal::{HeadForm, JournalReader, OpenedJournal, TableMark, open, replay};
 use ssb_schema::{Line, Refresh};
-use ssb_text::WriteFault;
+use ssb_text::{WriteFault, write_bytes};
 use std::alloc::Global;
 use std::hash::RandomState;
 use std::io::Write;
@@ -71,6 +73,17 @@ struct Reading<'a, U: UnreadDisk> {
     together: usize,
 }
 
+// Writes what stands above the lines.
+fn write_heads<W: Write>(out: &mut W, format: ChangesFormat) -> Result<(), ChangesFault>
+    ensures written { OnOk result (Appends (W.contents out.old) (W.contents out.new) (heads_text format)) }
+    ensures fault { IfErr result (λ fault. fault ≡ job.Program common.WriteFailed) }
+{
+    match write_bytes(out, heads(format).as_bytes()) {
+        Ok(()) => Ok(()),
+        Err(_) => Err(Program(Fault::WriteFailed)),
+    }
+}
+
 // Writes the loaded lines, where they are asked for, and hands them on.
 fn write_loaded<W: Write>(
     out: &mut W,
@@ -78,13 +91,13 @@ fn write_loaded<W: Write>(
     lines: &[Line],
 ) -> Result<(), ChangesFault>
     ensures written { OnOk result (Appends (W.contents out.old) (W.contents out.new)
-        (changes_text (asked_of asked.start (signed asked.past Sign.Came lines.now)))) }
+        (lines_text asked.format (asked_of asked.start (signed asked.past Sign.Came lines.now)))) }
     ensures fault { IfErr result (λ fault. fault ≡ job.Program common.WriteFailed) }
 {
     if !asked.start.asks(asked.past) {
         return Ok(());
     }
-    match write_lines(out, asked.past, Sign::Came, lines) {
+    match write_lines(out, asked.format, asked.past, Sign::Came, lines) {
         Ok(()) => hand_on(out),
         Err(_) => Err(Program(Fault::WriteFailed)),
     }
@@ -98,7 +111,7 @@ fn write_accepted<W: Write>(
     refresh: &Refresh,
 ) -> Result<(), ChangesFault>
     ensures written { OnOk result (refusal_of store.now.base store.now.log refresh.now ≡ None
-        → Appends (W.contents out.old) (W.contents out.new) (changes_text (asked_of asked.start (changes_by_all
+        → Appends (W.contents out.old) (W.contents out.new) (lines_text asked.format (asked_of asked.start (changes_by_all
         (asked.past + length store.now.log + 1) (lines_after store.now.base store.now.log) refresh.now)))) }
     ensures fault { IfErr result (λ fault. fault ≡ job.Program common.WriteFailed) }
 {
@@ -107,7 +120,7 @@ fn write_accepted<W: Write>(
         return Ok(());
     }
     match store.check(refresh) {
-        Ok(()) => match write_commit(out, store, number, refresh.actions()) {
+        Ok(()) => match write_commit(out, asked.format, store, number, refresh.actions()) {
             Ok(()) => Ok(()),
             Err(_) => Err(Program(Fault::WriteFailed)),
         },
@@ -123,7 +136,7 @@ fn write_commits<W: Write>(
     store: &mut RowStore,
     commits: &[Commit],
 ) -> Result<(), ChangesFault>
-    ensures written { OnOk result (Appends (W.contents out.old) (W.contents out.new) (changes_text (asked_of asked.start
+    ensures written { OnOk result (Appends (W.contents out.old) (W.contents out.new) (lines_text asked.format (asked_of asked.start
         (changes_behind (asked.past + length store.old.log) (lines_after store.old.base store.old.log)
         commits.now)))) }
     ensures store { OnOk result (store.new ≡ record { base = store.old.base; log = store.old.log ++ commits.now }) }
@@ -151,7 +164,7 @@ fn write_all<'a, U: UnreadDisk + Drop, W: Write>(
 ) -> Result<JournalReader<'a, U>, ChangesFault>
     requires none { store.old.log ≡ [] }
     requires unread { reading.journal.commits ≡ [] }
-    ensures written { IfOk result (λ read. Appends (W.contents out.old) (W.contents out.new) (changes_text
+    ensures written { IfOk result (λ read. Appends (W.contents out.old) (W.contents out.new) (lines_text asked.format
         (asked_of asked.start (changes_behind asked.past store.old.base.lines read.commits)))) }
     ensures store { IfOk result (λ read. store.new ≡ record { base = store.old.base; log = read.commits }) }
     ensures marks { IfOk result (λ read. read.marks ≡ reading.entry.journal.marks) }
@@ -193,8 +206,8 @@ fn check_reaches(start: ChangesStart, commits: u64) -> Result<(), ChangesFault>
     }
 }
 
-/// Writes the changes of a journal's commits that are asked for, as its file is read, in the order of the commits, and
-/// hands on those of groups that were read together. Each piece of a line is one `write`, so a caller buffers. The
+/// Writes the changes of a journal's commits that are asked for, below the heads of the format, as its file is read, in
+/// the order of the commits, and hands on those of groups that were read together. Each piece of a line is one `write`, so a caller buffers. The
 /// commits are made again over the tables, and forgotten: they take no memory. Of two faults the first in the file is
 /// told; what commits before it change was written. A commit that came before the journal's is refused at first.
 pub fn write_history<'a, U: UnreadDisk + Drop, W: Write>(
@@ -207,7 +220,7 @@ pub fn write_history<'a, U: UnreadDisk + Drop, W: Write>(
 ) -> Result<ReadHistory<U::Whole>, ChangesFault>
     requires unread { U.taken source.file ≡ [] }
     ensures written { IfOk result (λ read. IsWrittenUpTo source.entry.base.value source.entry.marks.now
-        (U.Whole.seen read.found) asked.past asked.start read.after (W.contents out.old) (W.contents out.new)) }
+        (U.Whole.seen read.found) asked.past asked.start asked.format read.after (W.contents out.old) (W.contents out.new)) }
     ensures known { IfOk result (λ read. IsKnown (U.holds source.entry.file) (U.Whole.seen read.found)) }
     ensures torn { IfOk result (λ read. TellsTorn (U.Whole.seen read.found) read.torn) }
     ensures fault { IfErr result (IsFileRefusal source.entry.base.value source.entry.marks.now
@@ -224,6 +237,7 @@ pub fn write_history<'a, U: UnreadDisk + Drop, W: Write>(
         Ok(journal) => journal,
         Err((fault, _)) => return Err(Found(Journal(OpeningFault::Kept(fault)))),
     };
+    write_heads(out, asked.format)?;
     write_loaded(out, asked, base.lines())?;
     let mut store = RowStore::new(alloc, base, hashing)?;
     let reading = Reading { journal, together };

@@ -13,6 +13,9 @@
 //! (`specs/Laws`): for each line and each n, its signs up to commit `past + n` add up to how often it is among the lines
 //! after the first n commits of the journal. So whoever keeps them can tell the lines of every moment.
 //!
+//! They are written in one of three formats ([`ChangesFormat`], `specs/SignedText`): fields between bars; as CSV, below
+//! their names; or each as a JSON object.
+//!
 //! The contract of [`write_history`] (`specs/Written`): what is written is the text of the signed lines that are asked
 //! for, of the commits that the file keeps, which are a legal history over the base; or why it is not. That of
 //! [`run_changes`]: with status 0 so much was written of the tables that the five texts spell.
@@ -26,7 +29,7 @@
 //!
 //! ```text
 //! let source = ChangesSource { base, marks: &marks, file, together: MOST_TOGETHER };
-//! let asked = AskedChanges::of_journal(ChangesStart::Behind(2));
+//! let asked = AskedChanges::of_journal(ChangesStart::Behind(2), ChangesFormat::Report);
 //! let read = write_history(rt, alloc, hashing, source, asked, &mut out)?;
 //! // out: 3|1|9|1|3|4|3|19971215|o|0|1|10|10|0|10|2000|0|19971215|AIR
 //! ```
@@ -34,12 +37,16 @@
 
 mod asked;
 mod changing;
+mod csv_text;
 mod fault;
 mod feed_fault;
 mod feed_stream;
 mod feeding;
+mod format;
 mod history;
+mod json_text;
 mod laws;
+mod report_text;
 mod signed;
 mod writing;
 
@@ -48,6 +55,7 @@ pub use changing::{ChangesPlace, changes, run_changes, write_changes};
 pub use fault::{ChangesFault, ChangesRefusal};
 pub use feed_fault::{FeedFault, FeedJobFault, FeedRefusal};
 pub use feeding::{FeedPlace, follow, run_feed, write_feed};
+pub use format::ChangesFormat;
 pub use history::{ChangesSource, ReadHistory, write_history};
 pub use laws::signs_add_up;
 pub use signed::{ChangesStart, Sign};

@@ -8,48 +8,28 @@ ghost use Rattle.ssb_base.specs.Base.{Tables};
 ghost use Rattle.ssb_schema.specs.declared.line.LineFields.{LineFields};
 ghost use Rattle.ssb_text.specs.Written.{Writes};
 ghost use Rattle.changes_command.specs.Held.{IsHeldFrom};
-ghost use Rattle.changes_command.specs.Signed.{changes_by, changes_by_all, changes_text, sign_text, signed_text};
+ghost use Rattle.changes_command.specs.Signed.{changes_by, changes_by_all};
+ghost use Rattle.changes_command.specs.SignedText.{lines_text, signed_text};
 
+use crate::format::{ChangesFormat, write_signed};
 use crate::signed::Sign;
 use row_store::{OrderLines, RowStore};
 use ssb_schema::{Action, Line};
-use ssb_text::{Piece, WriteFault, write_pieces, write_row};
+use ssb_text::WriteFault;
 use std::io::Write;
-
-// The sign, between bars.
-fn mark(sign: Sign) -> &'static str
-    ensures { result.now ≡ sign_text sign }
-{
-    match sign {
-        Sign::Came => "|1|",
-        Sign::Went => "|-1|",
-    }
-}
-
-// A line with its commit and its sign.
-fn write_signed<W: Write>(
-    out: &mut W,
-    commit: u64,
-    sign: Sign,
-    line: &Line,
-) -> Result<(), WriteFault>
-    ensures { Writes (W.contents out.old) (W.contents out.new) result (signed_text commit sign line.now) }
-{
-    write_pieces(out, &[Piece::Number(commit), Piece::Text(mark(sign))])?;
-    write_row(out, line)
-}
 
 /// Writes lines with one commit and one sign.
 pub(crate) fn write_lines<W: Write>(
     out: &mut W,
+    format: ChangesFormat,
     commit: u64,
     sign: Sign,
     lines: &[Line],
 ) -> Result<(), WriteFault>
-    ensures { Writes (W.contents out.old) (W.contents out.new) result (flat_map (signed_text commit sign) lines.now) }
+    ensures { Writes (W.contents out.old) (W.contents out.new) result (flat_map (signed_text format commit sign) lines.now) }
 {
     for line in lines {
-        write_signed(out, commit, sign, line)?;
+        write_signed(out, format, commit, sign, line)?;
     }
     Ok(())
 }
@@ -57,17 +37,18 @@ pub(crate) fn write_lines<W: Write>(
 // The same of the live lines of an order.
 fn write_order<W: Write>(
     out: &mut W,
+    format: ChangesFormat,
     commit: u64,
     sign: Sign,
     order: &OrderLines<'_>,
 ) -> Result<(), WriteFault>
-    ensures { Writes (W.contents out.old) (W.contents out.new) result (flat_map (signed_text commit sign) order.now) }
+    ensures { Writes (W.contents out.old) (W.contents out.new) result (flat_map (signed_text format commit sign) order.now) }
 {
     for place in 0..order.len() {
         let Some(line) = order.get(place) else {
             unreachable!()
         };
-        write_signed(out, commit, sign, line)?;
+        write_signed(out, format, commit, sign, line)?;
     }
     Ok(())
 }
@@ -114,20 +95,21 @@ fn held_among<'a>(earlier: &'a [Action], key: u64) -> Option<&'a [Line]>
 // The lines that an order has after the first actions of the next commit: they go.
 fn write_taken<W: Write>(
     out: &mut W,
+    format: ChangesFormat,
     store: &RowStore,
     commit: u64,
     earlier: &[Action],
     key: u64,
 ) -> Result<(), WriteFault>
     requires { first_refusal store.now.base 1 (lines_after store.now.base store.now.log) earlier.now ≡ None }
-    ensures { Writes (W.contents out.old) (W.contents out.new) result (flat_map (signed_text commit Sign.Went)
+    ensures { Writes (W.contents out.old) (W.contents out.new) result (flat_map (signed_text format commit Sign.Went)
         (lines_of key (lines_after_refresh (lines_after store.now.base store.now.log) earlier.now))) }
 {
     if let Some(lines) = held_among(earlier, key) {
-        return write_lines(out, commit, Sign::Went, lines);
+        return write_lines(out, format, commit, Sign::Went, lines);
     }
     match store.lines_of(key) {
-        Some(order) => write_order(out, commit, Sign::Went, &order),
+        Some(order) => write_order(out, format, commit, Sign::Went, &order),
         None => Ok(()),
     }
 }
@@ -135,22 +117,23 @@ fn write_taken<W: Write>(
 // What an action of the next commit changes, behind its first ones.
 fn write_action<W: Write>(
     out: &mut W,
+    format: ChangesFormat,
     store: &RowStore,
     commit: u64,
     earlier: &[Action],
     action: &Action,
 ) -> Result<(), WriteFault>
     requires { first_refusal store.now.base 1 (lines_after store.now.base store.now.log) earlier.now ≡ None }
-    ensures { Writes (W.contents out.old) (W.contents out.new) result (changes_text (changes_by commit
+    ensures { Writes (W.contents out.old) (W.contents out.new) result (lines_text format (changes_by commit
         (lines_after_refresh (lines_after store.now.base store.now.log) earlier.now) action.now)) }
 {
     match action {
-        Action::Add(order) => write_lines(out, commit, Sign::Came, order.lines()),
+        Action::Add(order) => write_lines(out, format, commit, Sign::Came, order.lines()),
         Action::Amend(order) => {
-            write_taken(out, store, commit, earlier, order.key())?;
-            write_lines(out, commit, Sign::Came, order.lines())
+            write_taken(out, format, store, commit, earlier, order.key())?;
+            write_lines(out, format, commit, Sign::Came, order.lines())
         }
-        Action::Withdraw(key) => write_taken(out, store, commit, earlier, *key),
+        Action::Withdraw(key) => write_taken(out, format, store, commit, earlier, *key),
     }
 }
 
@@ -158,16 +141,24 @@ fn write_action<W: Write>(
 /// caller buffers. It takes no memory.
 pub(crate) fn write_commit<W: Write>(
     out: &mut W,
+    format: ChangesFormat,
     store: &RowStore,
     commit: u64,
     actions: &[Action],
 ) -> Result<(), WriteFault>
     requires { refusal_of store.now.base store.now.log actions.now ≡ None }
-    ensures { Writes (W.contents out.old) (W.contents out.new) result (changes_text (changes_by_all commit
+    ensures { Writes (W.contents out.old) (W.contents out.new) result (lines_text format (changes_by_all commit
         (lines_after store.now.base store.now.log) actions.now)) }
 {
     for place in 0..actions.len() {
-        write_action(out, store, commit, &actions[..place], &actions[place])?;
+        write_action(
+            out,
+            format,
+            store,
+            commit,
+            &actions[..place],
+            &actions[place],
+        )?;
     }
     Ok(())
 }

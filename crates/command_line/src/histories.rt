@@ -6,12 +6,12 @@ use crate::named_journal;
 use crate::stores::{ChangedStore, export_store, stored_source, write_store_changes};
 use arguments::{
     AuditWords, ChangedWord, ChangesWords, ExportWords, ExportedWord, FilesWord, GroupsWord,
-    SourceWord, StartWord,
+    LinesFormatWord, SourceWord, StartWord,
 };
 use audit_command::run_audit;
 use changes_command::{
-    AskedChanges, ChangesFault, ChangesPlace, ChangesRefusal, ChangesStart, FeedPlace, run_changes,
-    run_feed,
+    AskedChanges, ChangesFault, ChangesFormat, ChangesPlace, ChangesRefusal, ChangesStart,
+    FeedPlace, run_changes, run_feed,
 };
 use export_command::{ExportFault, ExportPlace, ExportRefusal, run_export};
 use journal_file::JournalFile;
@@ -125,6 +125,19 @@ fn start_of(word: StartWord) -> ChangesStart {
     }
 }
 
+fn format_of(word: LinesFormatWord) -> ChangesFormat {
+    match word {
+        LinesFormatWord::Report => ChangesFormat::Report,
+        LinesFormatWord::Csv => ChangesFormat::Csv,
+        LinesFormatWord::Json => ChangesFormat::Json,
+    }
+}
+
+// Which changes the words ask for of a journal, before whose commits none came.
+fn asked_of(words: &ChangesWords<'_>) -> AskedChanges {
+    AskedChanges::of_journal(start_of(words.start), format_of(words.format))
+}
+
 // Writes what the commits of a journal in a file changed.
 fn write_kept<R, F: Files + AllocGlobal, W: Write, E: Write>(
     rt: &R,
@@ -153,7 +166,7 @@ where
     let place = ChangesPlace {
         journal: &journal,
         bytes: &bytes,
-        asked: AskedChanges::of_journal(start_of(words.start)),
+        asked: asked_of(words),
         tells: !words.quiet,
     };
     Ok(run_changes(rt, hashing, tables, &place, out, err))
@@ -182,7 +195,7 @@ where
     let feed = FeedPlace {
         input,
         bytes: &bytes,
-        start: start_of(words.start),
+        asked: asked_of(words),
         tells: !words.quiet,
     };
     Ok(run_feed(rt, hashing, tables, feed, out, err))
@@ -216,6 +229,7 @@ where
             let store = ChangedStore {
                 folder,
                 start: start_of(words.start),
+                format: format_of(words.format),
                 tells: !words.quiet,
             };
             write_store_changes(rt, files, store, out, err)

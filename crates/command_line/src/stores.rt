@@ -7,14 +7,14 @@ use crate::command::{hashing_of, screen_of, serve_live};
 use crate::end_bell::EndBell;
 use crate::streams::Streams;
 use arguments::{CheckpointWords, ExportWords, ServeWords, StoreWord, StoreWords, StoredWord};
-use changes_command::ChangesStart;
+use changes_command::{ChangesFormat, ChangesStart};
 use journal_file::JournalFile;
 use serve_command::Past;
 use ssb_files::JobFault::Found;
 use ssb_files::{
     Fault, PathUse, TableBytes, UsedPath, count_tables, find_tables, open_tables, watch_tables,
 };
-use ssb_text::{TableFiles, TableLayout};
+use ssb_text::{TableFiles, TableLayout, Tables};
 use std::alloc::{AllocError, Global};
 use std::hash::RandomState;
 use std::io::{Print, Read, Write};
@@ -25,12 +25,12 @@ use std::thread::Threads;
 use std::time::{Clock, Duration};
 use std::{io, thread};
 use store_command::{
-    CheckpointPlace, StoreChanges, StoreExport, StoreJobFault, StoreRefusal, StoreSource,
+    CheckpointPlace, StoreChanges, StoreExport, StoreJobFault, StoreRefusal, StoreSource, find,
     run_checkpoint, run_store, run_store_changes, run_store_export,
 };
 use store_folder::{
-    FoundStore, SegmentTurns, StoreFault, StorePlace, StoreUse, checkpoint_lock_path, find_store,
-    list_store, lock_path, segment_path, sizes_path, tables_path,
+    FoundStore, SegmentTurns, StoreFault, StorePlace, StoreUse, checkpoint_lock_path, list_store,
+    lock_path, segment_path, sizes_path, tables_path,
 };
 
 // How often it is looked whether a segment could not be made, in seconds.
@@ -128,22 +128,6 @@ fn refused(fault: StoreFault) -> StoreJobFault {
     Found(StoreRefusal::Store(fault))
 }
 
-// The store in this folder: its newest tables, or the newest that are after at most so many commits.
-fn find<F: Files>(
-    files: &F,
-    alloc: Global,
-    folder: &str,
-    at: Option<u64>,
-) -> Result<FoundStore, StoreJobFault>
-where
-    F::File: JournalFile,
-{
-    match find_store(files, alloc, folder, at) {
-        Ok(found) => Ok(found),
-        Err(fault) => Err(refused(fault)),
-    }
-}
-
 /// The tables of a store that is read.
 pub(crate) fn stored_source<'a, R: RandomSource, F: Files>(
     rt: &R,
@@ -238,6 +222,16 @@ where
     Ok(run_checkpoint(rt, hashing, &place, err))
 }
 
+// The files of the tables that were found in a store.
+fn open_found<F: Files + AllocGlobal>(
+    files: &F,
+    folder: &str,
+    found: &FoundStore,
+) -> Result<Tables<F::File>, Fault> {
+    let data = tables_path(files.alloc(), folder, found.after())?;
+    open_tables(files, data.as_str())
+}
+
 /// Exports the tables of a store after all of its commits, or the first of them.
 pub(crate) fn export_store<R, F: Files + AllocGlobal, P: Print, E: Write>(
     rt: &R,
@@ -255,8 +249,7 @@ where
         Ok(found) => found,
         Err(fault) => return Ok(fault.tell(err)),
     };
-    let data = tables_path(files.alloc(), store.folder, found.after())?;
-    let tables = open_tables(files, data.as_str())?;
+    let tables = open_found(files, store.folder, &found)?;
     let hashing = hashing_of(rt)?;
     let screen = screen_of(rt, words.quiet, terminal);
     let tables = watch_tables(screen.as_ref(), tables);
@@ -277,11 +270,12 @@ where
     Ok(run_store_export(rt, hashing, tables, &place, err))
 }
 
-/// A store whose changes are written, and which of them.
+/// A store whose changes are written, which of them, and how.
 #[derive(Clone, Copy)]
 pub(crate) struct ChangedStore<'a> {
     pub(crate) folder: &'a str,
     pub(crate) start: ChangesStart,
+    pub(crate) format: ChangesFormat,
     /// Whether it is told how many commits it has.
     pub(crate) tells: bool,
 }
@@ -302,6 +296,7 @@ where
     let ChangedStore {
         folder,
         start,
+        format,
         tells,
     } = store;
     let at = match start {
@@ -312,8 +307,7 @@ where
         Ok(found) => found,
         Err(fault) => return Ok(fault.tell(err)),
     };
-    let data = tables_path(files.alloc(), folder, found.after())?;
-    let tables = open_tables(files, data.as_str())?;
+    let tables = open_found(files, folder, &found)?;
     let hashing = hashing_of(rt)?;
     let bytes = TableBytes::new();
     let tables = TableFiles {
@@ -325,6 +319,7 @@ where
         store: folder,
         found: &found,
         start,
+        format,
         bytes: &bytes,
         tells,
     };

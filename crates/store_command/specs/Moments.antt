@@ -1,6 +1,7 @@
 -- The tables of a store after so many commits, and the changes of its commits.
 use Rattle.std.specs.Prelude.{ℕ, List, Option, None}
 use Rattle.changes_command.specs.Written.{Changes}
+use Rattle.changes_command.specs.declared.format.ChangesFormat.{ChangesFormat}
 use Rattle.changes_command.specs.declared.signed.ChangesStart.{ChangesStart}
 use Rattle.export_command.specs.Histories.{AreTablesAt}
 use Rattle.journal_opening.specs.Marks.{AreMarks}
@@ -17,7 +18,8 @@ pub record IsStoreBase (at : Option ℕ) (tables : Tables) (after : ℕ) : Type 
   pub marked : AreMarks base marks
   pub are : AreTablesAt base marks None past at tables after
 
--- what is asked for of the signed lines was written of a journal over the tables that the texts spell, which are after so
+-- what is asked for of the signed lines was written in a format, of a journal over the tables that the texts spell, which are after so
 -- many commits themselves. How many these are, and which journal the store has, is not said
-abbrev pub WritesStoreChanges : (Table → List ℕ) → ChangesStart → Option (List ℕ) → Option (List ℕ) → Type 0
-WritesStoreChanges texts start old new = (past : ℕ) × Changes texts None past start old new
+abbrev pub WritesStoreChanges : (Table → List ℕ) → ChangesStart → ChangesFormat → Option (List ℕ) → Option (List ℕ)
+    → Type 0
+WritesStoreChanges texts start format old new = (past : ℕ) × Changes texts None past start format old new

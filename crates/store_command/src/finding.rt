@@ -11,7 +11,7 @@ use std::rt::Files;
 use store_folder::{FoundStore, find_store};
 
 /// The store in this folder: its newest tables, or the newest that are after at most so many commits.
-pub(crate) fn find<F: Files>(
+pub fn find<F: Files>(
     files: &F,
     alloc: Global,
     folder: &str,

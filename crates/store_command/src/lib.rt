@@ -45,6 +45,7 @@ mod tables;
 
 pub use checkpoint::{CheckpointPlace, run_checkpoint};
 pub use fault::{StoreJobFault, StoreRefusal};
+pub use finding::find;
 pub use making::run_store;
 pub use store_changes::{StoreChanges, run_store_changes};
 pub use store_export::{StoreExport, run_store_export};

@@ -11,7 +11,8 @@ ghost use Rattle.store_command.specs.Status.{store_status};
 use crate::fault::{StoreJobFault, StoreRefusal};
 use crate::reading::{check_none_missing, of_history};
 use changes_command::{
-    AskedChanges, ChangesFault, ChangesPlace, ChangesRefusal, ChangesStart, write_changes,
+    AskedChanges, ChangesFault, ChangesFormat, ChangesPlace, ChangesRefusal, ChangesStart,
+    write_changes,
 };
 use export_command::{ExportFault, ExportRefusal};
 use journal_file::JournalFile;
@@ -25,7 +26,7 @@ use std::rt::Files;
 use std::thread::Threads;
 use store_folder::{FoundStore, StoreFault, StorePlace, StoreUse, sizes_path};
 
-/// A store whose changes are written, and which of them.
+/// A store whose changes are written, which of them, and how.
 #[derive(Drop)]
 pub struct StoreChanges<'a, F: Files> {
     /// The files among which the store is.
@@ -37,6 +38,8 @@ pub struct StoreChanges<'a, F: Files> {
     pub found: &'a FoundStore,
     /// Which changes are written, by the numbers of the store.
     pub start: ChangesStart,
+    /// How they are written.
+    pub format: ChangesFormat,
     /// The bytes of the store's tables, which are counted while these are loaded.
     pub bytes: &'a TableBytes,
     /// Whether it is told how many commits the store has.
@@ -61,11 +64,12 @@ fn asked_changes<F: Files>(
     place: &StoreChanges<'_, F>,
 ) -> Result<AskedChanges, StoreJobFault>
     ensures start { IfOk result (λ asked. asked.start ≡ place.now.start) }
+    ensures format { IfOk result (λ asked. asked.format ≡ place.now.format) }
     ensures words { IfErr result (λ fault. store_status fault ≢ 2) }
     ensures trace { IfErr result (λ fault. store_status fault ≢ 3) }
 {
     let after = place.found.after();
-    match AskedChanges::new(after, place.start) {
+    match AskedChanges::new(after, place.start, place.format) {
         Some(asked) => Ok(asked),
         None => {
             let path = sizes_path(alloc, place.store, after)?;
@@ -99,7 +103,7 @@ where
     F: Files,
     F::File: JournalFile,
     ensures written { OnOk result ((texts : Table → List ℕ) → AreRows I.remaining tables texts
-        → WritesStoreChanges texts place.now.start (W.contents out.old) (W.contents out.new)) }
+        → WritesStoreChanges texts place.now.start place.now.format (W.contents out.old) (W.contents out.new)) }
     ensures words { IfErr result (λ fault. store_status fault ≢ 2) }
     ensures trace { IfErr result (λ fault. store_status fault ≢ 3) }
 {
@@ -146,7 +150,7 @@ where
     F: Files,
     F::File: JournalFile,
     ensures written { result ≡ 0 → (texts : Table → List ℕ) → AreRows I.remaining tables texts
-        → WritesStoreChanges texts place.now.start (W.contents out.old) (W.contents out.new) }
+        → WritesStoreChanges texts place.now.start place.now.format (W.contents out.old) (W.contents out.new) }
     ensures others { result ≢ 0 → result ≢ 1 → result ≡ 4 }
 {
     match write_store_changes(rt, hashing, tables, place, out, err) {

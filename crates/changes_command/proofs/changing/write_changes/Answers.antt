@@ -40,7 +40,7 @@ returns-in_ok-hand_on-in-Ok-write_history-clause-written g c = λ texts are.
     let place = c.args.place.now in
     let read = c.in-Ok-write_history.read in
     let marks = c.table_marks-marks.result in
-    changes_of texts (g.P.OpensJournal.holds place.journal.now) c.in_ok-read.read.0 c.in_ok-base.base.value marks
+    changes_of place.asked.format texts (g.P.OpensJournal.holds place.journal.now) c.in_ok-read.read.0 c.in_ok-base.base.value marks
     (g.P.Disk.Disk.seen read.found) place.asked.past place.asked.start read.after (contents c.args.out.now)
     (contents c.write_history.new.out) (contents c.hand_on.new.out) (c.in_ok-read.ensures.base texts are)
     c.table_marks-marks.ensures.marks

@@ -12,15 +12,15 @@ pub returns-in_err-read-clause-fault : goal.returns-in_err-read-clause-fault
 returns-in_err-read-clause-fault g c =
     let is : c.from_residual.result ≡ Err (Program c.in_err-read.field-0.0) = search rules in
     let here : (texts : Table → List ℕ) → AreRows g.I.Read.remaining c.args.tables texts
-    → TellsFeedFault texts (g.G.Read.remaining c.args.feed.input) c.args.feed.start (Program c.in_err-read.field-0.0)
+    → TellsFeedFault texts (g.G.Read.remaining c.args.feed.input) c.args.feed.asked.past c.args.feed.asked.start (Program c.in_err-read.field-0.0)
     = λ texts are status. c.in_err-read.ensures.data status texts are in
     rw is here
 
 pub returns-in-Ok-clause-written : goal.returns-in-Ok-clause-written
 returns-in-Ok-clause-written g c = λ texts are.
     let remaining = g.G.Read.remaining in
-    feeds_of texts (remaining c.args.feed.input) (given_by remaining c.new-2.result.first.items) c.in_ok-read.read.0
-    c.in_ok-base.base.value c.table_marks-marks.result (bytes_of c.in-Ok.read.found.parts.items) c.args.feed.start _ _
+    feeds_of c.args.feed.asked.format texts (remaining c.args.feed.input) (given_by remaining c.new-2.result.first.items) c.in_ok-read.read.0
+    c.in_ok-base.base.value c.table_marks-marks.result (bytes_of c.in-Ok.read.found.parts.items) c.args.feed.asked.past c.args.feed.asked.start _ _
     (c.in_ok-read.ensures.base texts are) c.table_marks-marks.ensures.marks
     (c.table_marks-marks.ensures.checksums texts (c.in_ok-read.ensures.checksums texts are))
     (ap (given_by remaining) c.new-2.ensures.given) c.in-Ok.ensures.known c.in_ok-base.ensures.ok c.in-Ok.ensures.whole
@@ -30,7 +30,7 @@ pub returns-in-Err-clause-fault : goal.returns-in-Err-clause-fault
 returns-in-Err-clause-fault g c = λ texts are.
     let remaining = g.G.Read.remaining in
     feed_fault_tells texts (remaining c.args.feed.input) (given_by remaining c.new-2.result.first.items)
-    c.in_ok-read.read.0 c.in_ok-base.base.value c.table_marks-marks.result c.args.feed.start c.in-Err.fault
+    c.in_ok-read.read.0 c.in_ok-base.base.value c.table_marks-marks.result c.args.feed.asked.past c.args.feed.asked.start c.in-Err.fault
     (c.in_ok-read.ensures.base texts are) c.table_marks-marks.ensures.marks
     (c.table_marks-marks.ensures.checksums texts (c.in_ok-read.ensures.checksums texts are))
     (ap (given_by remaining) c.new-2.ensures.given) c.in_ok-base.ensures.ok c.in-Err.ensures.fault

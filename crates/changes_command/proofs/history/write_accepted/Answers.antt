@@ -2,7 +2,8 @@ use Rattle.std.proofs.Common.{◌≡◌, ◌∙◌, ◌+◌, ap, false, length, 
 use Rattle.std.specs.Io.KnownBytes.{Appends}
 use Rattle.row_store.specs.History.{lines_after}
 use Rattle.ssb_text.proofs.WrittenLaws.{appends_none}
-use Rattle.changes_command.specs.Signed.{changes_by_all, changes_text, is_asked}
+use Rattle.changes_command.specs.Signed.{changes_by_all, is_asked}
+use Rattle.changes_command.specs.SignedText.{lines_text}
 use Rattle.changes_command.proofs.AskedLaws.{all_of_commit, none_of_commit}
 use Rattle.changes_command.proofs.history.write_accepted.Goals as goal
 
@@ -18,7 +19,7 @@ returns-then-not-asks-clause-written g c = λ none.
     let so_many : is_asked start (c.with-number.result + 1) ≡ false = search rules in
     let unasked : is_asked start (past + length log + 1) ≡ false =
     subst (λ n. is_asked start (n + 1) ≡ false) many so_many in
-    subst (λ changed. Appends a a (changes_text changed))
+    subst (λ changed. Appends a a (lines_text c.args.asked.format changed))
     (sym (none_of_commit start (past + length log + 1) lines c.args.refresh.now unasked)) (appends_none a)
 
 pub returns-in-Ok-write_commit-clause-written : goal.returns-in-Ok-write_commit-clause-written
@@ -34,8 +35,8 @@ returns-in-Ok-write_commit-clause-written g c = λ none.
     let so_many : is_asked start (c.with-number.result + 1) ≡ true = search rules in
     let asked : is_asked start (past + length log + 1) ≡ true =
     subst (λ n. is_asked start (n + 1) ≡ true) many so_many in
-    subst (λ changed. Appends a b (changes_text changed))
+    subst (λ changed. Appends a b (lines_text c.args.asked.format changed))
     (sym (all_of_commit start (past + length log + 1) lines c.args.refresh.now asked))
-    (subst (λ n. Appends a b (changes_text (changes_by_all (n + 1) lines c.args.refresh.now))) many
-    (subst (λ actions. Appends a b (changes_text (changes_by_all (c.with-number.result + 1) lines actions)))
+    (subst (λ n. Appends a b (lines_text c.args.asked.format (changes_by_all (n + 1) lines c.args.refresh.now))) many
+    (subst (λ actions. Appends a b (lines_text c.args.asked.format (changes_by_all (c.with-number.result + 1) lines actions)))
     c.actions.ensures.actions c.in-Ok-write_commit.ensures))

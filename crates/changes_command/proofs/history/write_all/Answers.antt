@@ -9,7 +9,8 @@ use Rattle.ssb_files.specs.declared.job.JobFault.TheVariants as job
 use Rattle.ssb_journal.specs.Kept.{BeginsWithCommits}
 use Rattle.ssb_journal.specs.Opening.{TellsOpenFault}
 use Rattle.ssb_text.proofs.WrittenLaws.{appends_both}
-use Rattle.changes_command.specs.Signed.{asked_of, changes_behind, changes_text}
+use Rattle.changes_command.specs.Signed.{asked_of, changes_behind}
+use Rattle.changes_command.specs.SignedText.{lines_text}
 use Rattle.changes_command.specs.Written.{IsCommitsFault, IsFileRefusal}
 use Rattle.changes_command.specs.declared.fault.ChangesRefusal.TheVariants as refusal
 use Rattle.changes_command.proofs.AskedLaws.{text_behind}
@@ -83,17 +84,17 @@ loop-next-preserved g c =
     let start = c.args.asked.start in
     let items = c.in-Some.commits.items in
     let all : next.commits ≡ old.commits ++ items = search rules in
-    let more : Appends b e (changes_text (asked_of start (changes_behind (past + length old.commits)
+    let more : Appends b e (lines_text c.args.asked.format (asked_of start (changes_behind (past + length old.commits)
     (lines_after base old.commits) items)))
-    = subst (λ (store : Warehouse). Appends b e (changes_text (asked_of start (changes_behind
+    = subst (λ (store : Warehouse). Appends b e (lines_text c.args.asked.format (asked_of start (changes_behind
     (past + length store.log) (lines_after store.base store.log) items)))) c.loop-next.invariant.store
-    (subst (λ batch. Appends b e (changes_text (asked_of start (changes_behind (past + length c.loop-next.store.log)
+    (subst (λ batch. Appends b e (lines_text c.args.asked.format (asked_of start (changes_behind (past + length c.loop-next.store.log)
     (lines_after c.loop-next.store.base c.loop-next.store.log) batch)))) c.deref.ensures.value
     c.in_ok-write_commits.ensures.written) in
     record {
-      written = appended_kept a e h (changes_text (asked_of start (changes_behind past base.lines next.commits)))
-          (subst (λ commits. Appends a e (changes_text (asked_of start (changes_behind past base.lines commits))))
-          (sym all) (subst (Appends a e) (sym (text_behind start past base old.commits items))
+      written = appended_kept a e h (lines_text c.args.asked.format (asked_of start (changes_behind past base.lines next.commits)))
+          (subst (λ commits. Appends a e (lines_text c.args.asked.format (asked_of start (changes_behind past base.lines commits))))
+          (sym all) (subst (Appends a e) (sym (text_behind c.args.asked.format start past base old.commits items))
           (appends_both a b e _ _ c.loop-next.invariant.written more))) c.hand_on.ensures.kept;
       store = search rules;
       marks = search rules;

@@ -25,7 +25,7 @@ loop-place-preserved g c =
     made_is_accepted store c.replay.new.store (take (i + 1 - i) (drop i commits)) commit c.deref.result.now
     c.in_default.ensures.store part actions c.soundness.ensures.legal in
     record {
-      written = next_written c.args.asked.start c.args.asked.past c.args.store.now.base c.args.store.now.log commits
+      written = next_written c.args.asked.format c.args.asked.start c.args.asked.past c.args.store.now.base c.args.store.now.log commits
           store i commit c.deref.result.now (contents c.args.out.now) (contents c.loop-place.out)
           (contents c.write_accepted.new.out) c.loop-place-test.true c.index-commits-place.is
           c.loop-place.invariant.store actions c.loop-place.invariant.written

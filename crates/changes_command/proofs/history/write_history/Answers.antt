@@ -7,7 +7,8 @@ use Rattle.row_store.specs.History.{Warehouse}
 use Rattle.ssb_files.specs.declared.fault.Fault.TheVariants as common
 use Rattle.ssb_files.specs.declared.job.JobFault.TheVariants as job
 use Rattle.ssb_journal.specs.Opening.{IsKept}
-use Rattle.changes_command.specs.Signed.{asked_of, changes_behind, changes_text, signed}
+use Rattle.changes_command.specs.Signed.{asked_of, changes_behind, signed}
+use Rattle.changes_command.specs.SignedText.{lines_text}
 use Rattle.changes_command.specs.Written.{IsFileRefusal}
 use Rattle.changes_command.specs.declared.fault.ChangesRefusal.TheVariants as refusal
 use Rattle.changes_command.specs.declared.signed.Sign.TheVariants.{Came}
@@ -36,6 +37,19 @@ returns-in-Err-clause-fault g c =
     (disk.taken file) (disk.is_ended file) c.args.asked.past c.args.asked.start
     (job.Found (refusal.Journal (opening.Kept c.in-Err.fault))) c.in-Err.ensures.known_err
     (g.met.U.UnreadDisk.as_known file) (λ whole begins. c.in-Err.ensures.fault whole begins)
+
+pub returns-in_err-write_heads-clause-fault : goal.returns-in_err-write_heads-clause-fault
+returns-in_err-write_heads-clause-fault g c =
+    let base = c.args.source.base.value in
+    let marks = c.args.source.marks.now in
+    let known = g.U.UnreadDisk.holds c.args.source.file in
+    let past = c.args.asked.past in
+    let start = c.args.asked.start in
+    let is : c.from_residual-in_err-write_heads.result ≡ Err c.in_err-write_heads.field-0.0 = search rules in
+    let here : IsFileRefusal base marks known past start c.in_err-write_heads.field-0.0 =
+    subst (IsFileRefusal base marks known past start) (sym c.in_err-write_heads.ensures.fault)
+    (call_failed base marks known past start common.WriteFailed refl) in
+    rw is here
 
 pub returns-in_err-write_loaded-clause-fault : goal.returns-in_err-write_loaded-clause-fault
 returns-in_err-write_loaded-clause-fault g c =
@@ -86,6 +100,7 @@ pub returns-clause-written : goal.returns-clause-written
 returns-clause-written g c =
     let contents = g.W.Write.contents in
     let a = contents c.args.out.now in
+    let h = contents c.write_heads.new.out in
     let b = contents c.write_loaded.new.out in
     let e = contents c.write_all.new.out in
     let base = c.args.source.base.value in
@@ -99,14 +114,15 @@ returns-clause-written g c =
     store_of base c.in_ok-store.store.base c.in_ok-journal.journal.commits kept.commits.items c.write_all.new.store
     c.in_ok-journal.ensures.store held commits in
     let lines : c.lines.result.now ≡ base.lines = search rules in
-    is_written base c.args.source.marks.now file past start kept c.write_all.new.store c.len.result c.with-after.result a
-    b e store
+    is_written c.args.asked.format base c.args.source.marks.now file past start kept c.write_all.new.store c.len.result c.with-after.result
+    a h b e store
     (subst (λ m. IsKept m (recovered file) kept) (c.in_ok-journal.ensures.marks ∙ c.in-Ok.ensures.marks)
     c.finish-found.ensures.kept)
     c.soundness.ensures.legal c.len.ensures.count c.with-after.ensures c.in_ok-check_begins.ensures.begins
     c.in_ok-check_reaches.ensures.reaches
-    (subst (λ l. Appends a b (changes_text (asked_of start (signed past Came l)))) lines
+    c.in_ok-write_heads.ensures.written
+    (subst (λ l. Appends h b (lines_text c.args.asked.format (asked_of start (signed past Came l)))) lines
     c.in_ok-write_loaded.ensures.written)
-    (subst (λ l. Appends b e (changes_text (asked_of start (changes_behind past base.lines l)))) commits
-    (subst (λ t. Appends b e (changes_text (asked_of start (changes_behind past t.lines
+    (subst (λ l. Appends b e (lines_text c.args.asked.format (asked_of start (changes_behind past base.lines l)))) commits
+    (subst (λ t. Appends b e (lines_text c.args.asked.format (asked_of start (changes_behind past t.lines
     c.in_ok-journal.journal.commits)))) held c.in_ok-journal.ensures.written))

@@ -5,7 +5,8 @@ use Rattle.ssb_schema.specs.Orders.{order_key}
 use Rattle.ssb_text.proofs.WrittenLaws.{part_longer, writes_next, writes_stopped}
 use Rattle.ssb_text.specs.Written.{StopsShort, Writes}
 use Rattle.std.specs.Io.KnownBytes.{Appends}
-use Rattle.changes_command.specs.Signed.{changes_by, changes_text, signed_text}
+use Rattle.changes_command.specs.Signed.{changes_by}
+use Rattle.changes_command.specs.SignedText.{lines_text, signed_text}
 use Rattle.changes_command.specs.declared.signed.Sign.TheVariants.{Came, Went}
 use Rattle.changes_command.proofs.TextLaws.{text_of_added, text_of_amended, text_of_withdrawn}
 use Rattle.changes_command.proofs.writing.write_action.Goals as goal
@@ -18,9 +19,9 @@ returns-in-Add g c =
     let r = c.write_lines.result in
     let commit = c.args.commit in
     let now = lines_after_refresh (lines_after c.args.store.now.base c.args.store.now.log) c.args.earlier.now in
-    subst (λ action. Writes a b r (changes_text (changes_by commit now action))) (sym c.in-Add.is)
-    (subst (Writes a b r) (sym (text_of_added commit now c.in-Add.order))
-    (subst (λ lines. Writes a b r (flat_map (signed_text commit Came) lines)) c.lines.ensures.lines
+    subst (λ action. Writes a b r (lines_text c.args.format (changes_by commit now action))) (sym c.in-Add.is)
+    (subst (Writes a b r) (sym (text_of_added c.args.format commit now c.in-Add.order))
+    (subst (λ lines. Writes a b r (flat_map (signed_text c.args.format commit Came) lines)) c.lines.ensures.lines
     c.write_lines.ensures))
 
 pub returns-in_err-write_taken-in-Amend : goal.returns-in_err-write_taken-in-Amend
@@ -32,13 +33,13 @@ returns-in_err-write_taken-in-Amend g c =
     let commit = c.args.commit in
     let order = c.in-Amend.order in
     let now = lines_after_refresh (lines_after c.args.store.now.base c.args.store.now.log) c.args.earlier.now in
-    let went = flat_map (signed_text commit Went) (lines_of (order_key order) now) in
-    let came = flat_map (signed_text commit Came) order in
-    subst (λ action. Writes a b r (changes_text (changes_by commit now action))) (sym c.in-Amend.is)
-    (subst (Writes a b r) (sym (text_of_amended commit now order))
+    let went = flat_map (signed_text c.args.format commit Went) (lines_of (order_key order) now) in
+    let came = flat_map (signed_text c.args.format commit Came) order in
+    subst (λ action. Writes a b r (lines_text c.args.format (changes_by commit now action))) (sym c.in-Amend.is)
+    (subst (Writes a b r) (sym (text_of_amended c.args.format commit now order))
     (writes_stopped _ r a b _ c.from_residual.ensures.1
     (part_longer a b went came
-    (subst (λ key. StopsShort a b (flat_map (signed_text commit Went) (lines_of key now))) c.key.ensures
+    (subst (λ key. StopsShort a b (flat_map (signed_text c.args.format commit Went) (lines_of key now))) c.key.ensures
     c.in_err-write_taken-in-Amend.ensures))))
 
 pub returns-in_ok-write_taken-in-Amend : goal.returns-in_ok-write_taken-in-Amend
@@ -51,14 +52,14 @@ returns-in_ok-write_taken-in-Amend g c =
     let commit = c.args.commit in
     let order = c.in-Amend.order in
     let now = lines_after_refresh (lines_after c.args.store.now.base c.args.store.now.log) c.args.earlier.now in
-    let went = flat_map (signed_text commit Went) (lines_of (order_key order) now) in
-    let came = flat_map (signed_text commit Came) order in
-    subst (λ action. Writes a e r (changes_text (changes_by commit now action))) (sym c.in-Amend.is)
-    (subst (Writes a e r) (sym (text_of_amended commit now order))
+    let went = flat_map (signed_text c.args.format commit Went) (lines_of (order_key order) now) in
+    let came = flat_map (signed_text c.args.format commit Came) order in
+    subst (λ action. Writes a e r (lines_text c.args.format (changes_by commit now action))) (sym c.in-Amend.is)
+    (subst (Writes a e r) (sym (text_of_amended c.args.format commit now order))
     (writes_next a b e went came r
-    (subst (λ key. Appends a b (flat_map (signed_text commit Went) (lines_of key now))) c.key.ensures
+    (subst (λ key. Appends a b (flat_map (signed_text c.args.format commit Went) (lines_of key now))) c.key.ensures
     c.in_ok-write_taken-in-Amend.ensures)
-    (subst (λ lines. Writes b e r (flat_map (signed_text commit Came) lines)) c.lines-in-Amend.ensures.lines
+    (subst (λ lines. Writes b e r (flat_map (signed_text c.args.format commit Came) lines)) c.lines-in-Amend.ensures.lines
     c.write_lines-in-Amend.ensures)))
 
 pub returns-in-Withdraw : goal.returns-in-Withdraw
@@ -69,5 +70,5 @@ returns-in-Withdraw g c =
     let r = c.write_taken-in-Withdraw.result in
     let commit = c.args.commit in
     let now = lines_after_refresh (lines_after c.args.store.now.base c.args.store.now.log) c.args.earlier.now in
-    subst (λ action. Writes a b r (changes_text (changes_by commit now action))) (sym c.in-Withdraw.is)
-    (subst (Writes a b r) (sym (text_of_withdrawn commit c.in-Withdraw.key now)) c.write_taken-in-Withdraw.ensures)
+    subst (λ action. Writes a b r (lines_text c.args.format (changes_by commit now action))) (sym c.in-Withdraw.is)
+    (subst (Writes a b r) (sym (text_of_withdrawn c.args.format commit c.in-Withdraw.key now)) c.write_taken-in-Withdraw.ensures)

@@ -7,6 +7,8 @@ returns-in-Ok-clause-written g c = λ texts are.
     let contents = g.W.Write.contents in
     let asked = c.in_ok-asked.asked in (
       asked.past,
-      subst (λ start. Changes texts None asked.past start (contents c.args.out.now) (contents c.write_changes.new.out))
-          c.in_ok-asked.ensures.start (c.in-Ok.ensures.written texts are).0,
+      subst (λ format. Changes texts None asked.past c.args.place.now.start format (contents c.args.out.now)
+          (contents c.write_changes.new.out)) c.in_ok-asked.ensures.format
+          (subst (λ start. Changes texts None asked.past start asked.format (contents c.args.out.now)
+          (contents c.write_changes.new.out)) c.in_ok-asked.ensures.start (c.in-Ok.ensures.written texts are).0),
     )

@@ -1,0 +1,9 @@
+use Rattle.std.proofs.Common.{[], ◌∷◌, take, flat_map}
+use Rattle.std.specs.Io.KnownBytes.{Appends}
+use Rattle.csv.specs.Writing.{default_writer, escaped}
+use Rattle.changes_command.proofs.csv_text.write_escaped.Given as goal
+
+abbrev pub invariant-loop-byte : goal.invariant-loop-byte
+invariant-loop-byte g l =
+    Appends (g.W.Write.contents l.fn.out) (g.W.Write.contents l.out)
+    (flat_map (λ byte. escaped default_writer (byte ∷ [])) (take l.byte-index l.bytes))
