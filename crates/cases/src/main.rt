@@ -11,7 +11,7 @@
 //! runs in is run, in the order of names, or those that the words name:
 //!
 //! ```text
-//! cases                    // 625 cases
+//! cases                    // 637 cases
 //! cases absent.case        // absent.case: command 1, output, line 2: wanted "77\n", got the end
 //!                          // 1 cases
 //! ```

@@ -192,7 +192,11 @@ impl ListsFaults for ScriptError {
             ScriptError::TooLong => ScriptError::Read,
             ScriptError::Read => ScriptError::NoAnswer,
             ScriptError::NoAnswer => ScriptError::TooManyQuestions(3),
-            ScriptError::TooManyQuestions(_) | ScriptError::OutOfMemory => return None,
+            ScriptError::TooManyQuestions(_) => ScriptError::Sql(
+                3,
+                SqlFault::Unexpected(SQL_PLACE),
+            ),
+            ScriptError::Sql(_, _) | ScriptError::OutOfMemory => return None,
         })
     }
 }
@@ -368,11 +372,13 @@ impl ListsFaults for QuestionsError {
         QuestionsError::NotAQuestion(3)
     }
 
-    // A failed read has the number that it has in any script.
+    // A failed read, and a statement that is none, have the numbers that they have in any script.
     fn next(&self) -> Option<QuestionsError> {
         match self {
-            QuestionsError::NotAQuestion(_) | QuestionsError::Read | QuestionsError::OutOfMemory =>
-                { None }
+            QuestionsError::NotAQuestion(_)
+            | QuestionsError::Sql(_, _)
+            | QuestionsError::Read
+            | QuestionsError::OutOfMemory => None,
         }
     }
 }

@@ -262,7 +262,8 @@ impl ListsFaults for ScriptHelp<'static> {
         Some(match self {
             ScriptHelp::Record(_, _, _) => ScriptHelp::Words,
             ScriptHelp::Words => ScriptHelp::Format,
-            ScriptHelp::Format => ScriptHelp::Alone("LO_TAX"),
+            ScriptHelp::Format => ScriptHelp::Statement,
+            ScriptHelp::Statement => ScriptHelp::Alone("LO_TAX"),
             ScriptHelp::Alone(_) => ScriptHelp::Key,
             ScriptHelp::Key => ScriptHelp::LineCount(3),
             ScriptHelp::LineCount(_) => ScriptHelp::LineNumber(C_CITY, "1x"),
