@@ -390,7 +390,7 @@ def ordered(text):
     grouped = words[words.index("GROUP") + 2:stop]
     keys = ", ".join(word for word in grouped if word != ",")
     place = tokens[end - 1].end()
-    return f"{text[:place]}{',' if is_ordered else ' ORDER BY'} {keys}{text[place:]}"
+    return f"{text[:place]}{',' if is_ordered else ' ORDER BY'} {keys} {text[place:]}"
 
 
 def averaged(text):
