@@ -10,3 +10,5 @@ pub mod CopyLaws
 pub mod WorkedLaws
 mod FindLaws
 mod NeededLaws
+mod CallLaws
+mod MakingLaws

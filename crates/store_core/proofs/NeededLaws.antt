@@ -2,13 +2,14 @@
 use Rattle.std.proofs.Common.{◌≡◌, ◌⊎◌, ℕ, zero, suc, ◌+◌, ◌<◌, ◌≤◌, List, [], ◌∷◌, ◌++◌, length, take, Option, Some, None, IfSome}
 use Rattle.std.proofs.Common.{refl, sym, ap, ◌∙◌, arith, rules, inl, inr, false, subst, option_map}
 use Rattle.std.proofs.lemmas.Bool.{cases_eq}
-use Rattle.store_core.specs.Places.{Place, renamed, MayStand, Segment, empty, settled, SegmentLeft, Written, whole, TablesLeft}
+use Rattle.store_core.specs.Places.{Place, sure, renamed, MayStand, Segment, empty, settled, SegmentLeft, Written, whole, TablesLeft}
 use Rattle.store_core.specs.Found.{Store, IsBegin, IsChain, joined, tables_after}
 use Rattle.store_core.specs.World.{World, Commit, Append, Sync, Tell, Begin, SyncNames, GoOn, SyncTables, NameTables, DropSegment}
-use Rattle.store_core.specs.World.{MayLeave, reads, new_world, first_tables, changed_at}
+use Rattle.store_core.specs.World.{SyncName, MayLeave, reads, new_world, first_tables, changed_at}
 use Rattle.store_core.specs.Runs.{after_all}
 use Rattle.store_core.specs.Worked.{one_more, first_start, served_steps, fold_first}
 use Rattle.store_core.specs.Needed.{NamesUnsynced, DropsEarly, BeginsEarly, GoesOnEarly, FoldsOpen}
+use Rattle.store_core.proofs.ListLaws.{no_some}
 use Rattle.store_core.proofs.ChainLaws.{changed-same, changed-other}
 use Rattle.store_core.proofs.StartLaws.{may-read}
 use Rattle.store_core.proofs.WorkedLaws.{run-joined, written-run, begun-run, served-run, fold-allowed}
@@ -66,17 +67,28 @@ no-chain segments at [] last none h = absurd (let there = h.0 in cc)
 no-chain segments at (p ∷ ps) last none h = absurd (let there = h.0 in cc)
 
 -- what stands behind the first two tables, where those of number 1 are all that changed
-behind : (left : Option (List ℕ)) (f : Place (Written (List ℕ)) → Place (Written (List ℕ))) (n : ℕ)
-    → changed_at 1 (λ _. left) (λ m. option_map (λ (w : Written (List ℕ)). w.tables)
-    (changed_at 1 f (first_tables []) m).now) (suc (suc n)) ≡ None
-behind left f n =
-    changed-other 1 (λ _. left) (λ m. option_map (λ (w : Written (List ℕ)). w.tables)
-    (changed_at 1 f (first_tables []) m).now) (suc (suc n)) (λ e. omega arith)
-    ∙ ap (λ (p : Place (Written (List ℕ))). option_map (λ (w : Written (List ℕ)). w.tables) p.now)
-    (changed-other 1 f (first_tables []) (suc (suc n)) (λ e. omega arith))
+behind : (left : Option (List ℕ)) (tables : ℕ → Place (Written (List ℕ))) (n : ℕ) → tables (suc (suc n)) ≡ sure None
+    → changed_at 1 (λ _. left) (λ m. option_map (λ (w : Written (List ℕ)). w.tables) (tables m).now) (suc (suc n)) ≡ None
+behind left tables n e =
+    changed-other 1 (λ _. left) (λ m. option_map (λ (w : Written (List ℕ)). w.tables) (tables m).now) (suc (suc n))
+    (λ e. omega arith)
+    ∙ ap (λ (p : Place (Written (List ℕ))). option_map (λ (w : Written (List ℕ)). w.tables) p.now) e
+
+named-apart : (f : Place (Written (List ℕ)) → Place (Written (List ℕ))) (n : ℕ)
+    → changed_at 1 f (first_tables []) (suc (suc n)) ≡ sure None
+named-apart f n = changed-other 1 f (first_tables []) (suc (suc n)) (λ e. omega arith)
+
+synced-apart : (f g : Place (Written (List ℕ)) → Place (Written (List ℕ))) (n : ℕ)
+    → changed_at 1 g (changed_at 1 f (first_tables [])) (suc (suc n)) ≡ sure None
+synced-apart f g n =
+    changed-other 1 g (changed_at 1 f (first_tables [])) (suc (suc n)) (λ e. omega arith) ∙ named-apart f n
+
+-- the name of tables is synced
+abbrev synced_place : Place (Written (List ℕ)) → Place (Written (List ℕ))
+synced_place place = sure place.now
 
 abbrev unsynced : World (List ℕ) ℕ
-unsynced = after_all (new_world []) (served_steps ++ fold_first ∷ NameTables 1 ∷ SyncNames ∷ [])
+unsynced = after_all (new_world []) (served_steps ++ fold_first ∷ NameTables 1 ∷ SyncName 1 ∷ [])
 
 -- tables of which anything may be left
 abbrev torn : Option (Written (List ℕ))
@@ -97,7 +109,9 @@ names_unsynced = record {
     lost zero found are newer is = absurd (let none = newer 1 (omega arith) in cc)
     lost (suc zero) found are newer is = absurd cc
     lost (suc (suc n)) found are newer is =
-        absurd (let none = behind (Some (5 ∷ [])) (renamed torn) n in cc)
+        no_some ((with_tables 1 (Some (5 ∷ [])) unsynced).tables (suc (suc n))) found
+        (behind (Some (5 ∷ [])) (changed_at 1 synced_place (changed_at 1 (renamed torn) (first_tables []))) n
+        (synced-apart (renamed torn) synced_place n)) are
 
 abbrev dropped : World (List ℕ) ℕ
 dropped = after_all (new_world []) (served_steps ++ fold_first ∷ SyncTables 1 ∷ NameTables 1 ∷ DropSegment 0 1 ∷ [])
@@ -118,7 +132,9 @@ drops_early = record {
     lost zero found closed last are chain = no-chain (reads dropped).segments 0 closed last refl chain
     lost (suc zero) found closed last are chain = absurd cc
     lost (suc (suc n)) found closed last are chain =
-        absurd (let none = behind None (renamed (Some (whole (7 ∷ [])))) n in cc)
+        no_some ((with_tables 1 None dropped).tables (suc (suc n))) found
+        (behind None (changed_at 1 (renamed (Some (whole (7 ∷ [])))) (first_tables [])) n
+        (named-apart (renamed (Some (whole (7 ∷ [])))) n)) are
 
 -- two segments, of which one was lost
 abbrev early : World (List ℕ) ℕ
@@ -180,7 +196,7 @@ goes_on_early = record {
 abbrev folded_open : World (List ℕ) ℕ
 folded_open =
     after_all (new_world [])
-    (first_start ∷ Commit 7 ∷ Append 0 1 ∷ fold_first ∷ SyncTables 1 ∷ NameTables 1 ∷ SyncNames ∷ [])
+    (first_start ∷ Commit 7 ∷ Append 0 1 ∷ fold_first ∷ SyncTables 1 ∷ NameTables 1 ∷ SyncName 1 ∷ [])
 
 pub folds_open : FoldsOpen
 folds_open = record {
@@ -198,5 +214,6 @@ folds_open = record {
     lost zero found closed last are newer chain = absurd (let none = newer 1 (omega arith) in cc)
     lost (suc zero) found closed last are newer chain = no-chain (reads folded_open).segments 1 closed last refl chain
     lost (suc (suc n)) found closed last are newer chain =
-        absurd (let none = ap (λ (p : Place (Written (List ℕ))). option_map (λ (w : Written (List ℕ)). w.tables) p.now)
-        (changed-other 1 (renamed (Some (whole (7 ∷ [])))) (first_tables []) (suc (suc n)) (λ e. omega arith)) in cc)
+        no_some ((reads folded_open).tables (suc (suc n))) found
+        (ap (λ (p : Place (Written (List ℕ))). option_map (λ (w : Written (List ℕ)). w.tables) p.now)
+        (synced-apart (renamed (Some (whole (7 ∷ [])))) synced_place n)) are

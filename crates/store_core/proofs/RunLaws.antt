@@ -5,13 +5,13 @@ use Rattle.std.proofs.lemmas.List.{take-append-le}
 use Rattle.store_core.specs.Places.{sure, MayStand, Segment, empty, Written, whole}
 use Rattle.store_core.specs.Found.{Found, joined, Finds, IsBeginning, tables_after}
 use Rattle.store_core.specs.World.{World, Step, Commit, Append, Sync, Tell, Begin, SyncNames, GoOn, Fold, SyncTables, NameTables}
-use Rattle.store_core.specs.World.{DropTables, DropSegment, Stop, Crash, Start, first_tables, first_segment, new_world, reads}
+use Rattle.store_core.specs.World.{SyncName, DropTables, DropSegment, Stop, Crash, Start, first_tables, first_segment, new_world, reads}
 use Rattle.store_core.specs.World.{IsAllowed, after}
 use Rattle.store_core.specs.Runs.{IsRun, after_all, NothingToldIsLost, WhatIsToldStays}
 use Rattle.store_core.proofs.ChainLaws.{stands-sure}
 use Rattle.store_core.proofs.Keeping.{IsPart, Kept, raised, IsTablesAt, log-length}
 use Rattle.store_core.proofs.StepLaws.{commit_keeps, append_keeps, sync_keeps, tell_keeps, begin_keeps, names_keep}
-use Rattle.store_core.proofs.StepLaws.{goes_on_keeps}
+use Rattle.store_core.proofs.StepLaws.{goes_on_keeps, name_synced_keeps}
 use Rattle.store_core.proofs.TableLaws.{fold_keeps, sync_tables_keeps, name_keeps, above, drop_tables_keeps}
 use Rattle.store_core.proofs.TableLaws.{drop_segment_keeps, stop_keeps}
 use Rattle.store_core.proofs.Settling.{Settled, found_of, found_end, settle, settled-log, settled-length, settled-taken, is-beginning}
@@ -84,6 +84,7 @@ step_keeps next d w k (GoOn at new) may = goes_on_keeps next d w k at new may.0 
 step_keeps next d w k (Fold found tables) may = fold_keeps next d w k found tables may.0 may.1 may.2
 step_keeps next d w k (SyncTables n) may = sync_tables_keeps next d w k n
 step_keeps next d w k (NameTables n) may = name_keeps next d w k n may.0 may.1 may.2
+step_keeps next d w k (SyncName n) may = name_synced_keeps next d w k n
 step_keeps next d w k (DropTables n newer) may =
     let a = above next d w k n newer may in drop_tables_keeps next d w a.0 n a.1
 step_keeps next d w k (DropSegment n newer) may =
@@ -146,6 +147,7 @@ step_stays next d w k (GoOn at new) may = stays-same d w (after w (GoOn at new))
 step_stays next d w k (Fold found tables) may = stays-same d w (after w (Fold found tables)) refl (le_refl w.told) refl
 step_stays next d w k (SyncTables n) may = stays-same d w (after w (SyncTables n)) refl (le_refl w.told) refl
 step_stays next d w k (NameTables n) may = stays-same d w (after w (NameTables n)) refl (le_refl w.told) refl
+step_stays next d w k (SyncName n) may = stays-same d w (after w (SyncName n)) refl (le_refl w.told) refl
 step_stays next d w k (DropTables n newer) may = stays-same d w (after w (DropTables n newer)) refl (le_refl w.told) refl
 step_stays next d w k (DropSegment n newer) may = stays-same d w (after w (DropSegment n newer)) refl (le_refl w.told) refl
 step_stays next d w k Stop may = stays-same d w (after w Stop) refl (le_refl w.told) refl

@@ -267,24 +267,37 @@ begin_keeps {T} {C} next d w k at new segment is full =
         let here : at ≡ end_of (length k.chained.front) k.chained.closed = active-is next d w k.chained at is.0 in
         omega (arith, full.some, full.next_is)
 
+-- what stands there whatever crashes is what reads
+now-stands : {A : Type 0} (place : Place A) (file : Option A) → MayStand (sure place.now) file → MayStand place file
+now-stands place file stands = inl (stands-sure (sure place.now) place.now file refl stands)
+
 pub names_keep : {T C : Type 0} (next : T → C → T) (d : ℕ) (w : World T C) → Kept next d w
-    → Kept next d (record w { tables = λ n. sure (w.tables n).now; segments = λ n. sure (w.segments n).now })
-unfolding with_tables
+    → Kept next d (record w { segments = λ n. sure (w.segments n).now })
 names_keep {T} {C} next d w k =
-    with_segments next d (record w { tables = λ n. sure (w.tables n).now })
-    (with_tables next d w k (λ n. sure (w.tables n).now) (ap (λ (p : Place (Written T)). sure p.now) k.root)
-    (λ n far file stands. k.chained.newer n far file (now (w.tables n) file stands))
-    (λ n file stands. k.old.tables n file (now (w.tables n) file stands)))
-    (λ n. sure (w.segments n).now)
+    with_segments next d w k (λ n. sure (w.segments n).now)
     (sure-synced w.segments (length k.chained.front) k.chained.closed k.chained.last k.chained.chain)
     (λ n far. elim (k.chained.others n far) [
       | inl b ↦ inl b
-      | inr none ↦ inr (λ file stands. none file (now (w.segments n) file stands))
+      | inr none ↦ inr (λ file stands. none file (now-stands (w.segments n) file stands))
     ])
-    (λ n file stands. k.old.segments n file (now (w.segments n) file stands))
+    (λ n file stands. k.old.segments n file (now-stands (w.segments n) file stands))
+
+pub name_synced_keeps : {T C : Type 0} (next : T → C → T) (d : ℕ) (w : World T C) → Kept next d w → (number : ℕ)
+    → Kept next d (record w { tables = changed_at number (λ place. sure place.now) w.tables })
+name_synced_keeps {T} {C} next d w k number =
+    with_tables next d w k (changed_at number (λ place. sure place.now) w.tables)
+    (changed-each (λ n (place : Place (Written T)). n ≡ length k.chained.front
+    → place ≡ sure (Some (whole (tables_after next w.first k.chained.front)))) number (λ place. sure place.now) w.tables
+    (λ e. ap (λ (p : Place (Written T)). sure p.now) (there number e)) there (length k.chained.front) refl)
+    (changed-each (NewerTables next w.first w.log (length k.chained.front) k.chained.closed) number
+    (λ place. sure place.now) w.tables
+    (λ far file stands. k.chained.newer number far file (now-stands (w.tables number) file stands)) k.chained.newer)
+    (changed-each (OldTables next w.first w.log (last_at k.chained)) number (λ place. sure place.now) w.tables
+    (λ file stands. k.old.tables number file (now-stands (w.tables number) file stands)) k.old.tables)
   where
-    now : {A : Type 0} (place : Place A) (file : Option A) → MayStand (sure place.now) file → MayStand place file
-    now place file stands = inl (stands-sure (sure place.now) place.now file refl stands)
+    there : (n : ℕ) → n ≡ length k.chained.front
+        → w.tables n ≡ sure (Some (whole (tables_after next w.first k.chained.front)))
+    there n e = ap w.tables e ∙ k.root
 
 pub goes_on_keeps : {T C : Type 0} (next : T → C → T) (d : ℕ) (w : World T C) → Kept next d w → (at new : ℕ) (segment : Segment C)
     → IsActive w at segment → IsFull at new segment → w.segments new ≡ sure (Some empty)

@@ -3,7 +3,7 @@ use Rattle.std.proofs.Common.{◌≡◌, ◌⊎◌, ℕ, zero, suc, ◌<◌, Lis
 use Rattle.store_core.specs.Places.{settled, empty}
 use Rattle.store_core.specs.Found.{Finds, IsBegin}
 use Rattle.store_core.specs.World.{World, Step, Commit, Append, Sync, Tell, Begin, SyncNames, GoOn, SyncTables, NameTables}
-use Rattle.store_core.specs.World.{DropTables, DropSegment, Stop, IsAllowed, new_world, reads}
+use Rattle.store_core.specs.World.{SyncName, DropTables, DropSegment, Stop, IsAllowed, new_world, reads}
 use Rattle.store_core.specs.Runs.{IsRun, after_all}
 use Rattle.store_core.specs.Worked.{one_more, first_start, served_steps, fold_first, WorkedRun}
 
@@ -22,7 +22,7 @@ no-gap : (n : ℕ) → 0 < n → IsBegin {C = ℕ} 0 [] n
 no-gap zero far = absurd (omega arith)
 no-gap (suc n) far = inr tt
 
-first-found : Finds (reads (new_world {T = List ℕ} {C = ℕ} [])) (record { after = 0; tables = []; closed = []; last = [] })
+pub first-found : Finds (reads (new_world {T = List ℕ} {C = ℕ} [])) (record { after = 0; tables = []; closed = []; last = [] })
 first-found = record {
   newest = record { are = refl; none_newer = none-newer };
   chain = (refl, tt);
@@ -62,7 +62,7 @@ served-run =
       ),
     )
 
-none-then : (n : ℕ) → 0 < n → (reads (after_all (new_world []) served_steps)).tables n ≡ None
+pub none-then : (n : ℕ) → 0 < n → (reads (after_all (new_world []) served_steps)).tables n ≡ None
 none-then zero far = absurd (omega arith)
 none-then (suc n) far = refl
 
@@ -72,7 +72,7 @@ fold-allowed = (record { are = refl; none_newer = none-then }, (refl, omega arit
 pub worked_run : WorkedRun
 worked_run = (
   run-joined (new_world []) served_steps
-      (fold_first ∷ SyncTables 1 ∷ NameTables 1 ∷ SyncNames ∷ DropSegment 0 1 ∷ DropTables 0 1 ∷ Commit 9 ∷ Append 1 3 ∷ Stop ∷ [])
+      (fold_first ∷ SyncTables 1 ∷ NameTables 1 ∷ SyncName 1 ∷ DropSegment 0 1 ∷ DropTables 0 1 ∷ Commit 9 ∷ Append 1 3 ∷ Stop ∷ [])
       served-run (
         fold-allowed,
         (

@@ -7,3 +7,6 @@ pub mod Runs
 pub mod Copies
 pub mod Worked
 pub mod Needed
+pub mod Calls
+pub mod Called
+pub mod Making

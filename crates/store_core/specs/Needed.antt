@@ -2,7 +2,7 @@
 use Rattle.std.specs.Prelude.{ℕ, List, [], ◌∷◌, ◌++◌}
 use Rattle.store_core.specs.Found.{Store, Found, Finds, IsBeginning}
 use Rattle.store_core.specs.World.{Step, Commit, Append, Sync, Tell, Begin, SyncNames, GoOn, SyncTables, NameTables}
-use Rattle.store_core.specs.World.{DropSegment, new_world, MayLeave}
+use Rattle.store_core.specs.World.{SyncName, DropSegment, new_world, MayLeave}
 use Rattle.store_core.specs.Runs.{IsRun, after_all}
 use Rattle.store_core.specs.Worked.{one_more, first_start, served_steps, fold_first}
 
@@ -18,7 +18,7 @@ pub record Loses (before broken later : List (Step (List ℕ) ℕ)) : Type 0 whe
 
 -- tables get their name before they are on the disk
 abbrev pub NamesUnsynced : Type 0
-NamesUnsynced = Loses (served_steps ++ fold_first ∷ []) (NameTables 1 ∷ []) (SyncNames ∷ [])
+NamesUnsynced = Loses (served_steps ++ fold_first ∷ []) (NameTables 1 ∷ []) (SyncName 1 ∷ [])
 
 -- a segment goes before the name of newer tables is on the disk
 abbrev pub DropsEarly : Type 0
@@ -37,4 +37,4 @@ GoesOnEarly = Loses (first_start ∷ Commit 7 ∷ Append 0 1 ∷ Sync 0 ∷ Begi
 -- a segment is folded that none with commits follows
 abbrev pub FoldsOpen : Type 0
 FoldsOpen = Loses (first_start ∷ Commit 7 ∷ Append 0 1 ∷ []) (fold_first ∷ [])
-    (SyncTables 1 ∷ NameTables 1 ∷ SyncNames ∷ [])
+    (SyncTables 1 ∷ NameTables 1 ∷ SyncName 1 ∷ [])

@@ -28,7 +28,7 @@ pub data Step (T C : Type 0) : Type 0 where
   Tell : ℕ → ℕ → Step T C
   -- it makes a new segment
   Begin : ℕ → ℕ → Step T C
-  -- whoever does: after it a crash changes no name
+  -- whoever does, the folder: after it a crash changes no name of a segment
   SyncNames : Step T C
   -- it appends to the new segment from now on
   GoOn : ℕ → ℕ → Step T C
@@ -36,6 +36,8 @@ pub data Step (T C : Type 0) : Type 0 where
   Fold : Found T C → T → Step T C
   SyncTables : ℕ → Step T C
   NameTables : ℕ → Step T C
+  -- the folder of these tables: after it a crash does not change whether they have their name
+  SyncName : ℕ → Step T C
   -- it drops what no start needs, since newer tables are there
   DropTables : ℕ → ℕ → Step T C
   DropSegment : ℕ → ℕ → Step T C
@@ -132,6 +134,7 @@ IsAllowed {T} {C} next w (Fold found tables) =
 IsAllowed {T} {C} next w (SyncTables n) = Unit {0}
 IsAllowed {T} {C} next w (NameTables n) =
     (tables : T) × (w.written n ≡ Some (whole tables)) × ((w.tables n).now ≡ None)
+IsAllowed {T} {C} next w (SyncName n) = Unit {0}
 IsAllowed {T} {C} next w (DropTables n newer) = HasNewer w n newer
 IsAllowed {T} {C} next w (DropSegment n newer) = HasNewer w n newer
 IsAllowed {T} {C} next w Stop = Unit {0}
@@ -150,13 +153,14 @@ after {T} {C} w (Sync at) = record w {
 }
 after {T} {C} w (Tell at count) = record w { told = max w.told count }
 after {T} {C} w (Begin at new) = record w { segments = changed_at new (renamed (Some empty)) w.segments }
-after {T} {C} w SyncNames = record w { tables = λ n. sure (w.tables n).now; segments = λ n. sure (w.segments n).now }
+after {T} {C} w SyncNames = record w { segments = λ n. sure (w.segments n).now }
 after {T} {C} w (GoOn at new) = record w { active = Some new }
 after {T} {C} w (Fold found tables) = record w {
   written = changed_at (end_of found.after found.closed) (λ _. Some (record { tables = tables; synced = false })) w.written;
 }
 after {T} {C} w (SyncTables n) = record w { written = changed_at n (option_map (λ file. whole file.tables)) w.written }
 after {T} {C} w (NameTables n) = record w { tables = changed_at n (renamed (w.written n)) w.tables }
+after {T} {C} w (SyncName n) = record w { tables = changed_at n (λ place. sure place.now) w.tables }
 after {T} {C} w (DropTables n newer) = record w { tables = changed_at n (renamed None) w.tables }
 after {T} {C} w (DropSegment n newer) = record w { segments = changed_at n (renamed None) w.segments }
 after {T} {C} w Stop = record w { active = None }
