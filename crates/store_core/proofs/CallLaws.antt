@@ -95,29 +95,7 @@ checkpoint_may next w calls Stop are by may = absurd by
 checkpoint_may next w calls (Crash left) are by may = absurd by
 checkpoint_may next w calls (Start found) are by may = absurd by
 
--- what stands under a name reads the same behind a start
-same-read : {T : Type 0} (now : Option (Written T)) (is : T) → now ≡ Some (whole is)
-    → option_map whole (option_map (λ (f : Written T). f.tables) now) ≡ Some (whole is)
-same-read now is e = ap (λ o. option_map whole (option_map (λ f. f.tables) o)) e
-
-none-read : {T : Type 0} (now : Option (Written T)) → now ≡ None
-    → option_map whole (option_map (λ (f : Written T). f.tables) now) ≡ None
-none-read now e = ap (λ o. option_map whole (option_map (λ f. f.tables) o)) e
-
--- a start leaves what a checkpoint knows
-started_as : {T : Type 0} (tables : ℕ → Place (Written T)) (written : ℕ → Option (Written T)) (known : TablesKnown)
-    → AreAs tables written known
-    → AreAs (λ n. sure (option_map whole (option_map (λ (f : Written T). f.tables) (tables n).now))) written known
-started_as tables written Unknown are = tt
-started_as tables written NoTables are = are
-started_as tables written (Newest n) are = λ m far. none-read (tables m).now (are m far)
-started_as tables written (Unnamed n) are = (none-read (tables n).now are.0, are.1)
-started_as tables written (OnDisk n) are = (none-read (tables n).now are.0, are.1)
-started_as tables written (Named n) are = (are.0, same-read (tables n).now are.0 are.1)
-started_as {T} tables written (Sure n) are =
-    (are.0, ap sure (same-read (tables n).now are.0 (ap (λ (p : Place (Written T)). p.now) are.1)))
-
--- so does each step of a server
+-- each step of a server leaves what a checkpoint knows
 server_leaves : {T C : Type 0} (w : World T C) (step : Step T C) (known : TablesKnown) → IsBy Server step
     → AreAs w.tables w.written known → AreAs (after w step).tables (after w step).written known
 server_leaves w (Commit x) known by are = are
@@ -135,7 +113,7 @@ server_leaves w (DropTables n newer) known by are = absurd by
 server_leaves w (DropSegment n newer) known by are = absurd by
 server_leaves w Stop known by are = are
 server_leaves w (Crash left) known by are = absurd by
-server_leaves w (Start found) known by are = started_as w.tables w.written known are
+server_leaves w (Start found) known by are = are
 
 -- where names are synced, what was known of segments is so
 synced_as : {C : Type 0} (active : Option ℕ) (segments : ℕ → Place (Segment C)) (known : SegmentKnown)

@@ -45,7 +45,7 @@ with_segments next d w k segments chain others old = record {
 }
 
 -- other tables stand there, those after the front as they were
-pub with_tables : {T C : Type 0} (next : T → C → T) (d : ℕ) (w : World T C) (k : Kept next d w)
+unfoldable pub with_tables : {T C : Type 0} (next : T → C → T) (d : ℕ) (w : World T C) (k : Kept next d w)
     (tables : ℕ → Place (Written T))
     → tables (length k.chained.front) ≡ sure (Some (whole (tables_after next w.first k.chained.front)))
     → ((n : ℕ) → NewerTables next w.first w.log (length k.chained.front) k.chained.closed n (tables n))

@@ -165,8 +165,10 @@ after {T} {C} w (DropTables n newer) = record w { tables = changed_at n (renamed
 after {T} {C} w (DropSegment n newer) = record w { segments = changed_at n (renamed None) w.segments }
 after {T} {C} w Stop = record w { active = None }
 after {T} {C} w (Crash left) = record (on_disk w left) { active = None; written = λ _. None }
--- each file that is opened is synced, and so are the names; what was made and is not found was told to nobody
-after {T} {C} w (Start found) = record (on_disk w (reads w)) {
+-- each segment that is opened is synced, and so are the names of segments; what was made and is not found was told to
+-- nobody
+after {T} {C} w (Start found) = record w {
+  segments = λ n. sure (option_map settled ((reads w).segments n));
   active = Some (end_of found.after found.closed);
   log = take (end_of found.after found.closed + length found.last) w.log;
 }
