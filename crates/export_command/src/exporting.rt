@@ -9,7 +9,7 @@ ghost use Rattle.ssb_schema.specs.declared.table.Table.{Table};
 ghost use Rattle.ssb_text.specs.Layouts.{AreRows};
 ghost use Rattle.ssb_text.specs.RoundTrip.{AreTableRows};
 ghost use Rattle.ssb_text.specs.TableText.{base_texts};
-ghost use Rattle.table_folder.specs.FilesFolder.{IsUntouched, calls_on};
+ghost use Rattle.table_folder.specs.FilesFolder.{IsFilled, IsUntouched, calls_on};
 ghost use Rattle.table_folder.specs.Filled.{HasAll, LeftNoneOrAll};
 
 use crate::fault::ExportRefusal::Journal;
@@ -257,6 +257,7 @@ pub fn export<
 ) -> Result<FilesFolder<'a, F>, ExportFault>
     ensures exported { IfOk result (λ folder. (texts : Table → List ℕ) → AreRows I.remaining tables texts
         → Exports texts (P.holds place.now.journal.now) (calls_on folder)) }
+    ensures filled { IfOk result IsFilled }
     ensures fault { IfErr result (λ fault. (texts : Table → List ℕ) → AreRows I.remaining tables texts
         → TellsExportFault texts (P.holds place.now.journal.now) (P.is_taken place.now.journal.now)
         (P.is_missing place.now.journal.now) fault) }

@@ -1,9 +1,14 @@
 //! `checkpoint`: newer tables of a store's closed segments.
 
+ghost use Rattle.std.specs.Prelude.{◌≡◌, ◌<◌, ◌∷◌, IfOk, OnOk};
+ghost use Rattle.store_core.specs.Calls.{Named, Sure, tables_known};
+ghost use Rattle.store_core.specs.declared.calls.StoreCall.TheVariants.{WriteTables};
+ghost use Rattle.store_folder.specs.Steps.{found_calls};
+
 use crate::fault::{StoreJobFault, StoreRefusal, of_export};
 use crate::finding::find;
 use crate::making::written;
-use crate::putting::{free_folder, put_sizes, sync_tables};
+use crate::putting::{free_folder, put_sizes};
 use crate::reading::read_commits;
 use crate::tables::{LoadedTables, load_tables};
 use export_command::{JournalTables, export_into};
@@ -12,14 +17,14 @@ use ssb_base::Base;
 use ssb_files::JobFault::Found;
 use ssb_journal::TableMark;
 use std::alloc::{AllocError, Global};
-use std::fs::{self, OpenFile, OpenOptions};
+use std::fs::OpenOptions;
 use std::hash::RandomState;
 use std::io::{self, ErrorKind, Write};
 use std::rt::Files;
 use std::thread::Threads;
 use store_folder::{
-    FoundStore, Sizes, StoreFault, StoreFile, StoreNumbers, StorePlace, StoreUse,
-    checkpoint_lock_path, list_store, segment_path, sizes_path, tables_path,
+    FoundStore, Sizes, StoreFault, StoreFile, StoreNumbers, StorePlace, StoreSteps, StoreUse,
+    checkpoint_lock_path, list_store, tables_path,
 };
 
 // What a checkpoint has done: after how many commits the newer tables are, and how many segments they are of.
@@ -55,14 +60,6 @@ where
     }
 }
 
-// Clears away what a checkpoint that was cut off has left of these tables.
-fn clear<F: Files>(files: &F, alloc: Global, path: &str) -> io::Result<()> {
-    match files.remove_dir_all(alloc, path) {
-        Err(error) if error.kind() == ErrorKind::NotFound => Ok(()),
-        result => result,
-    }
-}
-
 // The tables after a store's closed segments, over its newest ones. There are as many commits as the names tell.
 fn read_closed<'m, 'f, R: Threads + Sync + AllocGlobal, F: Files>(
     rt: &R,
@@ -85,10 +82,11 @@ where
     Ok(read)
 }
 
-// Writes the tables after the closed segments into a folder of this path.
+// Writes the tables after the closed segments into the folder of their number.
 fn write_newer<R, F, E: Write>(
     rt: &R,
     hashing: RandomState,
+    steps: &mut StoreSteps<'_, F>,
     journal: &StorePlace<'_, F>,
     path: &str,
     err: &mut E,
@@ -97,10 +95,14 @@ where
     R: Threads + Sync + AllocGlobal,
     F: Files + AllocGlobal,
     F::File: JournalFile,
+    requires found { steps.old ≡ found_calls journal.now.found.now.sizes.after journal.now.found.now.last }
+    requires closed { journal.now.found.now.sizes.after < journal.now.found.now.last }
+    ensures { OnOk result (steps.new ≡ WriteTables journal.now.found.now.last ∷ steps.old) }
 {
     let alloc = rt.alloc();
     let files = journal.files;
-    written(alloc, path, clear(files, alloc, path))?;
+    let last = journal.found.last();
+    written(alloc, path, steps.clear_tables(last))?;
     let mut newer = free_folder(files, alloc, path)?;
     let old = tables_path(alloc, journal.folder, journal.found.after())?;
     let LoadedTables { base, marks } = load_tables(rt, files, old.as_str())?;
@@ -109,17 +111,19 @@ where
         Err(fault) => return Err(fault),
     };
     match export_into(alloc, read, &mut newer, err, false) {
-        Ok(()) => Ok(()),
+        Ok(()) => {
+            steps.note_written(last, &newer);
+            Ok(())
+        }
         Err(fault) => Err(of_export(fault)),
     }
 }
 
-// Writes the tables after the closed segments, and tells of them.
+// Writes the tables after the closed segments, of which there are some, and tells of them.
 fn fold<R, F, E: Write>(
     rt: &R,
     hashing: RandomState,
-    files: &F,
-    folder: &str,
+    steps: &mut StoreSteps<'_, F>,
     found: &FoundStore,
     err: &mut E,
 ) -> Result<Folded, StoreJobFault>
@@ -127,88 +131,84 @@ where
     R: Threads + Sync + AllocGlobal,
     F: Files + AllocGlobal,
     F::File: JournalFile,
+    requires found { steps.old ≡ found_calls found.now.sizes.after found.now.last }
+    requires closed { found.now.sizes.after < found.now.last }
 {
     let alloc = rt.alloc();
+    let (files, folder) = (steps.files(), steps.folder());
     let after = found.last();
     let path = tables_path(alloc, folder, after)?;
     let journal = StorePlace::new(files, alloc, folder, found, StoreUse::Folding)?;
-    write_newer(rt, hashing, &journal, path.as_str(), err)?;
+    write_newer(rt, hashing, steps, &journal, path.as_str(), err)?;
     let LoadedTables { base: _, marks } = load_tables(rt, files, path.as_str())?;
     let sizes = Sizes::new(alloc, after, found.sizes().of.clone()?, &marks)?;
-    written(
-        alloc,
-        path.as_str(),
-        put_sizes(files, alloc, folder, &sizes),
-    )?;
+    written(alloc, path.as_str(), put_sizes(steps, &sizes))?;
     Ok(Folded {
         after,
         segments: found.closed().len(),
     })
 }
 
-// Takes away tables that are older than others that are whole: what tells of them goes first.
-fn drop_tables<F: Files>(files: &F, alloc: Global, folder: &str, after: u64) -> io::Result<()> {
-    let sizes = sizes_path(alloc, folder, after)?;
-    match fs::remove_file(files, sizes.as_str()) {
-        Err(error) if error.kind() != ErrorKind::NotFound => return Err(error),
-        _ => {}
-    }
-    let tables = tables_path(alloc, folder, after)?;
-    fs::open(files, tables.as_str())?.sync_all()?;
-    files.remove_dir_all(alloc, tables.as_str())
-}
-
 // The number of the oldest tables that are kept: of the whole ones before the newest, these are the first that are after
 // at most so many commits, or the oldest.
-fn kept_from<F: Files>(
-    files: &F,
-    alloc: Global,
-    folder: &str,
+fn find_kept<F: Files>(
+    steps: &mut StoreSteps<'_, F>,
     tables: &[u64],
     newest: u64,
     most: u64,
-) -> Result<u64, AllocError> {
+) -> io::Result<u64>
+    ensures { IfOk result (λ kept. tables_known steps.new ≡ Named kept) }
+{
+    if !steps.find_tables(newest)? {
+        return Err(io::Error::from(ErrorKind::NotFound));
+    }
     let mut kept = newest;
     for after in tables.iter().rev() {
-        if *after < newest {
-            let sizes = sizes_path(alloc, folder, *after)?;
-            if fs::metadata(files, sizes.as_str()).is_ok() {
-                kept = *after;
-                if kept <= most {
-                    return Ok(kept);
-                }
+        if *after < newest && steps.find_tables(*after)? {
+            kept = *after;
+            if kept <= most {
+                return Ok(kept);
             }
         }
     }
     Ok(kept)
 }
 
-// Takes away what lies before the newest tables and those before them, or before those of a commit from which on all is
-// kept. What is kept stays with all segments behind it: a start that has found older tables may load them still.
+// Takes away the tables and the segments before tables that are there whatever crashes.
+fn drop_before<F: Files>(
+    steps: &mut StoreSteps<'_, F>,
+    numbers: &StoreNumbers,
+    kept: u64,
+) -> io::Result<()>
+    requires { tables_known steps.old ≡ Sure kept }
+{
+    for tables in &numbers.tables {
+        if *tables < kept {
+            steps.drop_tables(*tables, kept)?;
+        }
+    }
+    for segment in &numbers.segments {
+        if *segment < kept {
+            steps.drop_segment(*segment, kept)?;
+        }
+    }
+    steps.sync_names()
+}
+
+// Takes away what lies before the newest tables and those before them, or before those of a commit from which on all
+// is kept. What is kept stays with all segments behind it: a start that has found older tables may load them still.
 fn drop_older<F: Files>(
-    files: &F,
     alloc: Global,
-    folder: &str,
+    steps: &mut StoreSteps<'_, F>,
     newest: u64,
     keep_from: Option<u64>,
 ) -> io::Result<()> {
-    let StoreNumbers { tables, segments } = list_store(files, alloc, folder)?;
+    let numbers = list_store(steps.files(), alloc, steps.folder())?;
     let most = keep_from.unwrap_or(u64::MAX);
-    let kept = kept_from(files, alloc, folder, &tables, newest, most)?;
+    let kept = find_kept(steps, &numbers.tables, newest, most)?;
     // A checkpoint that was cut off may have named them, and no more.
-    sync_tables(files, alloc, folder, kept)?;
-    for after in &tables {
-        if *after < kept {
-            drop_tables(files, alloc, folder, *after)?;
-        }
-    }
-    for after in &segments {
-        if *after < kept {
-            let path = segment_path(alloc, folder, *after)?;
-            fs::remove_file(files, path.as_str())?;
-        }
-    }
-    fs::open(files, folder)?.sync_all()
+    steps.sync_name(kept)?;
+    drop_before(steps, &numbers, kept)
 }
 
 /// Which store gets newer tables, what is kept of it, and what is told.
@@ -223,6 +223,22 @@ pub struct CheckpointPlace<'a, F: Files> {
     pub keep_from: Option<u64>,
     /// Whether it is told what was done.
     pub tells: bool,
+}
+
+// Finds the store whose lock is held, and begins the steps on it.
+fn begin<'a, F: Files>(
+    files: &'a F,
+    alloc: Global,
+    folder: &'a str,
+) -> Result<(StoreSteps<'a, F>, FoundStore), StoreJobFault>
+where
+    F::File: JournalFile,
+    ensures { IfOk result (λ begun. begun.0 ≡ found_calls begun.1.sizes.after begun.1.last) }
+{
+    match StoreSteps::find(files, alloc, folder) {
+        Ok(begun) => Ok(begun),
+        Err(fault) => Err(Found(StoreRefusal::Store(fault))),
+    }
 }
 
 // Makes newer tables, where a segment is closed, and takes away what no start needs.
@@ -242,17 +258,14 @@ where
     // The lock's file is made in a store alone; behind it no other checkpoint changes what is found.
     find(files, alloc, folder, None)?;
     let held = lock(files, alloc, folder)?;
-    let found = find(files, alloc, folder, None)?;
-    let folded = if found.closed().is_empty() {
-        None
+    let (mut steps, found) = begin(files, alloc, folder)?;
+    // Where segments are closed, the last one is not that of the tables.
+    let folded = if found.after() < found.last() {
+        Some(fold(rt, hashing, &mut steps, &found, err)?)
     } else {
-        Some(fold(rt, hashing, files, folder, &found, err)?)
+        None
     };
-    let newest = match folded {
-        Some(folded) => folded.after,
-        None => found.after(),
-    };
-    let dropped = drop_older(files, alloc, folder, newest, place.keep_from);
+    let dropped = drop_older(alloc, &mut steps, found.last(), place.keep_from);
     held.drop();
     written(alloc, folder, dropped)?;
     Ok(folded)

@@ -11,11 +11,14 @@
 //!
 //! The tables of a store are written as an export is (`export_command`): all five, or no `lineorder`, whatever crashes.
 //! `sizes` is named when they are on the disk, and by it alone they are there. So a crash at any moment leaves the
-//! store that was there, or that with the newer tables. A checkpoint needs no lock of a server: it never touches the
-//! last segment, and takes away only what lies before two tables that are whole, the older ones on the disk. A start
-//! that has found these, and still loads them while a checkpoint names newer ones, finds all segments behind them. The
-//! newer tables have as many commits as the names of the segments tell; else they are not named. A checkpoint that is
-//! told a commit from which on all moments are kept takes away only what lies before the tables that lead to it.
+//! store that was there, or that with the newer tables. All that either word does to a store's names is a step of
+//! `StoreSteps` (`store_folder`), which may be made only behind those that the rules ask for: a body that names tables
+//! before they are written and on the disk, or that takes anything away before the name of newer tables is, is refused.
+//! A checkpoint needs no lock of a server: it never touches the last segment, and takes away only what lies before two
+//! tables that are whole, the older of which have their name on the disk. A start that has found these, and still loads
+//! them while a checkpoint names newer ones, finds all segments behind them. The newer tables have as many commits as
+//! the names of the segments tell; else they are not named. A checkpoint that is told a commit from which on all moments
+//! are kept takes away only what lies before the tables that lead to it.
 //!
 //! A [`StoreSource`] is the source of a base: the newest tables, or older ones where it asks for an earlier commit, and
 //! the commits behind them, beside a server too. Where fewer are there than come before the last segment, files of the

@@ -1,5 +1,9 @@
 //! `store`: a new store of five tables.
 
+ghost use Rattle.std.specs.Prelude.{◌≡◌, [], ◌∷◌, IsOk, OnOk};
+ghost use Rattle.store_core.specs.declared.calls.StoreCall.TheVariants.{BeginSegment, FindNothing, SyncNames};
+ghost use Rattle.table_folder.specs.FilesFolder.{IsFilled};
+
 use crate::fault::{StoreJobFault, StoreRefusal, of_export};
 use crate::no_commits::NoCommits;
 use crate::putting::{free_folder, put_sizes};
@@ -16,7 +20,8 @@ use std::hash::RandomState;
 use std::io::{self, ErrorKind, Read, Write};
 use std::rt::Files;
 use std::thread::Threads;
-use store_folder::{SegmentHead, Sizes, make_segment, tables_path};
+use store_folder::{SegmentHead, Sizes, StoreSteps, tables_path};
+use table_folder::{FilesFolder, TableFolder};
 
 // How many digits a checksum has.
 const DIGITS: usize = 32;
@@ -46,7 +51,9 @@ pub(crate) fn written<T>(
     alloc: Global,
     folder: &str,
     done: io::Result<T>,
-) -> Result<T, StoreJobFault> {
+) -> Result<T, StoreJobFault>
+    ensures { OnOk result (IsOk done) }
+{
     match done {
         Ok(value) => Ok(value),
         Err(error) if error.kind() == ErrorKind::OutOfMemory => Err(Program(Fault::OutOfMemory)),
@@ -54,27 +61,45 @@ pub(crate) fn written<T>(
     }
 }
 
+// Makes the first segment, which has a name when the first tables get theirs.
+fn make_first_segment<F: Files>(
+    steps: &mut StoreSteps<'_, F>,
+    head: &SegmentHead<'_>,
+) -> io::Result<()>
+where
+    F::File: JournalFile,
+    requires new { steps.old ≡ FindNothing ∷ [] }
+    requires first { head.now.after ≡ 0 }
+    ensures { OnOk result (steps.new ≡ SyncNames ∷ BeginSegment 0 0 ∷ FindNothing ∷ []) }
+{
+    steps.begin_segment(0, head)?;
+    steps.sync_names()
+}
+
 // Makes the first segment, and tells of the first tables, which are written.
 fn begin_store<R: Threads + Sync + AllocGlobal, F: Files + AllocGlobal>(
     rt: &R,
-    files: &F,
-    folder: &str,
-    tables: &str,
+    steps: &mut StoreSteps<'_, F>,
+    tables: &FilesFolder<'_, F>,
 ) -> Result<(), StoreJobFault>
 where
     F::File: JournalFile,
+    requires new { steps.old ≡ FindNothing ∷ [] }
+    requires filled { IsFilled tables.now }
 {
     let alloc = rt.alloc();
-    let LoadedTables { base: _, marks } = load_tables(rt, files, tables)?;
+    let folder = steps.folder();
+    let LoadedTables { base: _, marks } = load_tables(rt, steps.files(), tables.path())?;
     let of = store_of(alloc, &marks)?;
     let head = SegmentHead {
         after: 0,
         of: &of,
         before: 0,
     };
-    written(alloc, folder, make_segment(files, alloc, folder, &head))?;
+    written(alloc, folder, make_first_segment(steps, &head))?;
+    steps.note_written(0, tables);
     let sizes = Sizes::new(alloc, 0, of.clone()?, &marks)?;
-    written(alloc, folder, put_sizes(files, alloc, folder, &sizes))
+    written(alloc, folder, put_sizes(steps, &sizes))
 }
 
 fn make_store<R, F, I: Read + Drop, E: Write>(
@@ -101,8 +126,8 @@ where
         bytes,
         tells: false,
     };
-    match export(rt, hashing, tables, &place, err) {
-        Ok(_) => {}
+    let tables = match export(rt, hashing, tables, &place, err) {
+        Ok(tables) => tables,
         Err(fault) => {
             // It is empty, or has parts of tables, which `95 NotEmpty` tells of the next time.
             if is_made {
@@ -110,8 +135,9 @@ where
             }
             return Err(of_export(fault));
         }
-    }
-    begin_store(rt, files, folder, path.as_str())
+    };
+    let mut steps = StoreSteps::begin(files, alloc, folder);
+    begin_store(rt, &mut steps, &tables)
 }
 
 /// Makes a new store of five tables in a folder that is not there or is empty, and tells a fault on a line of `err`.

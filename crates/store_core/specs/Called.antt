@@ -18,7 +18,8 @@ pub data Caller : Type 0 where
 pub data Event (T C : Type 0) : Type 0 where
   -- this step is made
   Makes : Caller → Step T C → Event T C
-  -- a call fails; its step is made all the same, or is not
+  -- a call fails; its step is made all the same, or is not. Where a sync puts some of the names on the disk, a crash
+  -- leaves nothing that it might not have left without it
   Fails : Caller → Option (Step T C) → Event T C
   -- this is found
   Finding : Caller → StoreCall → Event T C

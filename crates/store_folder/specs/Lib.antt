@@ -2,4 +2,5 @@ pub mod Chain
 pub mod Reads
 pub mod Served
 pub mod Status
+pub mod Steps
 pub mod Texts

@@ -86,7 +86,9 @@ impl FoundStore {
     }
 
     /// The segment that a server goes on with.
-    pub fn last(&self) -> u64 {
+    pub fn last(&self) -> u64
+        ensures { result ≡ self.now.last }
+    {
         self.last
     }
 }

@@ -26,10 +26,22 @@
 //! A turn that is cut off leaves a file without a whole head, or a segment without commits. Neither is ever written
 //! again: a later segment has a greater number, since a server goes on in the segment before.
 //!
-//! What no contract states, and a reader of `src/store_file` has to hold for true: a [`StoreFile`] is such a file, and
-//! keeps what a crash may leave of one: the old segment is on the disk before the next one is made, and that, with its
-//! name, before anything is written into it. Nobody else writes the last segment: who holds the lock looks again which
-//! one that is. A [`GrowingStore`] (`src/segment_reader`) is such a file as well, to which groups are added alone.
+//! What changes a store's names goes through [`StoreSteps`], a server's turn and all of the commands `store` and
+//! `checkpoint`. Each of its methods is a step of the machine of stores (`store_core`), and requires what the rules ask
+//! of the calls before it (`store_core/specs/Calls`): tables get their name when their folder has all five and `sizes`
+//! is written, all on the disk; a segment or tables go when newer tables have their name on the disk; a server begins
+//! the next segment where its own ends, and writes into it when its name is on the disk. So such a run of calls is one
+//! of the machine, and loses nothing that was told (`calls_are_a_run`), and a new store is there whole or not at all
+//! (`a_new_store_is_whole`), where the following holds.
+//!
+//! What no contract states, and a reader of `src/steps` has to hold for true: each method makes the calls of the system
+//! that are its step, and one that fails has made it, or not, or has synced some of the names; the folder of tables that
+//! are noted as written is that of their number; whoever begins the steps of a checkpoint has the lock against others,
+//! what it finds reads so, and what is written of it are the tables after its closed segments. Of `src/store_file`:
+//! where a file rests, all of its last segment is on the disk, and its owner counts the commits (`journal_file`,
+//! `JournalFile::rest`); the segments are one file, and keep what a crash may leave of one. Nobody else writes the last
+//! segment: who holds the lock looks again which one that is. A [`GrowingStore`] (`src/segment_reader`) is such a file as
+//! well, to which groups are added alone.
 #![tactic(auto)]
 
 mod fault;
@@ -44,6 +56,7 @@ mod segment_head;
 mod segment_reader;
 mod served;
 mod sizes;
+mod steps;
 mod store_file;
 mod turns;
 
@@ -52,9 +65,10 @@ pub use file_name::{checkpoint_lock_path, lock_path, segment_path, sizes_path, t
 pub use finding::{FoundStore, StoreNumbers, find_store, list_store};
 pub use growing_store::GrowingStore;
 pub use place::{StorePlace, StoreUse};
-pub use segment::{OpenSegment, make_segment};
+pub use segment::OpenSegment;
 pub use segment_head::SegmentHead;
 pub use served::{OneFile, ServedJournal};
 pub use sizes::Sizes;
+pub use steps::{BegunSegment, StoreSteps};
 pub use store_file::StoreFile;
 pub use turns::SegmentTurns;

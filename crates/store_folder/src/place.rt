@@ -1,6 +1,6 @@
 //! A store as the place of a journal.
 
-ghost use Rattle.std.specs.Prelude.{None};
+ghost use Rattle.std.specs.Prelude.{◌≡◌, None, IfOk};
 ghost use Rattle.journal_opening.specs.declared.start.JournalStart.TheVariants.{GoesOn};
 
 use crate::fault::StoreFault;
@@ -64,7 +64,9 @@ where
         folder: &'a str,
         found: &'a FoundStore,
         used: StoreUse,
-    ) -> Result<StorePlace<'a, F>, AllocError> {
+    ) -> Result<StorePlace<'a, F>, AllocError>
+        ensures { IfOk result (λ place. place.found.now ≡ found.now) }
+    {
         Ok(StorePlace {
             files,
             alloc,

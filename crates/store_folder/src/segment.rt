@@ -110,7 +110,8 @@ fn look_often<O: OpenFile + JournalFile + Drop>(
     number: u64,
     of: &[u8],
 ) -> io::Result<Looked<O>> {
-    // A file that is being made has no more than this when its first bytes are read.
+    // Asked for before the bytes are read: of a file that is being made these are no fewer then, so it is not taken for
+    // one that has more than a head and is none.
     let size = file.metadata()?.len();
     let bytes = first_bytes(alloc, &file)?;
     let looked = judge(alloc, file, &bytes, size, number, of)?;
@@ -195,8 +196,8 @@ where
     }
 }
 
-/// Makes a segment that has no commits, and syncs it and its name. There is no file of that name yet.
-pub fn make_segment<F: Files>(
+/// Makes a segment that has no commits, and syncs it. There is no file of that name yet.
+pub(crate) fn made_segment<F: Files>(
     files: &F,
     alloc: Global,
     folder: &str,
@@ -216,7 +217,6 @@ where
         .open(files, path.as_str())?;
     file.write_all_at(&bytes, 0)?;
     file.sync_all()?;
-    fs::open(files, folder)?.sync_all()?;
     Ok(OpenSegment {
         file,
         head: length,

@@ -35,7 +35,9 @@ impl Sizes {
         after: u64,
         of: Vec<u8>,
         marks: &[TableMark],
-    ) -> Result<Sizes, AllocError> {
+    ) -> Result<Sizes, AllocError>
+        ensures { IfOk result (λ sizes. sizes.after ≡ after) }
+    {
         let head = head_of(alloc, HeadForm::Checksums, marks)?;
         let lines = head.get(JOURNAL_TITLE.len()..).unwrap_or(&[]);
         Ok(Sizes {

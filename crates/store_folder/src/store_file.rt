@@ -1,11 +1,13 @@
 //! The commits behind tables of a store as one file.
 
 ghost use Rattle.std.specs.Io.{ReadsAtMost};
+ghost use Rattle.std.specs.Prelude.{◌≡◌, IfOk};
+ghost use Rattle.store_core.specs.Calls.{Ended, Ready, segment_known};
 
 use crate::file_name::segment_path;
 use crate::placed_segment::{PlacedSegment, own_place, read_head, refused};
-use crate::segment::make_segment;
 use crate::segment_head::SegmentHead;
+use crate::steps::{BegunSegment, StoreSteps};
 use crate::turns::SegmentTurns;
 use journal_file::{JournalFile, OpenError};
 use std::alloc::{AllocError, Global};
@@ -128,9 +130,16 @@ where
         }
     }
 
-    // Makes the segment behind so many commits of the store, where all before is on the disk; and what the last one is
-    // from then on.
-    fn next_segment(&self, after: u64) -> io::Result<(ClosedSegment, PlacedSegment<F::File>)> {
+    // Makes the segment behind so many commits of the store, where all before is on the disk, and syncs its name; and
+    // what the last one is from then on.
+    fn next_segment(
+        &self,
+        steps: &mut StoreSteps<'a, F>,
+        after: u64,
+    ) -> io::Result<(ClosedSegment, BegunSegment<F::File>)>
+        requires { segment_known steps.old ≡ Ended self.now.last_number after }
+        ensures { IfOk result (λ next. segment_known steps.new ≡ Ready next.1.before next.1.number) }
+    {
         let last = self.last()?;
         let size = last.file.metadata()?.len();
         let head = SegmentHead {
@@ -138,7 +147,8 @@ where
             of: &self.rule.of,
             before: size,
         };
-        let segment = make_segment(self.rule.files, self.rule.alloc, self.rule.folder, &head)?;
+        let begun = steps.begin_segment(self.last_number, &head)?;
+        steps.sync_names()?;
         // The closed gate at the end of the last one is the one that the next begins with.
         let groups = size.saturating_sub(last.head).saturating_sub(1);
         let end = last.begin.saturating_add(groups);
@@ -148,15 +158,17 @@ where
             begin: last.begin,
             end,
         };
-        Ok((closed, PlacedSegment::new(segment, end)))
+        Ok((closed, begun))
     }
 
     // Goes on in the next segment.
-    fn go_on(&mut self, after: u64) -> io::Result<()> {
+    fn go_on(&mut self, steps: &mut StoreSteps<'a, F>, after: u64) -> io::Result<()>
+        requires { segment_known steps.old ≡ Ended self.old.last_number after }
+    {
         self.closed.try_reserve(1)?;
-        let (closed, next) = self.next_segment(after)?;
+        let (closed, begun) = self.next_segment(steps, after)?;
         self.closed.push(closed)?;
-        self.last = Some(next);
+        self.last = Some(PlacedSegment::new(steps.go_on(begun), closed.end));
         self.last_number = after;
         Ok(())
     }
@@ -243,7 +255,10 @@ where
             return;
         }
         let after = self.rule.after.saturating_add(count);
-        if self.go_on(after).is_err() {
+        let rule = &self.rule;
+        let (files, alloc, folder) = (rule.files, rule.alloc, rule.folder);
+        let mut steps = StoreSteps::turn(files, alloc, folder, self.last_number, after);
+        if self.go_on(&mut steps, after).is_err() {
             self.note_unmade();
         }
         self.begun = count;
