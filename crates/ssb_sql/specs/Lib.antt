@@ -13,4 +13,5 @@ pub mod Said
 pub mod Meaning
 pub mod Laws
 pub mod Faults
+pub mod FaultNames
 pub mod Refusals

@@ -1,6 +1,10 @@
 //! What is wrong with a text of SQL, and where.
+
+ghost use Rattle.std.specs.Prelude.{◌≡◌};
+ghost use Rattle.ssb_sql.specs.FaultNames.{name_of, place_of};
+
 use std::alloc::{AllocError, AllocFailed};
-use thiserror::Error;
+use std::fmt;
 
 /// A place in a text: the line, and the character in it, both from 1.
 #[derive(Clone, Copy, Debug, PartialEq, Eq)]
@@ -26,37 +30,27 @@ impl TextPlace {
 
 /// Why a text is no statement, with the place of the first token that is wrong. Its text is its number, its name and
 /// its place.
-#[derive(Clone, Copy, Debug, PartialEq, Eq, Error)]
+#[derive(Clone, Copy, Debug, PartialEq, Eq)]
 pub enum SqlFault {
     /// Nothing that a statement has: a character, a text without its end, a number that is too great.
-    #[error("51 BadToken {} {}", .0.line, .0.column)]
     BadToken(TextPlace),
     /// A token that may not stand there; behind the last, more had to come.
-    #[error("52 Unexpected {} {}", .0.line, .0.column)]
     Unexpected(TextPlace),
     /// A word of SQL, or a column, that no statement here has.
-    #[error("53 NotSupported {} {}", .0.line, .0.column)]
     NotSupported(TextPlace),
     /// No head and no column of the qualifying table has the name.
-    #[error("54 UnknownName {} {}", .0.line, .0.column)]
     UnknownName(TextPlace),
     /// The table is not read, not joined, or has no lines of orders.
-    #[error("55 NotJoined {} {}", .0.line, .0.column)]
     NotJoined(TextPlace),
     /// The column is no group column.
-    #[error("56 NotAGroup {} {}", .0.line, .0.column)]
     NotAGroup(TextPlace),
     /// The column cannot have the value, or it cannot be compared so.
-    #[error("57 BadValue {} {}", .0.line, .0.column)]
     BadValue(TextPlace),
     /// More than 4 group columns, 16 printed columns or 16 values of a column, or a table or a join twice.
-    #[error("58 TooMany {} {}", .0.line, .0.column)]
     TooMany(TextPlace),
     /// Two printed columns have one head.
-    #[error("59 SameHead {} {}", .0.line, .0.column)]
     SameHead(TextPlace),
     /// Memory ran out.
-    #[error("out of memory")]
     OutOfMemory,
 }
 
@@ -73,6 +67,42 @@ impl<T: Drop> From<AllocFailed<T>> for SqlFault {
 }
 
 impl SqlFault {
+    /// Its number and its name.
+    pub fn name(self) -> &'static str
+        ensures { result.now ≡ name_of self }
+    {
+        match self {
+            SqlFault::BadToken(_) => "51 BadToken",
+            SqlFault::Unexpected(_) => "52 Unexpected",
+            SqlFault::NotSupported(_) => "53 NotSupported",
+            SqlFault::UnknownName(_) => "54 UnknownName",
+            SqlFault::NotJoined(_) => "55 NotJoined",
+            SqlFault::NotAGroup(_) => "56 NotAGroup",
+            SqlFault::BadValue(_) => "57 BadValue",
+            SqlFault::TooMany(_) => "58 TooMany",
+            SqlFault::SameHead(_) => "59 SameHead",
+            SqlFault::OutOfMemory => "out of memory",
+        }
+    }
+
+    /// Where the text is wrong; `None` where memory ran out.
+    pub fn place(self) -> Option<TextPlace>
+        ensures { result ≡ place_of self }
+    {
+        match self {
+            SqlFault::BadToken(place) => Some(place),
+            SqlFault::Unexpected(place) => Some(place),
+            SqlFault::NotSupported(place) => Some(place),
+            SqlFault::UnknownName(place) => Some(place),
+            SqlFault::NotJoined(place) => Some(place),
+            SqlFault::NotAGroup(place) => Some(place),
+            SqlFault::BadValue(place) => Some(place),
+            SqlFault::TooMany(place) => Some(place),
+            SqlFault::SameHead(place) => Some(place),
+            SqlFault::OutOfMemory => None,
+        }
+    }
+
     /// The same fault in a text in which its own begins at this place.
     pub(crate) fn behind(self, start: TextPlace) -> SqlFault {
         match self {
@@ -86,6 +116,16 @@ impl SqlFault {
             SqlFault::TooMany(place) => SqlFault::TooMany(place.behind(start)),
             SqlFault::SameHead(place) => SqlFault::SameHead(place.behind(start)),
             SqlFault::OutOfMemory => SqlFault::OutOfMemory,
+        }
+    }
+}
+
+impl fmt::Display for SqlFault {
+    fn fmt<W: fmt::Write>(&self, f: &mut fmt::Formatter<W>) -> fmt::Result {
+        let name = self.name();
+        match self.place() {
+            Some(place) => write!(f, "{name} {} {}", place.line, place.column),
+            None => f.write_str(name),
         }
     }
 }

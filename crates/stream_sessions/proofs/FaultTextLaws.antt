@@ -1,5 +1,5 @@
 -- The texts of faults are UTF-8.
-use Rattle.std.proofs.Common.{◌≡◌, ℕ, Bool, true, false, ◌&&◌, List, [], ◌∷◌, ◌++◌, codes, decimal, Option, Some, refl}
+use Rattle.std.proofs.Common.{◌≡◌, ℕ, Bool, true, false, ◌&&◌, List, [], ◌∷◌, ◌++◌, codes, decimal, Option, Some, None, refl}
 use Rattle.std.proofs.Common.{nat_lt, nat_eq, IsUtf8, cond}
 use Rattle.std.specs.List.{concat, find}
 use Rattle.std.specs.Option.{option_map, unwrap_or}
@@ -16,6 +16,7 @@ use Rattle.ssb_schema.specs.declared.table.Table.{Table}
 use Rattle.ssb_schema.specs.declared.table.Table.TheVariants as table
 use Rattle.ssb_script.specs.declared.error.ScriptError.{ScriptError}
 use Rattle.ssb_script.specs.declared.error.ScriptError.TheVariants as script
+use Rattle.ssb_sql.specs.FaultNames.{name_of, place_of}
 use Rattle.ssb_sql.specs.declared.fault.SqlFault.{SqlFault}
 use Rattle.ssb_sql.specs.declared.fault.SqlFault.TheVariants as sql
 use Rattle.ssb_sql.specs.declared.fault.TextPlace.{TextPlace}
@@ -107,24 +108,28 @@ schema_is_text (schema.OutOfRange column) =
 schema_is_text (schema.FieldTooLong column) =
     behind (codes "11 FieldTooLong ") (column_name column ++ []) refl (last_column column)
 
-placed_is_text : (name : List ℕ) (place : TextPlace) → are_ascii name ≡ true → IsUtf8 (placed_text name place)
-placed_is_text name place ascii =
+placed_is_text : (name : List ℕ) (place : Option TextPlace) → are_ascii name ≡ true → IsUtf8 (placed_text name place)
+placed_is_text name None ascii = ascii_is_text name ascii
+placed_is_text name (Some place) ascii =
     behind name (codes " " ++ (decimal place.line ++ (codes " " ++ (decimal place.column ++ [])))) ascii
     (behind (codes " ") (decimal place.line ++ (codes " " ++ (decimal place.column ++ []))) refl
     (IsUtf8-append (decimal place.line) (codes " " ++ (decimal place.column ++ [])) (number_is_text place.line)
     (behind (codes " ") (decimal place.column ++ []) refl (last_number place.column))))
 
+name_is_ascii : (fault : SqlFault) → are_ascii (name_of fault) ≡ true
+name_is_ascii (sql.BadToken place) = refl
+name_is_ascii (sql.Unexpected place) = refl
+name_is_ascii (sql.NotSupported place) = refl
+name_is_ascii (sql.UnknownName place) = refl
+name_is_ascii (sql.NotJoined place) = refl
+name_is_ascii (sql.NotAGroup place) = refl
+name_is_ascii (sql.BadValue place) = refl
+name_is_ascii (sql.TooMany place) = refl
+name_is_ascii (sql.SameHead place) = refl
+name_is_ascii sql.OutOfMemory = refl
+
 sql_is_text : (fault : SqlFault) → IsUtf8 (sql_text fault)
-sql_is_text (sql.BadToken place) = placed_is_text (codes "51 BadToken") place refl
-sql_is_text (sql.Unexpected place) = placed_is_text (codes "52 Unexpected") place refl
-sql_is_text (sql.NotSupported place) = placed_is_text (codes "53 NotSupported") place refl
-sql_is_text (sql.UnknownName place) = placed_is_text (codes "54 UnknownName") place refl
-sql_is_text (sql.NotJoined place) = placed_is_text (codes "55 NotJoined") place refl
-sql_is_text (sql.NotAGroup place) = placed_is_text (codes "56 NotAGroup") place refl
-sql_is_text (sql.BadValue place) = placed_is_text (codes "57 BadValue") place refl
-sql_is_text (sql.TooMany place) = placed_is_text (codes "58 TooMany") place refl
-sql_is_text (sql.SameHead place) = placed_is_text (codes "59 SameHead") place refl
-sql_is_text sql.OutOfMemory = ascii_is_text (codes "out of memory") refl
+sql_is_text fault = placed_is_text (name_of fault) (place_of fault) (name_is_ascii fault)
 
 pub fault_is_text : (fault : ScriptError) → IsUtf8 (fault_text fault)
 fault_is_text (script.BadLine number) = behind (codes "70 BadLine ") (decimal number ++ []) refl (last_number number)

@@ -1,13 +1,13 @@
 -- What is told of a request's fault.
-use Rattle.std.specs.Prelude.{ℕ, List, [], ◌∷◌, ◌++◌, codes, decimal}
+use Rattle.std.specs.Prelude.{ℕ, List, [], ◌∷◌, ◌++◌, codes, decimal, Option, Some, None}
 use Rattle.std.specs.List.{concat}
 use Rattle.ssb_schema.specs.Columns.{column_name, table_name}
 use Rattle.ssb_schema.specs.declared.fault.SchemaFault.{SchemaFault}
 use Rattle.ssb_schema.specs.declared.fault.SchemaFault.TheVariants as schema
 use Rattle.ssb_script.specs.declared.error.ScriptError.{ScriptError}
 use Rattle.ssb_script.specs.declared.error.ScriptError.TheVariants as script
+use Rattle.ssb_sql.specs.FaultNames.{name_of, place_of}
 use Rattle.ssb_sql.specs.declared.fault.SqlFault.{SqlFault}
-use Rattle.ssb_sql.specs.declared.fault.SqlFault.TheVariants as sql
 use Rattle.ssb_sql.specs.declared.fault.TextPlace.{TextPlace}
 use Rattle.ssb_formats.specs.ReplyTexts.{fault_shown}
 use Rattle.ssb_formats.specs.declared.reply_format.ReplyFormat.{ReplyFormat}
@@ -28,22 +28,15 @@ schema_text (schema.TooManyRows table) = concat (codes "9 TooManyRows " ∷ tabl
 schema_text (schema.OutOfRange column) = concat (codes "10 OutOfRange " ∷ column_name column ∷ [])
 schema_text (schema.FieldTooLong column) = concat (codes "11 FieldTooLong " ∷ column_name column ∷ [])
 
--- a name, and the line and the character of a place, both from 1
-abbrev pub placed_text : List ℕ → TextPlace → List ℕ
-placed_text name place = concat (name ∷ codes " " ∷ decimal place.line ∷ codes " " ∷ decimal place.column ∷ [])
+-- a name, and the line and the character of a place, both from 1, where there is one
+abbrev pub placed_text : List ℕ → Option TextPlace → List ℕ
+placed_text name None = name
+placed_text name (Some place) =
+    concat (name ∷ codes " " ∷ decimal place.line ∷ codes " " ∷ decimal place.column ∷ [])
 
 -- the number, the name and the place of a statement's fault
 abbrev pub sql_text : SqlFault → List ℕ
-sql_text (sql.BadToken place) = placed_text (codes "51 BadToken") place
-sql_text (sql.Unexpected place) = placed_text (codes "52 Unexpected") place
-sql_text (sql.NotSupported place) = placed_text (codes "53 NotSupported") place
-sql_text (sql.UnknownName place) = placed_text (codes "54 UnknownName") place
-sql_text (sql.NotJoined place) = placed_text (codes "55 NotJoined") place
-sql_text (sql.NotAGroup place) = placed_text (codes "56 NotAGroup") place
-sql_text (sql.BadValue place) = placed_text (codes "57 BadValue") place
-sql_text (sql.TooMany place) = placed_text (codes "58 TooMany") place
-sql_text (sql.SameHead place) = placed_text (codes "59 SameHead") place
-sql_text sql.OutOfMemory = codes "out of memory"
+sql_text fault = placed_text (name_of fault) (place_of fault)
 
 -- the number, the name and the values of a script's fault
 abbrev pub fault_text : ScriptError → List ℕ

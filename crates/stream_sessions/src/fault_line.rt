@@ -66,14 +66,17 @@ fn write_schema_fault<W: Write>(writer: &mut W, fault: SchemaFault) -> Result<()
     }
 }
 
-// A name, and a place in a text.
+// A name, and a place in a text, where there is one.
 fn write_placed<'a, W: Write>(
     writer: &mut W,
     name: &'a str,
-    place: TextPlace,
+    place: Option<TextPlace>,
 ) -> Result<(), WriteFault>
     ensures { Writes (W.contents writer.old) (W.contents writer.new) result (placed_text name.now place) }
 {
+    let Some(place) = place else {
+        return write_pieces(writer, &[Piece::Text(name)]);
+    };
     write_pieces(
         writer,
         &[
@@ -90,18 +93,7 @@ fn write_placed<'a, W: Write>(
 fn write_sql_fault<W: Write>(writer: &mut W, fault: SqlFault) -> Result<(), WriteFault>
     ensures { Writes (W.contents writer.old) (W.contents writer.new) result (sql_text fault) }
 {
-    match fault {
-        SqlFault::BadToken(place) => write_placed(writer, "51 BadToken", place),
-        SqlFault::Unexpected(place) => write_placed(writer, "52 Unexpected", place),
-        SqlFault::NotSupported(place) => write_placed(writer, "53 NotSupported", place),
-        SqlFault::UnknownName(place) => write_placed(writer, "54 UnknownName", place),
-        SqlFault::NotJoined(place) => write_placed(writer, "55 NotJoined", place),
-        SqlFault::NotAGroup(place) => write_placed(writer, "56 NotAGroup", place),
-        SqlFault::BadValue(place) => write_placed(writer, "57 BadValue", place),
-        SqlFault::TooMany(place) => write_placed(writer, "58 TooMany", place),
-        SqlFault::SameHead(place) => write_placed(writer, "59 SameHead", place),
-        SqlFault::OutOfMemory => write_pieces(writer, &[Piece::Text("out of memory")]),
-    }
+    write_placed(writer, fault.name(), fault.place())
 }
 
 // The number, the name and the values of a script's fault.
