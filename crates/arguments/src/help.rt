@@ -95,7 +95,8 @@ then writes the commits and the answers into FILE, which 'ssb_live audit' checks
 
 A script has one record on a line. 'query|NAME' or 'query|NAME|CONSTANT..' asks. 'ask', then 1 to 16 of these, then
 'answer' asks them together: all are answered after the same commits. 'begin', then 'add' or 'amend' with 'line|..'
-records, and 'withdraw|KEY', then 'commit' is one refresh, which is accepted whole or refused whole.
+records, and 'withdraw|KEY', then 'commit' is one refresh, which is accepted whole or refused whole. 'order|KEY' shows
+the lines of an order.
 
 With --standing the questions of FILE stand: each keeps totals that follow the commits, and is answered from these. The
 reports are the same without it.
@@ -246,6 +247,7 @@ blank in it stands in quotes: star COUNT 'C_REGION=MIDDLE EAST'; or bars part th
 EAST. ask, then 1 to 16 questions, then answer asks them together: all are answered after the same commits. begin, then
 add or amend with line|.. records, and withdraw KEY, then commit is one refresh; nothing of it is done without commit.
 
+  order 7     shows the lines of order 7, as they are then
   abort       drops the refresh, or the questions, that were begun
   format csv  from then on replies are written so; also table, json, markdown and bars, and report, as at the beginning
   timing      from then on shows how many seconds each reply took; again: no more

@@ -13,7 +13,8 @@ use Rattle.history_core.specs.Responses.{answers_in}
 use Rattle.history_core.proofs.ResponseLaws.{in_order}
 use Rattle.ssb_answers.specs.declared.answer.Unserved.{Unserved as Cause}
 use Rattle.ssb_answers.specs.declared.answer.Unserved.TheVariants.{OutOfMemory, Twin}
-use Rattle.row_store.specs.History.{CommitRecord}
+use Rattle.row_store.specs.History.{CommitRecord, lines_after}
+use Rattle.row_store.specs.Lines.{lines_of}
 use Rattle.row_store.specs.Legal.{IsRefreshReply, reply_at}
 use Rattle.row_store.specs.declared.commit.Receipt.{Receipt}
 use Rattle.row_store.specs.declared.refusal.RefreshError.{RefreshError}
@@ -26,20 +27,23 @@ use Rattle.history.specs.Words.{Owns, IsCause, IsRight, request}
 use Rattle.history.specs.declared.request.PostedRequest.{PostedRequest as Asked}
 use Rattle.std.specs.Option.{is_some}
 use Rattle.history_core.specs.declared.event.Who.TheVariants.{Client}
-use Rattle.ssb_script.specs.Requests.{RequestRecord, Refresh, Ask, Abort, questions_in}
+use Rattle.ssb_script.specs.Requests.{RequestRecord, Refresh, Ask, Order, Abort, questions_in}
 use Rattle.ssb_script.specs.declared.request.Asking.{Asking}
-use Rattle.ssb_report.specs.Replies.{Reply, Refreshed, Answered, Listed, Aborted, AreAnswers, IsReply, committed_by}
+use Rattle.ssb_report.specs.Replies.{Reply, Refreshed, Answered, Listed, Shown, Aborted, AreAnswers, IsReply, committed_by}
 use Rattle.ssb_report.specs.Replies.{with_commits}
 use Rattle.ssb_report.specs.Replies.{warehouse_answer}
 use Rattle.ssb_report.specs.Report.{AreReplies, committed}
+use Rattle.ssb_report.specs.declared.order.ShownOrder.{ShownOrder}
+use Rattle.ssb_report.specs.declared.order.ShownOrder.TheVariants as order
 use Rattle.ssb_report.proofs.CommitLaws.{with_none, with_both}
 use Rattle.ssb_clients.specs.Clients as client
 use Rattle.run_command.specs.Alone.{IsAlone, own, may_be_told, OneClientIsOneThread, AloneSeesItsOwn, AloneIsOneThread}
 use Rattle.run_command.specs.Alone.{AloneEndsAsOneThread}
-use Rattle.stream_sessions.specs.Served.{AreServed}
+use Rattle.stream_sessions.specs.Served.{AreServed, IsShown}
 use Rattle.stream_sessions.specs.declared.serve_error.ServeError.TheVariants as error
 use Rattle.stream_sessions.specs.OneRequest.{AreAlike}
 use Rattle.stream_sessions.proofs.RequestLaws.{refreshed_alike, answered_alike, asked_nothing}
+use Rattle.stream_sessions.proofs.RequestLaws.{handed_alike, shown_hands}
 
 -- where there is one client, the commits of its number are all
 all_of_one : (history : List CommitRecord) → IsOfClients 1 history → commits_of 1 history ≡ history
@@ -153,6 +157,20 @@ pub answered_own : (before asking after : TokenRecord) (asking_is : Asking) (res
 answered_own before asking after asking_is response answers asked polled =
     ap own polled.now ∙ ap own asked.now ∙ sym (with_none (own before))
 
+-- the lines of an order
+shown_reply : (before after : TokenRecord) (key : ℕ) (shown : ShownOrder) → IsShown before key shown after
+    → IsAlone after → IsSound after → IsReply may_be_told (own before) (Order key) (Shown shown)
+shown_reply before after key (order.Lines shown at lines) is alone sound =
+    let base = before.table.base in
+    let same : after.seen ≡ before.mine =
+    sym (alone_sees after alone sound) ∙ ap (λ (t : TokenRecord). t.mine) is.3.now in
+    let count : at ≡ length before.mine = is.1 ∙ ap length same in
+    let found : lines ≡ lines_of key (lines_after base before.mine) =
+    is.2 ∙ ap (λ h. lines_of key (lines_after base h)) same in
+    let key_is : shown ≡ key = is.0 in
+    inl cc
+shown_reply before after key (order.Unserved shown) is alone sound = inr (ap order.Unserved is.0)
+
 -- the replies of the one-thread warehouse, and its commits
 record AreOneThreads (old new : TokenRecord) (requests : List RequestRecord) (replies : List Reply) : Type 0 where
   answered : AreReplies may_be_told 1 (own old) requests replies
@@ -216,15 +234,15 @@ are_one_threads old new (Abort ∷ requests) (Aborted ∷ replies) served alone 
     one_more old mid new Abort Aborted requests replies tt (ap own same ∙ sym (with_none (own old)))
     (are_one_threads mid new requests replies served.2 (subst IsAlone (sym same) alone)
     (subst (λ (t : TokenRecord). is_some t.asked ≡ false) (sym same) quiet))
-are_one_threads old new (Refresh actions ∷ requests) (Answered answers ∷ replies) served alone quiet = absurd served.1
-are_one_threads old new (Refresh actions ∷ requests) (Aborted ∷ replies) served alone quiet = absurd served.1
-are_one_threads old new (Ask asking ∷ requests) (Refreshed reply ∷ replies) served alone quiet = absurd served.1
-are_one_threads old new (Ask asking ∷ requests) (Aborted ∷ replies) served alone quiet = absurd served.1
-are_one_threads old new (Abort ∷ requests) (Refreshed reply ∷ replies) served alone quiet = absurd served.1
-are_one_threads old new (Abort ∷ requests) (Answered answers ∷ replies) served alone quiet = absurd served.1
-are_one_threads old new (Abort ∷ requests) (Listed answers listing ∷ replies) served alone quiet = absurd served.1
-are_one_threads old new (Refresh actions ∷ requests) (Listed answers listing ∷ replies) served alone quiet =
-    absurd served.1
+are_one_threads old new (Order key ∷ requests) (Shown shown ∷ replies) served alone quiet =
+    let mid = served.0 in
+    let handed = shown_hands old key shown mid served.1.0 in
+    let alike = handed_alike old mid handed quiet in
+    let still = alone_still old mid alike alone in
+    one_more old mid new (Order key) (Shown shown) requests replies
+    (shown_reply old mid key shown served.1.0 still served.1.1) (ap own handed.now ∙ sym (with_none (own old)))
+    (are_one_threads mid new requests replies served.2 still (asked_nothing mid.asked alike.quiet))
+are_one_threads old new (request ∷ requests) (reply ∷ replies) served alone quiet = absurd served.1
 
 pub alone_sees_its_own : AloneSeesItsOwn
 alone_sees_its_own t alone sound = sym (alone_sees t alone sound)

@@ -24,12 +24,13 @@ use Rattle.history.specs.Tokens.{TokenRecord}
 use Rattle.history.specs.Words.{request}
 use Rattle.history.specs.declared.request.PostedRequest.{PostedRequest as Asked}
 use Rattle.history.proofs.HistoryLaws.{prefix_trans}
-use Rattle.ssb_script.specs.Requests.{RequestRecord, Refresh, Ask, Abort, questions_in}
-use Rattle.ssb_report.specs.Replies.{Reply, Refreshed, Answered, Listed, Aborted}
+use Rattle.ssb_script.specs.Requests.{RequestRecord, Refresh, Ask, Order, Abort, questions_in}
+use Rattle.ssb_report.specs.Replies.{Reply, Refreshed, Answered, Listed, Shown, Aborted}
 use Rattle.ssb_audit.specs.declared.trace.Told.{Told}
 use Rattle.ssb_audit.specs.Legal.{IsTrueOf, NeverGoBack}
 use Rattle.ssb_clients.specs.Clients as client
 use Rattle.stream_sessions.specs.Served.{IsAnswered, IsServed, AreServed, told_by, told_of}
+use Rattle.stream_sessions.proofs.RequestLaws.{shown_hands}
 use Rattle.run_command.specs.Traces.{WasTold, WereTold, RunsAreLegal}
 
 -- what is true of the first commits is true of all
@@ -122,15 +123,11 @@ one_goes number before (Ask asking) (Answered answers) after served =
     answered_goes before (questions_in asking) answers after served.1
 one_goes number before (Ask asking) (Listed answers listing) after served =
     answered_goes before (questions_in asking) answers after served.1
-one_goes number before (Refresh actions) (Listed answers listing) after served = absurd served
-one_goes number before Abort (Listed answers listing) after served = absurd served
+one_goes number before (Order key) (Shown shown) after served =
+    let handed = shown_hands before key shown after served.0 in
+    record { table = ap (λ (t : TokenRecord). t.table) handed.now; begins = handed.begins }
 one_goes number before Abort Aborted after served = subst (Goes before) (sym served) (goes_nowhere before)
-one_goes number before (Refresh actions) (Answered answers) after served = absurd served
-one_goes number before (Refresh actions) Aborted after served = absurd served
-one_goes number before (Ask asking) (Refreshed reply) after served = absurd served
-one_goes number before (Ask asking) Aborted after served = absurd served
-one_goes number before Abort (Refreshed reply) after served = absurd served
-one_goes number before Abort (Answered answers) after served = absurd served
+one_goes number before request reply after served = absurd served
 
 one_told : (base : Tables) (number : ℕ) (before : TokenRecord) (request : RequestRecord) (reply : Reply) (after : TokenRecord)
     → before.table.base ≡ base → IsServed number before request reply after
@@ -140,15 +137,9 @@ one_told base number before (Ask asking) (Answered answers) after over served =
     answers_between base number before (questions_in asking) answers after over served.1
 one_told base number before (Ask asking) (Listed answers listing) after over served =
     answers_between base number before (questions_in asking) answers after over served.1
-one_told base number before (Refresh actions) (Listed answers listing) after over served = absurd served
-one_told base number before Abort (Listed answers listing) after over served = absurd served
+one_told base number before (Order key) (Shown shown) after over served = tt
 one_told base number before Abort Aborted after over served = tt
-one_told base number before (Refresh actions) (Answered answers) after over served = absurd served
-one_told base number before (Refresh actions) Aborted after over served = absurd served
-one_told base number before (Ask asking) (Refreshed reply) after over served = absurd served
-one_told base number before (Ask asking) Aborted after over served = absurd served
-one_told base number before Abort (Refreshed reply) after over served = absurd served
-one_told base number before Abort (Answered answers) after over served = absurd served
+one_told base number before request reply after over served = absurd served
 
 -- lists of answers
 all_append : {X : Type 0} (P : X → Type 0) (xs ys : List X) → AllByRecursion P xs → AllByRecursion P ys
@@ -225,15 +216,9 @@ one_orderly number before (Ask asking) (Answered answers) after served =
 one_orderly number before (Ask asking) (Listed answers listing) after served =
     subst (λ l. Orderly (flat_map (told_by number) l)) (sym served.1.answers_are)
     (response_orderly number served.1.response)
-one_orderly number before (Refresh actions) (Listed answers listing) after served = absurd served
-one_orderly number before Abort (Listed answers listing) after served = absurd served
+one_orderly number before (Order key) (Shown shown) after served = tt
 one_orderly number before Abort Aborted after served = tt
-one_orderly number before (Refresh actions) (Answered answers) after served = absurd served
-one_orderly number before (Refresh actions) Aborted after served = absurd served
-one_orderly number before (Ask asking) (Refreshed reply) after served = absurd served
-one_orderly number before (Ask asking) Aborted after served = absurd served
-one_orderly number before Abort (Refreshed reply) after served = absurd served
-one_orderly number before Abort (Answered answers) after served = absurd served
+one_orderly number before request reply after served = absurd served
 
 -- what a client was told between two tokens
 record AreBetween (base : Tables) (number : ℕ) (before after : TokenRecord) (told : List Told) : Type 0 where

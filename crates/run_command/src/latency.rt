@@ -58,7 +58,7 @@ impl Times {
                     self.answers.add(nanos);
                 }
             }
-            RequestKind::Abort => {}
+            RequestKind::Order | RequestKind::Abort => {}
         }
     }
 

@@ -1,20 +1,23 @@
 //! Clients, which refresh and ask.
-ghost use Rattle.std.specs.Prelude.{◌≡◌, ℕ, length, true, false, None, MatchOption};
+ghost use Rattle.std.specs.Prelude.{◌≡◌, ℕ, length, true, false, None, MatchOption, IfOk};
 ghost use Rattle.std.specs.Option.{is_some};
-ghost use Rattle.row_store.specs.History.{IsPrefix};
+ghost use Rattle.row_store.specs.History.{IsPrefix, lines_after};
+ghost use Rattle.row_store.specs.Lines.{lines_of};
 ghost use Rattle.history_core.specs.declared.event.Who.TheVariants.{Client as IsNumbered};
 ghost use Rattle.history.specs.Tokens.{IsSound};
 ghost use Rattle.ssb_clients.specs.Tickets.{IsNewClient, IsResting};
 ghost use Rattle.history.specs.Members.{number_of};
-ghost use Rattle.ssb_clients.specs.Clients.{IsClient, Refreshed, Looks, Asks, Polls};
+ghost use Rattle.ssb_clients.specs.Clients.{IsClient, Refreshed, Looks, HandsBack, Asks, Polls};
 
+use crate::order::order_lines;
 use crate::server::Server;
 use history::{SharedTable, Token};
 use history_core::{Response, Who};
 use row_store::{Follower, Receipt, RefreshError, RowStore};
 use server_figures::LiveFigures;
 use ssb_questions::Question;
-use ssb_schema::{Items, Refresh};
+use ssb_schema::{Items, Line, Refresh};
+use std::alloc::AllocError;
 use std::marker::Model;
 use std::sync::{Arc, Wait};
 
@@ -179,6 +182,24 @@ impl<K: Follower + Drop> Client<K> {
             server.keep_pace(rt, self.number, receipt.number);
         }
         applied
+    }
+
+    /// The live lines of the order of this key, after all commits that the client sees then, which begin with those that it
+    /// had seen; none where the order is not live. It waits for the rows, and holds them while it copies the lines, seven
+    /// at most. Where memory for these runs out, it has seen the commits all the same. Nothing is changed.
+    pub fn order<R: Wait>(
+        &mut self,
+        rt: &R,
+        server: &Server<K>,
+        key: u64,
+    ) -> Result<Items<Line>, AllocError>
+        requires { self.old.table ≡ server.now }
+        ensures looks { HandsBack self.old self.new }
+        ensures lines { IfOk result (λ lines. lines
+            ≡ lines_of key (lines_after self.new.table.base self.new.seen)) }
+    {
+        let lines = order_lines(rt, server, &mut self.token, key)?;
+        Ok(Items::from_vec(lines))
     }
 
     /// Asks questions in one request, which are answered over one copy, all of them after one number of commits. Their

@@ -9,6 +9,7 @@
 //!   own commits are those of its number); it only grows: `begins` in what `refresh`, `ask`, `poll` and `meet` say;
 //! - own commits: `Client::refresh`, clause `refreshed`: a receipt's number is the length of what is then seen, which
 //!   ends with the commit; a refusal is the one-thread warehouse's after what is then seen, and tells its length;
+//! - the lines of an order: `Client::order`, clause `lines`, after all that is then seen;
 //! - floors: `Client::ask`, clause `asked`; answers: `Client::poll` and `Client::await_answer`, clause `polled`
 //!   (`IsRight`);
 //! - what others have seen: `Client::meet`, clause `met`;
@@ -26,6 +27,7 @@ mod client;
 mod copying;
 mod lag;
 mod log_reader;
+mod order;
 mod pace;
 mod room;
 mod server;

@@ -12,11 +12,17 @@ use Rattle.ssb_answers.specs.declared.answer.Answer.{Answer}
 use Rattle.ssb_answers.specs.declared.answer.Answer.TheVariants.{Rows, Unserved}
 use Rattle.ssb_answers.specs.declared.answer.ResultRow.{ResultRow}
 use Rattle.ssb_formats.specs.JsonText.{answer_members, list_data, row_data, sum_data, text_data, value_data}
+use Rattle.ssb_formats.specs.OrderJson.{cell_data as column_data, line_data, line_names, order_members}
 use Rattle.ssb_formats.specs.ReplyJson.{answer_data, listing_members, refreshed_members}
 use Rattle.ssb_formats.specs.Reports.{rows_members}
 use Rattle.ssb_formats.specs.StatementText as statement
 use Rattle.ssb_formats.specs.StatementText.{cell_data}
 use Rattle.ssb_questions.specs.Query.{sum_first}
+use Rattle.ssb_report.specs.declared.order.ShownOrder.{ShownOrder}
+use Rattle.ssb_report.specs.declared.order.ShownOrder.TheVariants as order
+use Rattle.ssb_schema.specs.Columns as columns
+use Rattle.ssb_schema.specs.Rows.{line_values}
+use Rattle.ssb_schema.specs.declared.line.LineFields.{LineFields}
 use Rattle.ssb_questions.specs.declared.query.Query.{Query}
 use Rattle.ssb_questions.specs.declared.value.Value.{Value}
 use Rattle.ssb_questions.specs.declared.value.Value.TheVariants as printed
@@ -91,6 +97,18 @@ pub refreshed_exact : (reply : Result Receipt RefreshError) → members_have_flo
 refreshed_exact (Ok receipt) = refl
 refreshed_exact (Err (Refused at action cause)) = refl
 refreshed_exact (Err OutOfMemory) = refl
+
+column_exact : (value : columns.Value) → has_float (column_data value) ≡ false
+column_exact (columns.Number n) = refl
+column_exact (columns.Text text) = refl
+
+line_exact : (line : LineFields) → has_float (line_data line) ≡ false
+line_exact line = items_exact column_data (line_values line) column_exact
+
+pub order_exact : (order : ShownOrder) → members_have_float (order_members order) ≡ false
+order_exact (order.Lines key at lines) =
+    rw (items_exact text_data line_names text_exact, items_exact line_data lines line_exact) refl
+order_exact (order.Unserved key) = refl
 
 pub listing_exact : (listing : ListingRecord) → members_have_float (listing_members listing) ≡ false
 listing_exact (listed.Rows rows) = statement_exact rows.at rows.heads rows.rows

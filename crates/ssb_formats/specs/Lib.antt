@@ -11,6 +11,7 @@ pub mod HtmlText
 pub mod Formats
 pub mod Titled
 pub mod ReplyFormats
+pub mod OrderJson
 pub mod ReplyJson
 pub mod ReplyTexts
 pub mod StatementCells

@@ -8,10 +8,11 @@ use Rattle.row_store.specs.declared.refusal.RefreshError.{RefreshError}
 use Rattle.row_store.specs.declared.refusal.RefreshError.TheVariants.{Refused, OutOfMemory}
 use Rattle.ssb_answers.specs.declared.answer.Answer.{Answer}
 use Rattle.ssb_report.specs.RefreshText.{cause_text}
-use Rattle.ssb_report.specs.Replies.{Reply, Refreshed, Answered, Listed, Aborted}
+use Rattle.ssb_report.specs.Replies.{Reply, Refreshed, Answered, Listed, Shown, Aborted}
 use Rattle.ssb_statements.specs.Listing.{ListingRecord, Rows, Unserved}
 use Rattle.ssb_text.specs.Numbers.{line_feed}
 use Rattle.ssb_formats.specs.JsonText.{answer_members, cause_name, json_text, list_data, object_line, text_data}
+use Rattle.ssb_formats.specs.OrderJson.{order_members}
 use Rattle.ssb_formats.specs.Reports.{rows_members}
 
 -- a member alone
@@ -59,4 +60,5 @@ abbrev pub reply_line : Reply → List ℕ
 reply_line (Refreshed reply) = object_line (refreshed_members reply)
 reply_line (Answered answers) = answers_line answers
 reply_line (Listed answers listing) = object_line (listing_members listing)
+reply_line (Shown order) = object_line (order_members order)
 reply_line Aborted = object_line aborted_members

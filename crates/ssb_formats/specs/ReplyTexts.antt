@@ -1,6 +1,6 @@
 -- What a session tells its client, in each of its formats.
 use Rattle.std.specs.Prelude.{ℕ, List, ◌++◌, codes}
-use Rattle.ssb_report.specs.Replies.{Reply, Refreshed, Answered, Listed, Aborted, reply_text}
+use Rattle.ssb_report.specs.Replies.{Reply, Refreshed, Answered, Listed, Shown, Aborted, reply_text}
 use Rattle.ssb_text.specs.Numbers.{line_feed}
 use Rattle.ssb_formats.specs.Formats.{answers_parted}
 use Rattle.ssb_formats.specs.JsonText.{object_line, text_data}
@@ -16,6 +16,7 @@ abbrev pub lines_of_reply : Format → Reply → List ℕ
 lines_of_reply format (Refreshed reply) = reply_text (Refreshed reply)
 lines_of_reply format (Answered answers) = answers_parted format answers
 lines_of_reply format (Listed answers listing) = listing_shown format listing
+lines_of_reply format (Shown order) = reply_text (Shown order)
 lines_of_reply format Aborted = reply_text Aborted
 
 -- the same, and an empty line behind it

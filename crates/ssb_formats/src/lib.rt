@@ -7,8 +7,8 @@
 //! which has them all; and `Titled`.
 //!
 //! A live session has six of these formats ([`ReplyFormat`], `specs/ReplyFormats`), in which it tells its client each
-//! reply: answers, receipts, refusals, faults ([`write_reply_as`] and its neighbours). The contract is again the exact
-//! text (`specs/ReplyTexts`, `ReplyJson`).
+//! reply: answers, receipts, refusals, orders, faults ([`write_reply_as`] and its neighbours). The contract is again the exact
+//! text (`specs/ReplyTexts`, `ReplyJson`, `OrderJson`).
 //!
 //! ```text
 //! write_formatted(alloc, &mut output, Format::Csv, answers)?;             // D_YEAR,C_NATION,LO_REVENUE-LO_SUPPLYCOST
@@ -28,6 +28,7 @@ mod json_text;
 mod laws;
 mod markdown_text;
 mod markup;
+mod order_json;
 mod reply;
 mod reply_format;
 mod reply_json;
@@ -45,7 +46,7 @@ pub use format::{Format, write_formatted};
 pub use laws::csv_is_read_back;
 pub use reply::{
     write_aborted_as, write_answers_as, write_fault_as, write_format, write_listing_as,
-    write_reply_as,
+    write_order_as, write_reply_as,
 };
 pub use reply_format::{REPLY_FORMATS, ReplyFormat};
 pub use reports::{Reported, write_reports};

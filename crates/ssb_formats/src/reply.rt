@@ -5,19 +5,22 @@ ghost use Rattle.ssb_formats.specs.Formats.{Shows, answers_parted};
 ghost use Rattle.ssb_formats.specs.ReplyTexts.{fault_shown, format_shown, label_line, labelled, reply_shown};
 ghost use Rattle.ssb_answers.specs.declared.answer.Answer.{Answer};
 ghost use Rattle.ssb_formats.specs.Reports.{listing_shown};
-ghost use Rattle.ssb_report.specs.Replies.{Aborted, Answered, Listed, Refreshed, reply_text};
+ghost use Rattle.ssb_report.specs.Replies.{Aborted, Answered, Listed, Refreshed, Shown, reply_text};
 ghost use Rattle.ssb_statements.specs.Listing.{listing_of};
 ghost use Rattle.ssb_text.specs.Numbers.{line_feed};
 ghost use Rattle.ssb_text.specs.Written.{Writes};
 
 use crate::fault::FormatFault;
 use crate::format::{Format, outcome, write_parted, write_text};
+use crate::order_json::order_line;
 use crate::reply_format::ReplyFormat;
 use crate::reply_json::{aborted_line, answers_line, listing_line, refreshed_line, text_line};
 use crate::reports::rows_text;
 use row_store::{Receipt, RefreshError};
 use ssb_answers::Answer;
-use ssb_report::{write_aborted, write_answers, write_listing, write_reply};
+use ssb_report::{
+    ShownOrder, write_aborted, write_answers, write_listing, write_order, write_reply,
+};
 use ssb_statements::Listing;
 use ssb_text::{Piece, WriteFault, write_pieces};
 use std::alloc::{AllocError, Global};
@@ -75,6 +78,20 @@ fn parted_listing(alloc: Global, format: Format, listing: &Listing) -> Result<Ve
     let mut text = listing_text(alloc, format, listing)?;
     text.push(b'\n')?;
     Ok(text)
+}
+
+// The report of an order, and an empty line.
+fn parted_order(alloc: Global, order: &ShownOrder) -> Result<Vec<u8>, AllocError>
+    ensures { IfOk result (λ text. text.items ≡ reply_text (Shown order.now) ++ line_feed) }
+{
+    let mut text = Vec::new(alloc);
+    match write_order(&mut text, order) {
+        Ok(()) => {
+            text.push(b'\n')?;
+            Ok(text)
+        }
+        Err(_) => Err(AllocError),
+    }
 }
 
 // The report that something was dropped, and an empty line.
@@ -170,6 +187,23 @@ fn listed_text(
     }
 }
 
+// The text of an order; none where it is that of the report.
+fn shown_text(
+    alloc: Global,
+    format: ReplyFormat,
+    order: &ShownOrder,
+) -> Result<Option<Vec<u8>>, AllocError>
+    ensures { IfOk result (λ text. MatchOption text
+        (reply_shown format (Shown order.now) ≡ reply_text (Shown order.now))
+        (λ text. text.items ≡ reply_shown format (Shown order.now))) }
+{
+    match format {
+        ReplyFormat::Report => Ok(None),
+        ReplyFormat::Json => Ok(Some(order_line(alloc, order)?)),
+        _ => Ok(Some(parted_order(alloc, order)?)),
+    }
+}
+
 // What tells that something was dropped; none where it is the report.
 fn aborted_text(alloc: Global, format: ReplyFormat) -> Result<Option<Vec<u8>>, AllocError>
     ensures { IfOk result (λ text. MatchOption text (reply_shown format Aborted ≡ reply_text Aborted)
@@ -251,6 +285,23 @@ pub fn write_listing_as<W: Write>(
     match listed_text(alloc, format, listing) {
         Ok(Some(text)) => write_text(writer, text.as_slice()),
         Ok(None) => outcome(write_listing(writer, listing)),
+        Err(_) => Err(FormatFault::OutOfMemory),
+    }
+}
+
+/// Writes an order as a session's format has it. The report takes no memory; any other takes that of its text, and where
+/// it runs out, nothing is written.
+pub fn write_order_as<W: Write>(
+    alloc: Global,
+    writer: &mut W,
+    format: ReplyFormat,
+    order: &ShownOrder,
+) -> Result<(), FormatFault>
+    ensures { Shows (W.contents writer.old) (W.contents writer.new) result (reply_shown format (Shown order.now)) }
+{
+    match shown_text(alloc, format, order) {
+        Ok(Some(text)) => write_text(writer, text.as_slice()),
+        Ok(None) => outcome(write_order(writer, order)),
         Err(_) => Err(FormatFault::OutOfMemory),
     }
 }

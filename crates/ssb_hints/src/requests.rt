@@ -96,8 +96,8 @@ fn request_words(alloc: Global) -> Result<Vec<&'static str>, AllocError> {
         words.push(query.name())?;
     }
     for word in [
-        "query", "select", "begin", "ask", "format", "help", "status", "timing", "quit", "exit",
-        "abort", "commit", "add", "amend", "withdraw", "line", "answer",
+        "query", "select", "order", "begin", "ask", "format", "help", "status", "timing", "quit",
+        "exit", "abort", "commit", "add", "amend", "withdraw", "line", "answer",
     ] {
         words.push(word)?;
     }

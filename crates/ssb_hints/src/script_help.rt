@@ -14,8 +14,8 @@ pub enum ScriptHelp<'a> {
     Format,
     /// A word that stands alone.
     Alone(&'a str),
-    /// A key is wanted.
-    Key,
+    /// A word that takes a key.
+    Key(&'a str),
     /// How many fields a line has behind its word.
     LineCount(usize),
     /// The column of a line that is no number, and what it has.
@@ -60,12 +60,11 @@ pub enum ScriptHelp<'a> {
 fn said(help: &ScriptHelp<'_>) -> &'static str {
     match help {
         ScriptHelp::Words => {
-            "a record begins with query, sql, ask, answer, begin, add, amend, line, withdraw, commit or abort, in a live \
-             session also with format, in small letters and without spaces"
+            "a record begins with query, sql, order, ask, answer, begin, add, amend, line, withdraw, commit or abort, in \
+             a live session also with format, in small letters and without spaces"
         }
         ScriptHelp::Format =>
             "format stands alone, in a live session; it takes report, table, csv, json, markdown or bars",
-        ScriptHelp::Key => "withdraw takes one field, the key of an order",
         ScriptHelp::Statement => {
             "sql takes the text of a statement, and stands alone, in no block; the questions of a statement are answered \
              together"
@@ -107,6 +106,7 @@ impl<'a> fmt::Display for ScriptHelp<'a> {
                 write!(f, "{path} record {number} is {record}")
             }
             ScriptHelp::Alone(word) => write!(f, "{word} takes no fields"),
+            ScriptHelp::Key(word) => write!(f, "{word} takes one field, the key of an order"),
             ScriptHelp::LineCount(count) => write!(
                 f,
                 "line takes the 17 fields of a row of lineorder, and was given {count}"
@@ -126,8 +126,8 @@ impl<'a> fmt::Display for ScriptHelp<'a> {
             }
             ScriptHelp::Place(word) => write!(
                 f,
-                "{word} is in a wrong place; query, sql, ask and begin stand alone, add, amend and withdraw between begin \
-                 and commit, line below add or amend"
+                "{word} is in a wrong place; query, sql, order, ask and begin stand alone, add, amend and withdraw between \
+                 begin and commit, line below add or amend"
             ),
             ScriptHelp::NoEnd(path, number, word) => {
                 write!(

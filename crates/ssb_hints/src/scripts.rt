@@ -15,9 +15,9 @@ use std::io;
 use std::io::{Read, Write};
 
 // The words that records begin with.
-const WORDS: [&str; 12] = [
-    "query", "sql", "begin", "add", "amend", "line", "withdraw", "commit", "ask", "answer",
-    "abort", "format",
+const WORDS: [&str; 13] = [
+    "query", "sql", "order", "begin", "add", "amend", "line", "withdraw", "commit", "ask",
+    "answer", "abort", "format",
 ];
 
 // The column of a `line` record that is no number where one is wanted.
@@ -53,11 +53,12 @@ fn help_with_line<E: Write>(
     }
 }
 
-fn help_with_key<E: Write>(record: &ByteRecord, err: &mut E) -> io::Result<()> {
+// Says what is wrong with a record of a word that takes a key.
+fn help_with_key<E: Write>(record: &ByteRecord, word: &str, err: &mut E) -> io::Result<()> {
     if has_columns(record, 2) && number(trimmed_at(record, 1)).is_some() {
-        write_line(err, &ScriptHelp::Place("withdraw"))
+        write_line(err, &ScriptHelp::Place(word))
     } else {
-        write_line(err, &ScriptHelp::Key)
+        write_line(err, &ScriptHelp::Key(word))
     }
 }
 
@@ -96,7 +97,7 @@ fn help_with_fields<E: Write>(
             write_line(err, &ScriptHelp::Place("query"))
         }
         ["line", rest @ ..] => help_with_line(alloc, record, rest.len(), err),
-        ["withdraw", ..] => help_with_key(record, err),
+        [word @ ("withdraw" | "order"), ..] => help_with_key(record, word, err),
         ["format", ..] => write_line(err, &ScriptHelp::Format),
         ["sql", ..] => write_line(err, &ScriptHelp::Statement),
         [word] if stands_alone(word) => write_line(err, &ScriptHelp::Place(word)),

@@ -12,13 +12,13 @@ use Rattle.row_store.specs.History.{Warehouse}
 use Rattle.row_store.specs.Legal.{IsRefreshReply}
 use Rattle.row_store.specs.declared.commit.Receipt.{Receipt}
 use Rattle.row_store.specs.declared.refusal.RefreshError.{RefreshError}
-use Rattle.ssb_script.specs.Requests.{RequestRecord, Refresh, Ask, Abort, questions_in, statement_in}
+use Rattle.ssb_script.specs.Requests.{RequestRecord, Refresh, Ask, Order, Abort, questions_in, statement_in}
 use Rattle.ssb_script.specs.declared.request.Asking.TheVariants.{Alone, Together, Statement as Stated}
 use Rattle.ssb_sql.specs.declared.statement.Statement.{Statement}
 use Rattle.ssb_statements.specs.Listing.{ListingRecord, cause_in, true_listing}
 use Rattle.ssb_statements.specs.Listing as listed
 use Rattle.ssb_statements.proofs.ListingLaws.{rows_are_true, true_is_listing}
-use Rattle.ssb_report.specs.Replies.{Reply, Refreshed, Answered, Listed, Aborted, true_reply, warehouse_answer}
+use Rattle.ssb_report.specs.Replies.{Reply, Refreshed, Answered, Listed, Shown, Aborted, true_reply, warehouse_answer}
 use Rattle.ssb_report.specs.Replies.{AreAnswers, IsListedOf, IsReply, reply_of_answers}
 use Rattle.ssb_report.specs.Replies.{committed_by, with_commits}
 use Rattle.ssb_report.specs.Laws.{any_unserved, gives_up, TrueRepliesAnswer, OthersGiveUp}
@@ -74,15 +74,9 @@ listed_so causes warehouse (Some statement) questions answers (listed.Rows rows)
 true_or_given_up : (causes : Cause → Bool) (warehouse : Warehouse) (request : RequestRecord) (reply : Reply)
     → IsReply causes warehouse request reply → TrueOrGivenUp warehouse request reply
 true_or_given_up causes warehouse (Refresh actions) (Refreshed reply) is = refreshed_so warehouse actions reply is
-true_or_given_up causes warehouse (Refresh actions) (Answered answers) is = absurd is
-true_or_given_up causes warehouse (Refresh actions) (Listed answers listing) is = absurd is
-true_or_given_up causes warehouse (Refresh actions) Aborted is = absurd is
-true_or_given_up causes warehouse Abort (Refreshed result) is = absurd is
-true_or_given_up causes warehouse Abort (Answered answers) is = absurd is
-true_or_given_up causes warehouse Abort (Listed answers listing) is = absurd is
+true_or_given_up causes warehouse (Order key) (Shown shown) (inl same) = inl (ap Shown same)
+true_or_given_up causes warehouse (Order key) (Shown shown) (inr left) = inr (ap (λ o. gives_up (Shown o)) left)
 true_or_given_up causes warehouse Abort Aborted is = inl refl
-true_or_given_up causes warehouse (Ask asking) (Refreshed result) is = absurd is
-true_or_given_up causes warehouse (Ask asking) Aborted is = absurd is
 true_or_given_up causes warehouse (Ask asking) (Answered answers) is =
     let true_answers = map (warehouse_answer warehouse) (questions_in asking) in
     elim (answered_so causes warehouse (questions_in asking) answers is.1) [
@@ -91,6 +85,7 @@ true_or_given_up causes warehouse (Ask asking) (Answered answers) is =
     ]
 true_or_given_up causes warehouse (Ask asking) (Listed answers listing) is =
     listed_so causes warehouse (statement_in asking) (questions_in asking) answers listing is.0 is.1
+true_or_given_up causes warehouse request reply is = absurd is
 
 all_served : (warehouse : Warehouse) (questions : List (Named × List Value))
     → cause_in (map (warehouse_answer warehouse) questions) ≡ None
@@ -103,10 +98,12 @@ true_reply_may causes warehouse (Refresh actions) = inl refl
 true_reply_may causes warehouse (Ask (Alone question)) = (refl, inl refl)
 true_reply_may causes warehouse (Ask (Together questions)) = (refl, inl refl)
 true_reply_may causes warehouse (Ask (Stated asked)) = (
-  true_is_listing asked.statement (map (warehouse_answer warehouse) asked.statement.questions.items)
-      (all_served warehouse asked.statement.questions.items),
+  true_is_listing asked.value.statement
+      (map (warehouse_answer warehouse) asked.value.statement.questions.items)
+      (all_served warehouse asked.value.statement.questions.items),
   inl refl,
 )
+true_reply_may causes warehouse (Order key) = inl refl
 true_reply_may causes warehouse Abort = tt
 
 pub true_replies_answer : TrueRepliesAnswer

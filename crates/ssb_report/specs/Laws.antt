@@ -7,8 +7,9 @@ use Rattle.ssb_answers.specs.declared.answer.Unserved.{Unserved as Cause}
 use Rattle.row_store.specs.History.{Warehouse}
 use Rattle.row_store.specs.declared.refusal.RefreshError.TheVariants.{Refused, OutOfMemory}
 use Rattle.ssb_script.specs.Requests.{RequestRecord}
-use Rattle.ssb_report.specs.Replies.{Reply, Refreshed, Answered, Listed, Aborted, true_reply, committed_by, with_commits}
+use Rattle.ssb_report.specs.Replies.{Reply, Refreshed, Answered, Listed, Shown, Aborted, true_reply, committed_by, with_commits}
 use Rattle.ssb_report.specs.Report.{AreReplies}
+use Rattle.ssb_report.specs.declared.order.ShownOrder.TheVariants as order
 use Rattle.ssb_statements.specs.Listing.{Rows, Unserved as NoRows}
 
 -- the replies of the one-thread warehouse to a client's requests, one after another
@@ -32,6 +33,8 @@ gives_up (Refreshed (Err OutOfMemory)) = true
 gives_up (Answered answers) = any_unserved answers
 gives_up (Listed answers (Rows rows)) = false
 gives_up (Listed answers (NoRows cause)) = true
+gives_up (Shown (order.Lines key at lines)) = false
+gives_up (Shown (order.Unserved key)) = true
 gives_up Aborted = false
 
 -- they answer every list of requests

@@ -1,5 +1,6 @@
 pub mod AnswerText
 pub mod RefreshText
+pub mod OrderText
 pub mod Replies
 pub mod Report
 pub mod StatementText

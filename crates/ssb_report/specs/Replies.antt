@@ -8,16 +8,20 @@ use Rattle.ssb_answers.specs.declared.answer.Answer.{Answer}
 use Rattle.ssb_answers.specs.declared.answer.Answer.TheVariants.{Rows, Unserved}
 use Rattle.ssb_answers.specs.declared.answer.Unserved.{Unserved as Cause}
 use Rattle.row_store.specs.History.{CommitRecord, Warehouse, lines_after}
+use Rattle.row_store.specs.Lines.{lines_of}
 use Rattle.row_store.specs.Legal.{warehouse_reply, IsRefreshReply}
 use Rattle.row_store.specs.declared.commit.Receipt.{Receipt}
 use Rattle.row_store.specs.declared.refusal.RefreshError.{RefreshError}
 use Rattle.ssb_script.specs.Requests.{RequestRecord}
-use Rattle.ssb_script.specs.Requests.{Refresh, Ask, Abort, questions_in, statement_in}
+use Rattle.ssb_script.specs.Requests.{Refresh, Ask, Order, Abort, questions_in, statement_in}
 use Rattle.ssb_sql.specs.declared.statement.Statement.{Statement}
 use Rattle.ssb_statements.specs.Listing.{IsListing, ListingRecord, true_listing}
 use Rattle.ssb_report.specs.RefreshText.{aborted_text, receipt_text, refusal_text}
 use Rattle.ssb_report.specs.AnswerText.{answer_text}
+use Rattle.ssb_report.specs.OrderText.{order_text}
 use Rattle.ssb_report.specs.StatementText.{listing_text}
+use Rattle.ssb_report.specs.declared.order.ShownOrder.{ShownOrder}
+use Rattle.ssb_report.specs.declared.order.ShownOrder.TheVariants as order
 
 -- what a request is answered
 pub data Reply : Type 0 where
@@ -26,6 +30,8 @@ pub data Reply : Type 0 where
   Answered : List Answer → Reply
   -- an answer to each question of a statement, and what is listed of these
   Listed : List Answer → ListingRecord → Reply
+  -- the lines of an order
+  Shown : ShownOrder → Reply
   -- what was begun is dropped
   Aborted : Reply
 
@@ -35,6 +41,7 @@ reply_text (Refreshed (Ok receipt)) = receipt_text receipt
 reply_text (Refreshed (Err error)) = refusal_text error
 reply_text (Answered answers) = flat_map answer_text answers
 reply_text (Listed answers listing) = listing_text listing
+reply_text (Shown shown) = order_text shown
 reply_text Aborted = aborted_text
 
 -- the rows that answer a question over the live lines, after all commits so far
@@ -48,11 +55,17 @@ abbrev pub reply_of_answers : Option Statement → List Answer → Reply
 reply_of_answers None answers = Answered answers
 reply_of_answers (Some statement) answers = Listed answers (true_listing statement answers)
 
+-- the live lines of the order of a key, after all commits so far
+abbrev pub warehouse_order : Warehouse → ℕ → ShownOrder
+warehouse_order warehouse key = order.Lines key (length warehouse.log)
+    (lines_of key (lines_after warehouse.base warehouse.log))
+
 -- the reply of the one-thread warehouse
 abbrev pub true_reply : Warehouse → RequestRecord → Reply
 true_reply warehouse (Refresh actions) = Refreshed (warehouse_reply warehouse.base warehouse.log actions)
 true_reply warehouse (Ask asking) =
     reply_of_answers (statement_in asking) (map (warehouse_answer warehouse) (questions_in asking))
+true_reply warehouse (Order key) = Shown (warehouse_order warehouse key)
 true_reply warehouse Abort = Aborted
 
 -- the questions that are asked together have the answers of the one-thread warehouse, or are all left unanswered for one
@@ -67,22 +80,17 @@ IsListedOf None answers listing = ⊥
 IsListedOf (Some statement) answers listing = IsListing statement answers listing
 
 -- a reply that may be given: to a refresh that of the one-thread warehouse, or that memory ran out where that is a
--- receipt; to an `abort` that alone
+-- receipt; of an order its lines in the one-thread warehouse, or that memory ran out for them; to an `abort` that alone
 abbrev pub IsReply : (Cause → Bool) → Warehouse → RequestRecord → Reply → Type 0
 IsReply causes warehouse (Refresh actions) (Refreshed reply) = IsRefreshReply warehouse.base warehouse.log actions reply
 IsReply causes warehouse (Ask asking) (Answered answers) =
     (statement_in asking ≡ None) × AreAnswers causes warehouse (questions_in asking) answers
 IsReply causes warehouse (Ask asking) (Listed answers listing) =
     IsListedOf (statement_in asking) answers listing × AreAnswers causes warehouse (questions_in asking) answers
+IsReply causes warehouse (Order key) (Shown shown) =
+    (shown ≡ warehouse_order warehouse key) ⊎ (shown ≡ order.Unserved key)
 IsReply causes warehouse Abort Aborted = Unit {0}
-IsReply causes warehouse (Refresh actions) (Answered answers) = ⊥
-IsReply causes warehouse (Refresh actions) (Listed answers listing) = ⊥
-IsReply causes warehouse (Refresh actions) Aborted = ⊥
-IsReply causes warehouse (Ask asking) (Refreshed reply) = ⊥
-IsReply causes warehouse (Ask asking) Aborted = ⊥
-IsReply causes warehouse Abort (Refreshed reply) = ⊥
-IsReply causes warehouse Abort (Answered answers) = ⊥
-IsReply causes warehouse Abort (Listed answers listing) = ⊥
+IsReply causes warehouse request reply = ⊥
 
 -- the commit that a client's request becomes where the reply is a receipt
 abbrev pub committed_by : ℕ → RequestRecord → Reply → List CommitRecord

@@ -15,7 +15,7 @@ use Rattle.ssb_script.proofs.QuestionsLaws.{zip_length}
 -- the line of what a record asks; a block has none
 abbrev line_for : Asking → ScriptLine
 line_for (Alone question) = line.Query question
-line_for (Stated asked) = line.Sql asked.text
+line_for (Stated asked) = line.Sql asked.value.text
 line_for (Together questions) = line.Ask
 
 abbrev own_line : Asking → List ScriptLine

@@ -25,7 +25,7 @@ use Rattle.ssb_script.specs.Begun as begun
 use Rattle.ssb_script.specs.Laws.{HasNoFaultIfSpelled, IsOfStatement}
 use Rattle.ssb_script.specs.Lines.{ScriptLine, RecordFault, is_abort, is_line, line_of, word_of}
 use Rattle.ssb_script.specs.Lines as line
-use Rattle.ssb_script.specs.Requests.{RequestRecord, Refresh, Ask, Abort, IsWholeAction, IsWholeRequest, action_of}
+use Rattle.ssb_script.specs.Requests.{RequestRecord, Refresh, Ask, Order, Abort, IsWholeAction, IsWholeRequest, action_of}
 use Rattle.ssb_script.specs.Requests.{has_statement, is_statement}
 use Rattle.ssb_script.specs.Requests.{lines_of_action, lines_of_asking, lines_of_refresh, most_questions}
 use Rattle.ssb_script.specs.Scripts.{EndsOpen, HasRoom, IsFaultOf, IsFirstFault, IsNoStatement, IsOpenEnd, IsSettled}
@@ -81,6 +81,7 @@ next (Inside actions) (line.Line row) = Inside actions
 next (Within actions opening lines) (line.Line row) = Within actions opening (lines ++ row ∷ [])
 next (Block questions) (line.Line row) = Block questions
 next s (line.Sql text) = Outside
+next s (line.Order key) = Outside
 next s (line.Withdraw key) = Inside (actions_of s ++ action.Withdraw key ∷ [])
 next s line.Commit = Outside
 next s line.Ask = Block []
@@ -133,6 +134,7 @@ MayAnswer (Block questions) = 0 < length questions
 abbrev Fits : Stand → ScriptLine → Type 0
 Fits s (line.Query question) = MayAsk s
 Fits s (line.Sql text) = IsOutside s
+Fits s (line.Order key) = IsOutside s
 Fits s line.Begin = IsOutside s
 Fits s (line.Open opening) = MayEnd s × (length (actions_of s) < most_actions)
 Fits s (line.Line row) = TakesLine s
@@ -201,6 +203,7 @@ behind_request (Ask (Alone question)) lines spell = ap (behind Outside) spell
 behind_request (Ask (Together questions)) lines spell =
     ap (behind Outside) spell ∙ behind-append (Block []) (map line.Query questions) (line.Answer ∷ [])
 behind_request (Ask (Stated asked)) lines spell = ap (behind Outside) spell
+behind_request (Order key) lines spell = ap (behind Outside) spell
 behind_request Abort lines spell =
     ap (behind Outside) spell.joined ∙ behind-append Outside (lines_of_begun spell.begun) (line.Abort ∷ [])
 
@@ -360,6 +363,8 @@ fit_request (Ask asking) lines rest spell whole fit =
     subst (λ first. AllFit Outside (first ++ rest)) (sym spell) (fit_asking asking rest whole fit)
 fit_request (Refresh actions) lines rest spell whole fit =
     subst (λ first. AllFit Outside (first ++ rest)) (sym spell) (fit_refresh actions rest whole fit)
+fit_request (Order key) lines rest spell whole fit =
+    subst (λ first. AllFit Outside (first ++ rest)) (sym spell) (tt, fit)
 fit_request Abort lines rest spell whole fit =
     subst (λ first. AllFit Outside (first ++ rest)) (sym spell.joined)
     (fit_dropped spell.begun spell.count rest spell.inside spell.room fit)
@@ -412,6 +417,7 @@ well_answered _ answers = absurd answers
 ends_unless_spared : (s : Stand) (l : ScriptLine) → Fits s l → spares l ≡ false → EndsWell s
 ends_unless_spared s (line.Query question) fits e = well_asked s fits
 ends_unless_spared s (line.Sql text) fits e = well_outside s fits
+ends_unless_spared s (line.Order key) fits e = well_outside s fits
 ends_unless_spared s line.Begin fits e = well_outside s fits
 ends_unless_spared s (line.Open opening) fits e = well_ended s fits.0
 ends_unless_spared s (line.Line row) fits e = absurd cc
@@ -442,6 +448,7 @@ checks_none : (number : ℕ) (b : Begun) (l : ScriptLine) → Fits (stand_of b) 
     → first_of (checks_in number b (Ok l)) ≡ None
 checks_none number begun.Nothing (line.Query question) fits = refl
 checks_none number begun.Nothing (line.Sql text) fits = refl
+checks_none number begun.Nothing (line.Order key) fits = refl
 checks_none number begun.Nothing line.Begin fits = refl
 checks_none number begun.Nothing (line.Open opening) fits = absurd fits.0
 checks_none number begun.Nothing (line.Withdraw key) fits = absurd fits.0
@@ -547,6 +554,7 @@ sql_of_request (Ask (Alone question)) lines spell = ap has_sql spell
 sql_of_request (Ask (Together questions)) lines spell =
     ap has_sql spell ∙ no_sql_queries questions (line.Answer ∷ [])
 sql_of_request (Ask (Stated asked)) lines spell = ap has_sql spell
+sql_of_request (Order key) lines spell = ap has_sql spell
 sql_of_request Abort lines spell = ap has_sql spell.joined ∙ no_sql_begun spell.begun (line.Abort ∷ [])
 
 sql_of_parts : (requests : List RequestRecord) (parts : List (List ScriptLine)) → AllZip Spell requests parts

@@ -56,6 +56,7 @@ word_for (line.Withdraw key) = word.Withdraw
 word_for line.Commit = word.Commit
 word_for line.Ask = word.Ask
 word_for line.Answer = word.Answer
+word_for (line.Order key) = word.Order
 word_for line.Abort = word.Abort
 
 same_line : (w : ScriptWord) (said l : ScriptLine) → word_for said ≡ w → line_or_bad (Some said) ≡ Ok l
@@ -92,6 +93,7 @@ word_said (Some word.Withdraw) fields l e = by_option word.Withdraw line.Withdra
 word_said (Some word.Commit) fields l e = by_alone _ line.Commit l e
 word_said (Some word.Ask) fields l e = by_alone _ line.Ask l e
 word_said (Some word.Answer) fields l e = by_alone _ line.Answer l e
+word_said (Some word.Order) fields l e = by_option word.Order line.Order _ l (λ x. refl) e
 word_said (Some word.Abort) fields l e = by_alone _ line.Abort l e
 
 -- the lines whose word stands alone in the record
@@ -105,6 +107,7 @@ IsAlone (line.Withdraw key) = ⊥
 IsAlone line.Commit = Unit {0}
 IsAlone line.Ask = Unit {0}
 IsAlone line.Answer = Unit {0}
+IsAlone (line.Order key) = ⊥
 IsAlone line.Abort = Unit {0}
 
 after_alone : (l : ScriptLine) (fields : List (List ℕ)) → IsAlone l
@@ -119,6 +122,7 @@ after_alone (line.Withdraw key) fields is = absurd is
 after_alone line.Commit fields is = refl
 after_alone line.Ask fields is = refl
 after_alone line.Answer fields is = refl
+after_alone (line.Order key) fields is = absurd is
 after_alone line.Abort fields is = refl
 
 was_alone : (test : Bool) (l : ScriptLine) → line_or_bad (if test then Some l else None) ≡ Ok l → test ≡ true

@@ -17,7 +17,7 @@ use Rattle.ssb_script.specs.Begun as begun
 use Rattle.ssb_script.specs.Laws.{HasOneReading}
 use Rattle.ssb_script.specs.Lines.{ScriptLine, RecordFault, line_of}
 use Rattle.ssb_script.specs.Lines as line
-use Rattle.ssb_script.specs.Requests.{RequestRecord, Refresh, Ask, Abort, AreAlike, AreOneStatement, IsWholeRequest}
+use Rattle.ssb_script.specs.Requests.{RequestRecord, Refresh, Ask, Order, Abort, AreAlike, AreOneStatement, IsWholeRequest}
 use Rattle.ssb_script.specs.Requests.{AskAlike, action_of, lines_of_action, lines_of_asking}
 use Rattle.ssb_script.specs.Scripts.{Spell, SpellAll, SpellsScript, is_outside, lines_in, lines_of_begun}
 use Rattle.ssb_script.specs.declared.control.OrderOpening.TheVariants.{Add, Amend}
@@ -41,7 +41,8 @@ abbrev said_of : RequestRecord → Said
 said_of (Refresh actions) = Whole (Refresh actions)
 said_of (Ask (Alone question)) = Whole (Ask (Alone question))
 said_of (Ask (Together questions)) = Whole (Ask (Together questions))
-said_of (Ask (Stated asked)) = Text asked.text
+said_of (Ask (Stated asked)) = Text asked.value.text
+said_of (Order key) = Whole (Order key)
 said_of Abort = Whole Abort
 
 -- what the lines from one on hold: lines of an order that began before it, actions of a refresh that did, questions of
@@ -83,6 +84,8 @@ abbrev before : ScriptLine → Tail → Tail
 before (line.Query question) tail = before_query question tail tail.block
 before (line.Sql text) tail =
     record { lines = []; actions = []; block = None; dropped = false; requests = Text text ∷ tail.requests }
+before (line.Order key) tail =
+    record { lines = []; actions = []; block = None; dropped = false; requests = Whole (Order key) ∷ tail.requests }
 before line.Begin tail = record {
   lines = [];
   actions = [];
@@ -251,6 +254,7 @@ of_request (Ask (Together questions)) lines rest spell none =
     ∙ ap (λ t. (before line.Ask t).requests)
     (of_block questions (line.Answer ∷ rest) false (tail_of rest).requests refl))
 of_request (Ask (Stated asked)) lines rest spell none = ap (λ first. (tail_of (first ++ rest)).requests) spell
+of_request (Order key) lines rest spell none = ap (λ first. (tail_of (first ++ rest)).requests) spell
 of_request Abort lines rest spell none =
     ap (λ first. (tail_of (first ++ rest)).requests) spell.joined ∙ of_begun spell.begun rest spell.inside
 
@@ -269,6 +273,7 @@ no_block (Ask (Alone question)) lines rest spell none =
     ap (λ first. (tail_of (first ++ rest)).block) spell ∙ ap (λ o. (before_query question (tail_of rest) o).block) none
 no_block (Ask (Together questions)) lines rest spell none = ap (λ first. (tail_of (first ++ rest)).block) spell
 no_block (Ask (Stated asked)) lines rest spell none = ap (λ first. (tail_of (first ++ rest)).block) spell
+no_block (Order key) lines rest spell none = ap (λ first. (tail_of (first ++ rest)).block) spell
 no_block Abort lines rest spell none =
     ap (λ first. (tail_of (first ++ rest)).block) spell.joined
     ∙ (ap (λ all. (tail_of all).block) (append_assoc (lines_of_begun spell.begun) (line.Abort ∷ []) rest)
@@ -327,31 +332,42 @@ one_statement asked other one more same =
 alike : (one other : RequestRecord) → IsWholeRequest one → IsWholeRequest other → said_of one ≡ said_of other
     → AreAlike one other
 alike (Refresh actions) (Refresh more) a b e = whole_is (Refresh actions) (Refresh more) e
+alike (Refresh actions) (Order key) a b e = whole_is (Refresh actions) (Order key) e
 alike (Refresh actions) Abort a b e = whole_is (Refresh actions) Abort e
 alike (Refresh actions) (Ask (Alone question)) a b e = whole_is (Refresh actions) (Ask (Alone question)) e
 alike (Refresh actions) (Ask (Together questions)) a b e = whole_is (Refresh actions) (Ask (Together questions)) e
 alike (Refresh actions) (Ask (Stated asked)) a b e = absurd cc
+alike (Order key) (Refresh more) a b e = whole_is (Order key) (Refresh more) e
+alike (Order key) (Order other) a b e = whole_is (Order key) (Order other) e
+alike (Order key) Abort a b e = whole_is (Order key) Abort e
+alike (Order key) (Ask (Alone question)) a b e = whole_is (Order key) (Ask (Alone question)) e
+alike (Order key) (Ask (Together questions)) a b e = whole_is (Order key) (Ask (Together questions)) e
+alike (Order key) (Ask (Stated asked)) a b e = absurd cc
 alike Abort (Refresh more) a b e = whole_is Abort (Refresh more) e
+alike Abort (Order key) a b e = whole_is Abort (Order key) e
 alike Abort Abort a b e = refl
 alike Abort (Ask (Alone question)) a b e = whole_is Abort (Ask (Alone question)) e
 alike Abort (Ask (Together questions)) a b e = whole_is Abort (Ask (Together questions)) e
 alike Abort (Ask (Stated asked)) a b e = absurd cc
 alike (Ask (Alone question)) (Refresh more) a b e = absurd cc
+alike (Ask (Alone question)) (Order key) a b e = absurd cc
 alike (Ask (Alone question)) Abort a b e = absurd cc
 alike (Ask (Alone question)) (Ask (Alone other)) a b e = cc
 alike (Ask (Alone question)) (Ask (Together questions)) a b e = cc
 alike (Ask (Alone question)) (Ask (Stated asked)) a b e = absurd cc
 alike (Ask (Together questions)) (Refresh more) a b e = absurd cc
+alike (Ask (Together questions)) (Order key) a b e = absurd cc
 alike (Ask (Together questions)) Abort a b e = absurd cc
 alike (Ask (Together questions)) (Ask (Alone other)) a b e = cc
 alike (Ask (Together questions)) (Ask (Together others)) a b e = cc
 alike (Ask (Together questions)) (Ask (Stated asked)) a b e = absurd cc
 alike (Ask (Stated asked)) (Refresh more) a b e = absurd cc
+alike (Ask (Stated asked)) (Order key) a b e = absurd cc
 alike (Ask (Stated asked)) Abort a b e = absurd cc
 alike (Ask (Stated asked)) (Ask (Alone other)) a b e = absurd cc
 alike (Ask (Stated asked)) (Ask (Together questions)) a b e = absurd cc
-alike (Ask (Stated asked)) (Ask (Stated other)) a b e = let same : asked.text ≡ other.text = cc in
-    one_statement asked other a b same
+alike (Ask (Stated asked)) (Ask (Stated other)) a b e = let same : asked.value.text ≡ other.value.text = cc in
+    one_statement asked.value other.value a b same
 
 all_alike : (one other : List RequestRecord) → AllByRecursion IsWholeRequest one → AllByRecursion IsWholeRequest other
     → map said_of one ≡ map said_of other → AllZip AreAlike one other
@@ -406,7 +422,9 @@ spell_alike : (one other : RequestRecord) (lines : List ScriptLine) → AreAlike
 spell_alike (Refresh actions) other lines alike spell = subst (λ request. Spell request lines) (sym alike) spell
 spell_alike Abort other lines alike spell = subst (λ request. Spell request lines) (sym alike) spell
 spell_alike (Ask asking) (Ask other) lines alike spell = spell ∙ lines_alike asking other alike
+spell_alike (Order key) other lines alike spell = subst (λ request. Spell request lines) (sym alike) spell
 spell_alike (Ask asking) (Refresh actions) lines alike spell = absurd alike
+spell_alike (Ask asking) (Order key) lines alike spell = absurd alike
 spell_alike (Ask asking) Abort lines alike spell = absurd alike
 
 each_alike : (one other : List RequestRecord) (parts : List (List ScriptLine)) → AllZip AreAlike one other

@@ -36,6 +36,10 @@ of_key : (key : Option ℕ) → AsksNone (line_or_bad (option_map line.Withdraw 
 of_key None = tt
 of_key (Some key) = tt
 
+of_order : (key : Option ℕ) → AsksNone (line_or_bad (option_map line.Order key))
+of_order None = tt
+of_order (Some key) = tt
+
 of_row : (values : Result (List columns.Value) LineFault) → AsksNone (line_or_refusal values)
 of_row (Ok values) = tt
 of_row (Err (row.Refused why)) = tt
@@ -67,6 +71,7 @@ after_other (Some word.Withdraw) fields is none = of_key (key_of fields)
 after_other (Some word.Commit) fields is none = of_choice _ line.Commit tt
 after_other (Some word.Ask) fields is none = of_choice _ line.Ask tt
 after_other (Some word.Answer) fields is none = of_choice _ line.Answer tt
+after_other (Some word.Order) fields is none = of_order (key_of fields)
 after_other (Some word.Abort) fields is none = of_choice _ line.Abort tt
 
 -- a `query` record says the question that stands in its fields, and a `sql` record the statement

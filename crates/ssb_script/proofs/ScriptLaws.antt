@@ -21,7 +21,7 @@ use Rattle.ssb_script.specs.Lines.{ScriptLine, line_of}
 use Rattle.ssb_script.specs.Lines as script
 use Rattle.ssb_script.specs.Begun.{Begun}
 use Rattle.ssb_script.specs.Begun as begun
-use Rattle.ssb_script.specs.Requests.{RequestRecord, Refresh, Ask, Abort, IsWholeRequest, lines_of_action}
+use Rattle.ssb_script.specs.Requests.{RequestRecord, Refresh, Ask, Order, Abort, IsWholeRequest, lines_of_action}
 use Rattle.ssb_script.specs.Scripts.{Spell, SpellsScript, is_outside, lines_in, lines_of_begun}
 use Rattle.ssb_script.specs.declared.control.OrderOpening.{OrderOpening}
 use Rattle.ssb_script.specs.declared.control.OrderOpening.TheVariants.{Add, Amend}
@@ -116,17 +116,19 @@ dropped_block (begun.Asked questions) lines inside is = record {
   none = questions_have_no_end questions;
 }
 
--- a line that is a request by itself: a question or a statement
+-- a line that is a request by itself: a question, a statement or what asks for an order
 abbrev IsLone : ScriptLine → Type 0
 IsLone (script.Query question) = Unit {0}
 IsLone (script.Sql text) = Unit {0}
+IsLone (script.Order key) = Unit {0}
 IsLone _ = ⊥
 
 -- a request is such a line alone, or a block
 shape_of : (one : RequestRecord) (lines : List ScriptLine) → Spell one lines
     → ((said : ScriptLine) × IsLone said × (lines ≡ said ∷ [])) ⊎ IsBlock lines
 shape_of (Ask (Alone question)) lines spell = inl (script.Query question, tt, spell)
-shape_of (Ask (Stated asked)) lines spell = inl (script.Sql asked.text, tt, spell)
+shape_of (Ask (Stated asked)) lines spell = inl (script.Sql asked.value.text, tt, spell)
+shape_of (Order key) lines spell = inl (script.Order key, tt, spell)
 shape_of (Ask (Together questions)) lines spell = inr (record {
   block = Asking;
   said = map script.Query questions;

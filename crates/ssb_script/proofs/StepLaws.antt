@@ -93,6 +93,7 @@ checks-ended number (begun.Asked questions) found = refl
 checks-ended number (begun.Order order) None = refl
 checks-ended number (begun.Order order) (Some (control.Query question)) = refl
 checks-ended number (begun.Order order) (Some (control.Sql text)) = refl
+checks-ended number (begun.Order order) (Some (control.Order key)) = refl
 checks-ended number (begun.Order order) (Some control.Begin) = refl
 checks-ended number (begun.Order order) (Some control.Ask) = refl
 checks-ended number (begun.Order order) (Some control.Answer) = refl

@@ -202,6 +202,7 @@ spelling_is word.Withdraw = (λ e. cc, (refl, (refl, (refl, (refl, (refl, (refl,
 spelling_is word.Commit = (λ e. cc, (refl, (refl, (refl, (refl, (refl, (refl, tt)))))), refl, refl)
 spelling_is word.Ask = (λ e. cc, (refl, (refl, (refl, tt))), refl, refl)
 spelling_is word.Answer = (λ e. cc, (refl, (refl, (refl, (refl, (refl, (refl, tt)))))), refl, refl)
+spelling_is word.Order = (λ e. cc, (refl, (refl, (refl, (refl, (refl, tt))))), refl, refl)
 spelling_is word.Abort = (λ e. cc, (refl, (refl, (refl, (refl, (refl, tt))))), refl, refl)
 
 -- bytes that spell a word are its spelling

@@ -42,6 +42,7 @@ pub data ScriptLine : Type 0 where
   Commit : ScriptLine
   Ask : ScriptLine
   Answer : ScriptLine
+  Order : ℕ → ScriptLine
   Abort : ScriptLine
 
 -- why a record says nothing: it is none of a script's, or the schema refuses its line
@@ -61,11 +62,12 @@ spelling_of word.Withdraw = codes "withdraw"
 spelling_of word.Commit = codes "commit"
 spelling_of word.Ask = codes "ask"
 spelling_of word.Answer = codes "answer"
+spelling_of word.Order = codes "order"
 spelling_of word.Abort = codes "abort"
 
 abbrev pub words : List ScriptWord
 words = word.Query ∷ word.Sql ∷ word.Begin ∷ word.Add ∷ word.Amend ∷ word.Line ∷ word.Withdraw ∷ word.Commit ∷
-    word.Ask ∷ word.Answer ∷ word.Abort ∷ []
+    word.Ask ∷ word.Answer ∷ word.Order ∷ word.Abort ∷ []
 
 -- the word that bytes spell, letter for letter
 abbrev pub word_spelled : List ℕ → Option ScriptWord
@@ -218,6 +220,7 @@ line_after (Some word.Withdraw) fields = line_or_bad (option_map Withdraw (key_o
 line_after (Some word.Commit) fields = line_or_bad (alone Commit fields)
 line_after (Some word.Ask) fields = line_or_bad (alone Ask fields)
 line_after (Some word.Answer) fields = line_or_bad (alone Answer fields)
+line_after (Some word.Order) fields = line_or_bad (option_map Order (key_of fields))
 line_after (Some word.Abort) fields = line_or_bad (alone Abort fields)
 
 -- whether a record is a `line`, which goes by its word alone

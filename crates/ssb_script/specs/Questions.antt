@@ -22,7 +22,7 @@ most_alone = 64
 -- a record that says this asks that: a question, or a statement
 abbrev pub Says : Result ScriptLine RecordFault → Asking → Type 0
 Says spelled (Alone question) = spelled ≡ Ok (line.Query question)
-Says spelled (Stated asked) = (spelled ≡ Ok (line.Sql asked.text)) × IsWholeStatement asked
+Says spelled (Stated asked) = (spelled ≡ Ok (line.Sql asked.value.text)) × IsWholeStatement asked.value
 Says spelled (Together questions) = ⊥
 
 -- a `query` record of this question, if it asks one

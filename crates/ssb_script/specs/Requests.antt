@@ -21,29 +21,31 @@ use Rattle.ssb_script.specs.Lines as line
 use Rattle.ssb_script.specs.declared.control.OrderOpening.{OrderOpening}
 use Rattle.ssb_script.specs.declared.control.OrderOpening.TheVariants.{Add, Amend}
 
--- what a request asks: the actions of a refresh, or questions, each a query with its constants; or that what it began
--- be dropped
+-- what a request asks: the actions of a refresh, or questions, each a query with its constants, or the lines of the
+-- order of a key; or that what it began be dropped
 pub data RequestRecord : Type 0 where
   Refresh : List Action → RequestRecord
   Ask : Asking → RequestRecord
+  Order : ℕ → RequestRecord
   Abort : RequestRecord
 
 abbrev pub request_of : Request → RequestRecord
 request_of (request.Refresh refresh) = Refresh refresh.value
 request_of (request.Ask asking) = Ask asking
+request_of (request.Order key) = Order key
 request_of request.Abort = Abort
 
 -- the questions that are asked, in order
 abbrev pub questions_in : Asking → List (Named × List Value)
 questions_in (Alone question) = question ∷ []
 questions_in (Together questions) = questions
-questions_in (Stated asked) = asked.statement.questions.items
+questions_in (Stated asked) = asked.value.statement.questions.items
 
 -- the statement that is asked, if one is
 abbrev pub statement_in : Asking → Option Statement
 statement_in (Alone question) = None
 statement_in (Together questions) = None
-statement_in (Stated asked) = Some asked.statement
+statement_in (Stated asked) = Some asked.value.statement
 
 -- the most questions of a block
 abbrev pub most_questions : ℕ
@@ -65,7 +67,7 @@ lines_of_refresh actions = line.Begin ∷ (flat_map lines_of_action actions ++ l
 abbrev pub lines_of_asking : Asking → List ScriptLine
 lines_of_asking (Alone question) = line.Query question ∷ []
 lines_of_asking (Together questions) = line.Ask ∷ (map line.Query questions ++ line.Answer ∷ [])
-lines_of_asking (Stated asked) = line.Sql asked.text ∷ []
+lines_of_asking (Stated asked) = line.Sql asked.value.text ∷ []
 
 -- the action of an order that began so
 abbrev pub action_of : OrderOpening → List LineFields → Action
@@ -86,7 +88,7 @@ IsWholeStatement asked = Means asked.text asked.statement
 abbrev pub IsWholeAsking : Asking → Type 0
 IsWholeAsking (Alone question) = Unit {0}
 IsWholeAsking (Together questions) = (1 ≤ length questions) × (length questions ≤ most_questions)
-IsWholeAsking (Stated asked) = IsWholeStatement asked
+IsWholeAsking (Stated asked) = IsWholeStatement asked.value
 
 -- two statements have one text, the same group columns and the same limit
 pub record AreOneStatement (one other : StatementAsked) : Type 0 where
@@ -98,21 +100,24 @@ pub record AreOneStatement (one other : StatementAsked) : Type 0 where
 abbrev pub AskAlike : Asking → Asking → Type 0
 AskAlike (Alone question) other = other ≡ Alone question
 AskAlike (Together questions) other = other ≡ Together questions
-AskAlike (Stated asked) (Stated other) = AreOneStatement asked other
+AskAlike (Stated asked) (Stated other) = AreOneStatement asked.value other.value
 AskAlike (Stated asked) (Alone question) = ⊥
 AskAlike (Stated asked) (Together questions) = ⊥
 
 abbrev pub AreAlike : RequestRecord → RequestRecord → Type 0
 AreAlike (Ask asking) (Ask other) = AskAlike asking other
 AreAlike (Ask asking) (Refresh actions) = ⊥
+AreAlike (Ask asking) (Order key) = ⊥
 AreAlike (Ask asking) Abort = ⊥
 AreAlike (Refresh actions) other = other ≡ Refresh actions
+AreAlike (Order key) other = other ≡ Order key
 AreAlike Abort other = other ≡ Abort
 
 -- whether a statement is asked, and whether one is among requests
 abbrev pub is_statement : RequestRecord → Bool
 is_statement (Ask asking) = is_some (statement_in asking)
 is_statement (Refresh actions) = false
+is_statement (Order key) = false
 is_statement Abort = false
 
 abbrev pub has_statement : List RequestRecord → Bool
@@ -122,4 +127,5 @@ has_statement asked = list_any is_statement asked
 abbrev pub IsWholeRequest : RequestRecord → Type 0
 IsWholeRequest (Refresh actions) = (refresh_fault actions ≡ None) × All IsWholeAction actions
 IsWholeRequest (Ask asking) = IsWholeAsking asking
+IsWholeRequest (Order key) = Unit {0}
 IsWholeRequest Abort = Unit {0}

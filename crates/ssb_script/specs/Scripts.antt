@@ -13,7 +13,7 @@ use Rattle.ssb_script.specs.Begun.{Begun}
 use Rattle.ssb_script.specs.Begun as begun
 use Rattle.ssb_script.specs.Lines.{is_abort, is_line, line_of, word_of, ScriptLine, RecordFault, Bad, Refused}
 use Rattle.ssb_script.specs.Lines as line
-use Rattle.ssb_script.specs.Requests.{RequestRecord, IsWholeAction, IsWholeRequest, Refresh, Ask, Abort}
+use Rattle.ssb_script.specs.Requests.{RequestRecord, IsWholeAction, IsWholeRequest, Refresh, Ask, Order, Abort}
 use Rattle.ssb_script.specs.Requests.{lines_of_action, lines_of_asking, lines_of_refresh, most_questions}
 use Rattle.ssb_script.specs.declared.error.ScriptError.{ScriptError}
 use Rattle.ssb_script.specs.declared.error.ScriptError.TheVariants as error
@@ -75,6 +75,7 @@ pub record AreDropped (lines : List ScriptLine) : Type 0 where
 abbrev pub Spell : RequestRecord → List ScriptLine → Type 0
 Spell (Refresh actions) lines = lines ≡ lines_of_refresh actions
 Spell (Ask asking) lines = lines ≡ lines_of_asking asking
+Spell (Order key) lines = lines ≡ line.Order key ∷ []
 Spell Abort lines = AreDropped lines
 
 -- the lines of parts, one part after another
@@ -148,6 +149,7 @@ may_stand b (line.Withdraw key) = is_refreshing b
 may_stand b line.Commit = is_refreshing b
 may_stand b line.Ask = is_outside b
 may_stand b (line.Sql text) = is_outside b
+may_stand b (line.Order key) = is_outside b
 may_stand b line.Answer = is_asking b
 may_stand b line.Abort = not (is_outside b)
 

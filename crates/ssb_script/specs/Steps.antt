@@ -52,6 +52,7 @@ line_of_control (control.Withdraw key) = line.Withdraw key
 line_of_control control.Commit = line.Commit
 line_of_control control.Ask = line.Ask
 line_of_control control.Answer = line.Answer
+line_of_control (control.Order key) = line.Order key
 
 -- what is begun once the order that was being read has ended: it is the last action of its refresh
 abbrev pub ended_of : Begun → Ended

@@ -1,6 +1,6 @@
 //! Which requests stand whole at the front of bytes.
 
-ghost use Rattle.std.specs.Prelude.{◌≡◌, ◌<◌, ◌≤◌, true, false, List, ℕ, ◌++◌, length, drop, IfSome, IfNone};
+ghost use Rattle.std.specs.Prelude.{◌≡◌, ◌<◌, ◌≤◌, true, false, length, drop, IfSome, IfNone};
 ghost use Rattle.ssb_script.specs.Ahead.{IsWhole, StandFirst};
 ghost use Rattle.ssb_script.specs.Cutting.{BeginsWithRequest, IsUnfinished};
 

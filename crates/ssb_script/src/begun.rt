@@ -100,7 +100,7 @@ fn ask_statement(alloc: Global, number: u64, text: Text) -> Result<ScriptStep, S
 {
     let asked = StatementAsked::of(alloc, number, text)?;
     Ok(ScriptStep {
-        request: Some(Request::Ask(Asking::Statement(asked))),
+        request: Some(Request::Ask(Asking::Statement(Box::new(alloc, asked)?))),
         begun: Begun::Nothing,
     })
 }
@@ -117,6 +117,10 @@ fn outside(alloc: Global, number: u64, control: Control) -> Result<ScriptStep, S
             begun: Begun::Nothing,
         }),
         Control::Sql(text) => ask_statement(alloc, number, text),
+        Control::Order(key) => Ok(ScriptStep {
+            request: Some(Request::Order(key)),
+            begun: Begun::Nothing,
+        }),
         Control::Begin => Ok(ScriptStep {
             request: None,
             begun: Begun::Refresh(Items::from_vec(Vec::new(alloc))),
@@ -205,6 +209,7 @@ fn inside(
         Control::Commit => commit(alloc, number, actions),
         Control::Query(_) => Err(ScriptError::BadLine(number)),
         Control::Sql(_) => Err(ScriptError::BadLine(number)),
+        Control::Order(_) => Err(ScriptError::BadLine(number)),
         Control::Begin => Err(ScriptError::BadLine(number)),
         Control::Ask => Err(ScriptError::BadLine(number)),
         Control::Answer => Err(ScriptError::BadLine(number)),
@@ -259,6 +264,7 @@ fn in_block(
         Control::Query(question) => ask_more(number, questions, question),
         Control::Answer => end_block(number, questions),
         Control::Sql(_) => Err(ScriptError::BadLine(number)),
+        Control::Order(_) => Err(ScriptError::BadLine(number)),
         Control::Begin => Err(ScriptError::BadLine(number)),
         Control::Open(_) => Err(ScriptError::BadLine(number)),
         Control::Withdraw(_) => Err(ScriptError::BadLine(number)),

@@ -44,6 +44,8 @@ pub enum Control {
     Ask,
     /// `answer`: the block ends.
     Answer,
+    /// `order`: it asks for the lines of the order of this key.
+    Order(u64),
 }
 
 impl OrderOpening {
@@ -58,7 +60,7 @@ impl OrderOpening {
     }
 }
 
-/// The key that a `withdraw` record gives: the number in its second column, where it has two.
+/// The key that a `withdraw` or an `order` record gives: the number in its second column, where it has two.
 pub fn key_of(fields: &ByteRecord) -> Option<u64>
     ensures { result ≡ spec.key_of (fields_of fields.now) }
 {
@@ -104,6 +106,7 @@ impl Control {
             ScriptWord::Commit => Control::Commit.alone(fields),
             ScriptWord::Ask => Control::Ask.alone(fields),
             ScriptWord::Answer => Control::Answer.alone(fields),
+            ScriptWord::Order => key_of(fields).map(Control::Order),
             ScriptWord::Line => None,
             ScriptWord::Abort => None,
         })

@@ -1,6 +1,6 @@
 //! The requests of a reader's text, one by one.
 
-ghost use Rattle.std.specs.Prelude.{◌≡◌, ◌≤◌, length, IfOk, IfErr, IfSome, IsErrOf};
+ghost use Rattle.std.specs.Prelude.{◌≤◌, length, IfOk, IfErr, IfSome, IsErrOf};
 ghost use Rattle.std.specs.Io.KnownBytes.{Consumes};
 ghost use Rattle.ssb_script.specs.NextRequest.{BeginsBeyond, CutsNext, IsFound, IsRequestFault};
 

@@ -1,6 +1,6 @@
 //! The next line of a reader, which is read look by look at what the reader has at hand.
 
-ghost use Rattle.std.specs.Prelude.{◌≡◌, ◌≤◌, ℕ, List, [], Option, take, length, IfSome, IfNone};
+ghost use Rattle.std.specs.Prelude.{◌≤◌, ℕ, List, [], Option, take, length, IfSome, IfNone};
 ghost use Rattle.ssb_text.specs.TextLines.{HasNoLineEnd, IsLine};
 ghost use Rattle.ssb_script.specs.Taking.{IsPiece, TellsLine, TellsPiece, Took};
 

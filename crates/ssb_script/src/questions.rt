@@ -1,6 +1,6 @@
 //! A script of questions alone, from any reader.
 
-ghost use Rattle.std.specs.Prelude.{◌≡◌, ◌≤◌, ◌+◌, ◌++◌, ℕ, List, [], None, Some, IfOk, IfErr, IfSome, IfNone, OnOk, length};
+ghost use Rattle.std.specs.Prelude.{◌≡◌, ◌≤◌, ◌+◌, ℕ, List, None, Some, IfOk, IfErr, IfSome, IfNone, OnOk};
 ghost use Rattle.std.specs.Prelude.{nat_lt};
 ghost use Rattle.csv.specs.Records.{fields_of};
 ghost use Rattle.ssb_script.specs.Lines.{line_of, question_of, sql_of};
@@ -12,7 +12,7 @@ use crate::error::ScriptError;
 use crate::fields::word_of;
 use crate::question::question_at;
 use crate::request::Asking;
-use crate::statement::{self, StatementAsked};
+use crate::statement::{self, StatementAsked, push_shared};
 use crate::word::{is_query, is_sql};
 use csv::ByteRecord;
 use ssb_questions::Question;
@@ -100,7 +100,7 @@ fn statement_in(
         return Ok(None);
     };
     match StatementAsked::of(alloc, number, text) {
-        Ok(asked) => Ok(Some(Asking::Statement(asked))),
+        Ok(asked) => Ok(Some(Asking::Statement(Box::new(alloc, asked)?))),
         Err(ScriptError::Sql(_, why)) => Err(QuestionsError::Sql(number, why)),
         Err(_) => Err(QuestionsError::OutOfMemory),
     }
@@ -133,15 +133,6 @@ fn are_too_many(count: usize, more: usize) -> bool
     count.saturating_add(more) > MOST_ALONE as usize
 }
 
-fn push_all(questions: &mut Vec<Question>, more: &[Question]) -> Result<(), AllocError>
-    ensures { OnOk result (questions.new.items ≡ questions.old.items ++ more.now) }
-{
-    for question in more {
-        questions.push(question.share()?)?;
-    }
-    Ok(())
-}
-
 // Adds the questions that the record of this number asks.
 fn add_record(
     alloc: Global,
@@ -159,7 +150,7 @@ fn add_record(
     if are_too_many(questions.len(), more.len()) {
         return Err(QuestionsError::NotAQuestion(number));
     }
-    Ok(push_all(questions, more.as_slice())?)
+    Ok(push_shared(questions, more.as_slice())?)
 }
 
 // These questions, behind so many records, of which there has to be one.

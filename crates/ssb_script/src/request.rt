@@ -19,8 +19,8 @@ pub enum Asking {
     Alone(Question),
     /// `ask` .. `answer`: 1 to 16 questions.
     Together(Items<Question>),
-    /// `sql|TEXT`: a statement.
-    Statement(StatementAsked),
+    /// `sql|TEXT`: a statement, in a place of its own, since it is large.
+    Statement(Box<StatementAsked>),
 }
 
 impl Drop for Asking {
@@ -35,7 +35,7 @@ impl Drop for Asking {
 
 impl Asking {
     /// The statement, where one is asked; else this is given back.
-    pub fn into_statement(self) -> Result<StatementAsked, Asking>
+    pub fn into_statement(self) -> Result<Box<StatementAsked>, Asking>
         ensures statement { IfOk result (λ asked. self ≡ Stated asked) }
         ensures other { IfErr result (λ other. (other ≡ self) × (statement_in self ≡ None)) }
     {
@@ -61,14 +61,16 @@ impl Asking {
     }
 }
 
-/// What a client asks of the warehouse: a refresh, whose actions take effect together or not at all, or questions; or
-/// that what it began be dropped.
+/// What a client asks of the warehouse: a refresh, whose actions take effect together or not at all, or questions, or
+/// the lines of an order; or that what it began be dropped.
 #[derive(Drop)]
 pub enum Request {
     /// `begin` .. `commit`: a refresh, for the log and the server to share.
     Refresh(Arc<Refresh>),
     /// Questions that are answered together.
     Ask(Asking),
+    /// `order|KEY`: the lines of the order of this key.
+    Order(u64),
     /// `begin` .. `abort` or `ask` .. `abort`: what was begun is dropped.
     Abort,
 }

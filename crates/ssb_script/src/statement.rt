@@ -71,15 +71,17 @@ pub(crate) fn sql_of(alloc: Global, fields: &ByteRecord) -> Result<Option<Text>,
     }
 }
 
-// The same questions, each shared.
-fn shared(alloc: Global, own: &[Question]) -> Result<Vec<Question>, AllocError>
-    ensures { IfOk result (λ questions. questions.items ≡ own.now) }
+/// Adds questions, each shared.
+pub(crate) fn push_shared(
+    questions: &mut Vec<Question>,
+    more: &[Question],
+) -> Result<(), AllocError>
+    ensures { OnOk result (questions.new.items ≡ questions.old.items ++ more.now) }
 {
-    let mut questions = Vec::new(alloc);
-    for question in own {
+    for question in more {
         questions.push(question.share()?)?;
     }
-    Ok(questions)
+    Ok(())
 }
 
 impl StatementAsked {
@@ -100,7 +102,8 @@ impl StatementAsked {
     pub fn shared_questions(&self, alloc: Global) -> Result<Items<Question>, AllocError>
         ensures { IfOk result (λ questions. questions ≡ self.now.statement.questions.items) }
     {
-        let questions = shared(alloc, self.statement.questions.as_slice())?;
+        let mut questions = Vec::new(alloc);
+        push_shared(&mut questions, self.statement.questions.as_slice())?;
         Ok(Items::from_vec(questions))
     }
 }

@@ -17,11 +17,12 @@ pub(crate) enum ScriptWord {
     Commit,
     Ask,
     Answer,
+    Order,
     Abort,
 }
 
 /// All words.
-pub(crate) const WORDS: [ScriptWord; 11] = [
+pub(crate) const WORDS: [ScriptWord; 12] = [
     ScriptWord::Query,
     ScriptWord::Sql,
     ScriptWord::Begin,
@@ -32,6 +33,7 @@ pub(crate) const WORDS: [ScriptWord; 11] = [
     ScriptWord::Commit,
     ScriptWord::Ask,
     ScriptWord::Answer,
+    ScriptWord::Order,
     ScriptWord::Abort,
 ];
 
@@ -79,6 +81,7 @@ impl ScriptWord {
             ScriptWord::Commit => b"commit",
             ScriptWord::Ask => b"ask",
             ScriptWord::Answer => b"answer",
+            ScriptWord::Order => b"order",
             ScriptWord::Abort => b"abort",
         }
     }

@@ -109,6 +109,7 @@ module _ (number : ℕ) (old : Begun) (line : ScriptLine) (step : ScriptStep) (i
 in_commit-inside : (client : ℕ) (line : ScriptLine) → StandsInside line → in_commit client line ≡ Inside line
 in_commit-inside client (script.Query question) stands = refl
 in_commit-inside client (script.Sql text) stands = refl
+in_commit-inside client (script.Order key) stands = absurd stands
 in_commit-inside client script.Begin stands = absurd stands
 in_commit-inside client (script.Open opening) stands = refl
 in_commit-inside client (script.Line row) stands = refl

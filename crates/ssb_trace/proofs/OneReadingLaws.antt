@@ -146,6 +146,7 @@ record Tail : Type 0 where
 abbrev before_inside : ScriptLine → Tail → Tail
 before_inside (script.Query question) tail = tail
 before_inside (script.Sql text) tail = tail
+before_inside (script.Order key) tail = tail
 before_inside script.Begin tail = tail
 before_inside (script.Open opening) tail = record {
   lines = [];

@@ -36,6 +36,7 @@ TakesRecord number old word fields step = (line : TraceLine) × SaysAfter word f
 abbrev pub StandsInside : ScriptLine → Type 0
 StandsInside (script.Query question) = ⊥
 StandsInside (script.Sql text) = ⊥
+StandsInside (script.Order key) = ⊥
 StandsInside script.Begin = ⊥
 StandsInside script.Ask = ⊥
 StandsInside script.Answer = ⊥

@@ -23,8 +23,9 @@ use Rattle.ssb_base.specs.Base.{Tables}
 use Rattle.row_store.specs.History.{CommitRecord}
 use Rattle.ssb_clients.specs.Clients as client
 use Rattle.ssb_answers.specs.declared.answer.Answer.{Answer}
-use Rattle.ssb_report.specs.Replies.{Reply, Refreshed, Answered, Listed, Aborted, IsListedOf}
-use Rattle.ssb_script.specs.Requests.{RequestRecord, Refresh, Ask, Abort, questions_in, statement_in}
+use Rattle.ssb_report.specs.Replies.{Reply, Refreshed, Answered, Listed, Shown, Aborted, IsListedOf}
+use Rattle.ssb_report.specs.declared.order.ShownOrder.TheVariants as order
+use Rattle.ssb_script.specs.Requests.{RequestRecord, Refresh, Ask, Order, Abort, questions_in, statement_in}
 use Rattle.ssb_sql.specs.declared.statement.Statement.{Statement}
 use Rattle.ssb_statements.specs.Listing.{ListingRecord, moment_of}
 use Rattle.ssb_statements.specs.Listing as listing
@@ -90,15 +91,11 @@ served_is_of_few number before after (Ask asking) (Answered answers) is =
 served_is_of_few number before after (Ask asking) (Listed answers listed) is =
     let few = answered_few before after (questions_in asking) answers is.1 in
     (few, few_listing (statement_in asking) answers listed few is.0)
+served_is_of_few number before after (Order key) (Shown (order.Lines shown at lines)) is =
+    omega (arith, is.0.1, few_seen after is.1)
+served_is_of_few number before after (Order key) (Shown (order.Unserved shown)) is = tt
 served_is_of_few number before after Abort Aborted is = tt
-served_is_of_few number before after (Refresh actions) (Answered answers) is = absurd is
-served_is_of_few number before after (Refresh actions) (Listed answers listed) is = absurd is
-served_is_of_few number before after (Refresh actions) Aborted is = absurd is
-served_is_of_few number before after (Ask asking) (Refreshed outcome) is = absurd is
-served_is_of_few number before after (Ask asking) Aborted is = absurd is
-served_is_of_few number before after Abort (Refreshed outcome) is = absurd is
-served_is_of_few number before after Abort (Answered answers) is = absurd is
-served_is_of_few number before after Abort (Listed answers listed) is = absurd is
+served_is_of_few number before after request reply is = absurd is
 
 -- a list of which each element is that of another, mapped
 pub mapped_all : {X : Type 0} (f : X → X) (old new : List X) → length new ≡ length old

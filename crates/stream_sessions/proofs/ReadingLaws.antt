@@ -2,8 +2,8 @@
 use Rattle.std.proofs.Common.{◌≡◌, ◌∙◌, ◌||◌, ℕ, Bool, true, false, List, [], ◌∷◌, ◌++◌, inl, inr, refl, sym, ap, Result, Ok, Err}
 use Rattle.std.proofs.lemmas.List.Folds.{list_any-append}
 use Rattle.history.specs.Tokens.{TokenRecord}
-use Rattle.ssb_report.specs.Replies.{Reply, Refreshed, Answered, Listed, Aborted}
-use Rattle.ssb_script.specs.Requests.{RequestRecord, Refresh, Ask, Abort}
+use Rattle.ssb_report.specs.Replies.{Reply, Answered, Listed, Shown, Aborted}
+use Rattle.ssb_script.specs.Requests.{RequestRecord, Refresh, Ask, Order, Abort}
 use Rattle.stream_sessions.specs.Answers.{BreaksOff, IsAnswered}
 use Rattle.stream_sessions.specs.Conversation.{AddsReply, ConversesTo, IsConversation}
 use Rattle.stream_sessions.specs.Events.{Event, Looks, Takes, Passes}
@@ -13,6 +13,7 @@ use Rattle.stream_sessions.specs.declared.manner.Terms.{Terms}
 use Rattle.stream_sessions.specs.declared.outcome.Served.{Served}
 use Rattle.stream_sessions.specs.declared.outcome.SessionError.{SessionError}
 use Rattle.stream_sessions.specs.Speaking.{IsTaken, SpeakingRecord, has_refresh, is_refresh}
+use Rattle.stream_sessions.proofs.RequestLaws.{shown_hands}
 
 not_both : true ≡ false → ⊥
 not_both e = cc
@@ -41,12 +42,10 @@ served_mine number old new (Ask asking) (Answered answers) none is =
     ap (λ (t : TokenRecord). t.mine) is.1.polled.now ∙ ap (λ (t : TokenRecord). t.mine) is.1.asked.now
 served_mine number old new (Ask asking) (Listed answers listing) none is =
     ap (λ (t : TokenRecord). t.mine) is.1.polled.now ∙ ap (λ (t : TokenRecord). t.mine) is.1.asked.now
-served_mine number old new (Ask asking) (Refreshed reply) none is = absurd is
-served_mine number old new (Ask asking) Aborted none is = absurd is
+served_mine number old new (Order key) (Shown shown) none is =
+    ap (λ (t : TokenRecord). t.mine) (shown_hands old key shown new is.0).now
 served_mine number old new Abort Aborted none is = ap (λ (t : TokenRecord). t.mine) is
-served_mine number old new Abort (Refreshed reply) none is = absurd is
-served_mine number old new Abort (Answered answers) none is = absurd is
-served_mine number old new Abort (Listed answers listing) none is = absurd is
+served_mine number old new request reply none is = absurd is
 
 all_mine : (number : ℕ) (old new : TokenRecord) (asked : List RequestRecord) (replies : List Reply)
     → has_refresh asked ≡ false → AreServed number old asked replies new → new.mine ≡ old.mine

@@ -12,8 +12,10 @@ use Rattle.row_store.specs.declared.refusal.RefreshError.{RefreshError}
 use Rattle.row_store.specs.declared.refusal.RefreshError.TheVariants as refusal
 use Rattle.history.specs.Tokens.{TokenRecord, IsSound}
 use Rattle.history.specs.Members.{number_of}
-use Rattle.ssb_script.specs.Requests.{RequestRecord, Refresh, Ask, Abort}
-use Rattle.ssb_report.specs.Replies.{Reply, Refreshed, Answered, Listed, Aborted}
+use Rattle.ssb_script.specs.Requests.{RequestRecord, Refresh, Ask, Order, Abort}
+use Rattle.ssb_report.specs.declared.order.ShownOrder.{ShownOrder}
+use Rattle.ssb_report.specs.declared.order.ShownOrder.TheVariants as order
+use Rattle.ssb_report.specs.Replies.{Reply, Refreshed, Answered, Listed, Shown, Aborted}
 use Rattle.ssb_text.proofs.WrittenLaws.{appends_none, appends_both}
 use Rattle.ssb_clients.specs.Clients as client
 use Rattle.row_store.specs.History.{CommitRecord}
@@ -28,7 +30,7 @@ use Rattle.ssb_answers.specs.declared.answer.Answer.{Answer}
 use Rattle.ssb_answers.specs.declared.answer.Answer.TheVariants as variant
 use Rattle.ssb_answers.specs.declared.answer.ResultRow.{ResultRow}
 use Rattle.stream_sessions.specs.Keeping.{KeepsMore, answer_count, question_count}
-use Rattle.stream_sessions.specs.Served.{IsAnswered, IsServed, AreServed, Serves, StopsAfter, Ends, told_of}
+use Rattle.stream_sessions.specs.Served.{IsAnswered, IsServed, IsShown, AreServed, Serves, StopsAfter, Ends, told_of}
 use Rattle.stream_sessions.specs.OneRequest.{ServesOne, ServesInPart, StopsIn, AreAlike, error_after}
 use Rattle.stream_sessions.specs.declared.serve_error.ServeStop.{ServeStop}
 use Rattle.stream_sessions.specs.declared.serve_error.ServeStop.TheVariants.{Write, OutOfMemory}
@@ -46,6 +48,17 @@ pub refreshed_alike : (before : TokenRecord) (number : ℕ) (actions : List Acti
 refreshed_alike before number actions (Ok receipt) after refreshed quiet = grind (arith, asks_nothing)
 refreshed_alike before number actions (Err (refusal.Refused at action cause)) after refreshed quiet = grind (arith, asks_nothing)
 refreshed_alike before number actions (Err refusal.OutOfMemory) after refreshed quiet = grind (arith, asks_nothing)
+
+-- where an order is shown, the client saw more, and nothing else of it changed
+pub shown_hands : (before : TokenRecord) (key : ℕ) (shown : ShownOrder) (after : TokenRecord)
+    → IsShown before key shown after → client.HandsBack before after
+shown_hands before key (order.Lines shown at lines) after is = is.3
+shown_hands before key (order.Unserved shown) after is = is.1
+
+-- that leaves it what it is, too
+pub handed_alike : (before after : TokenRecord) → client.HandsBack before after → is_some before.asked ≡ false
+    → AreAlike before after
+handed_alike before after handed quiet = grind (arith, asks_nothing)
 
 pub alike_itself : (old : TokenRecord) → is_some old.asked ≡ false → AreAlike old old
 alike_itself old quiet = record { table = refl; who = refl; quiet = asks_nothing old.asked quiet }
@@ -157,15 +170,9 @@ pub few_replies : (number : ℕ) (old new : TokenRecord) (request : RequestRecor
 few_replies number old new (Refresh actions) (Refreshed result) is = grind arith
 few_replies number old new (Ask asking) (Answered answers) is = grind (arith, asked_same, few_answers)
 few_replies number old new (Ask asking) (Listed answers listing) is = grind (arith, asked_same, few_answers)
+few_replies number old new (Order key) (Shown shown) is = grind arith
 few_replies number old new Abort Aborted is = grind arith
-few_replies number old new (Refresh actions) (Answered answers) is = grind arith
-few_replies number old new (Refresh actions) (Listed answers listing) is = grind arith
-few_replies number old new (Refresh actions) Aborted is = grind arith
-few_replies number old new (Ask asking) (Refreshed result) is = grind arith
-few_replies number old new (Ask asking) Aborted is = grind arith
-few_replies number old new Abort (Refreshed result) is = grind arith
-few_replies number old new Abort (Answered answers) is = grind arith
-few_replies number old new Abort (Listed answers listing) is = grind arith
+few_replies number old new request reply is = absurd is
 
 -- room for many is room for few, where anything is kept
 pub room_for : {X : Type 0} (kept : Option X) (count room : X → ℕ) (few many : ℕ) → few ≤ many

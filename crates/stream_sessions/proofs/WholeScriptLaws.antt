@@ -11,7 +11,7 @@ use Rattle.ssb_script.proofs.ScriptLaws.{script_of_requests_of}
 use Rattle.ssb_formats.specs.declared.reply_format.ReplyFormat.{ReplyFormat}
 use Rattle.ssb_report.specs.Replies.{Reply}
 use Rattle.ssb_script.specs.Laws.{IsOfStatement}
-use Rattle.ssb_script.specs.Requests.{RequestRecord, Refresh, Ask, Abort, AreAlike, IsWholeRequest, has_statement}
+use Rattle.ssb_script.specs.Requests.{RequestRecord, Refresh, Ask, Order, Abort, AreAlike, IsWholeRequest, has_statement}
 use Rattle.ssb_script.specs.Requests.{is_statement}
 use Rattle.ssb_script.specs.Scripts.{SpellsScript, most_records}
 use Rattle.ssb_script.specs.declared.error.ScriptError.{ScriptError}
@@ -122,9 +122,11 @@ not_both e = cc
 
 refresh_alike : (one other : RequestRecord) → AreAlike one other → is_refresh other ≡ is_refresh one
 refresh_alike (Refresh actions) other alike = ap is_refresh alike
+refresh_alike (Order key) other alike = ap is_refresh alike
 refresh_alike Abort other alike = ap is_refresh alike
 refresh_alike (Ask asking) (Ask other) alike = refl
 refresh_alike (Ask asking) (Refresh actions) alike = absurd alike
+refresh_alike (Ask asking) (Order key) alike = absurd alike
 refresh_alike (Ask asking) Abort alike = absurd alike
 
 refreshes_alike : (one other : List RequestRecord) → AllZip AreAlike one other → has_refresh other ≡ has_refresh one

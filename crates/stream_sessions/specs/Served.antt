@@ -7,11 +7,15 @@ use Rattle.history_core.specs.Responses.{answers_in}
 use Rattle.ssb_answers.specs.declared.answer.Answer.{Answer}
 use Rattle.ssb_answers.specs.declared.answer.Answer.TheVariants.{Rows, Unserved}
 use Rattle.history.specs.Tokens.{TokenRecord, IsSound}
-use Rattle.ssb_script.specs.Requests.{RequestRecord, Refresh, Ask, Abort, questions_in, statement_in}
-use Rattle.ssb_report.specs.Replies.{Reply, Refreshed, Answered, Listed, Aborted, IsListedOf, reply_text}
+use Rattle.ssb_script.specs.Requests.{RequestRecord, Refresh, Ask, Order, Abort, questions_in, statement_in}
+use Rattle.ssb_report.specs.Replies.{Reply, Refreshed, Answered, Listed, Shown, Aborted, IsListedOf, reply_text}
 use Rattle.ssb_report.specs.Report.{report_of}
+use Rattle.ssb_report.specs.declared.order.ShownOrder.{ShownOrder}
+use Rattle.ssb_report.specs.declared.order.ShownOrder.TheVariants as order
+use Rattle.row_store.specs.History.{lines_after}
+use Rattle.row_store.specs.Lines.{lines_of}
 use Rattle.ssb_clients.specs.Clients as client
-use Rattle.ssb_clients.specs.Clients.{Asks, Polls}
+use Rattle.ssb_clients.specs.Clients.{Asks, HandsBack, Polls}
 use Rattle.ssb_audit.specs.declared.trace.Told.{Told}
 use Rattle.stream_sessions.specs.Keeping.{KeepsMore}
 use Rattle.stream_sessions.specs.declared.serve_error.ServeError.{ServeError}
@@ -28,6 +32,14 @@ pub record IsAnswered (before : TokenRecord) (questions : Questions) (answers : 
   pub sound : IsSound after
   pub answers_are : answers ≡ answers_in response
 
+-- the client sees more, and nothing else of it changed; it is shown the live lines of the order of this key, after all
+-- commits that it sees then, which begin with those that it had seen; or memory ran out for them
+abbrev pub IsShown : TokenRecord → ℕ → ShownOrder → TokenRecord → Type 0
+IsShown before key (order.Lines shown at lines) after =
+    (shown ≡ key) × (at ≡ length after.seen) × (lines ≡ lines_of key (lines_after before.table.base after.seen))
+    × HandsBack before after
+IsShown before key (order.Unserved shown) after = (shown ≡ key) × HandsBack before after
+
 -- the reply to a client's request, and what the client sees, made and asks then: as the server's calls say; an `abort`
 -- calls nothing
 abbrev pub IsServed : ℕ → TokenRecord → RequestRecord → Reply → TokenRecord → Type 0
@@ -37,15 +49,9 @@ IsServed number before (Ask asking) (Answered answers) after =
     (statement_in asking ≡ None) × IsAnswered before (questions_in asking) answers after
 IsServed number before (Ask asking) (Listed answers listing) after =
     IsListedOf (statement_in asking) answers listing × IsAnswered before (questions_in asking) answers after
+IsServed number before (Order key) (Shown shown) after = IsShown before key shown after × IsSound after
 IsServed number before Abort Aborted after = after ≡ before
-IsServed number before (Refresh actions) (Answered answers) after = ⊥
-IsServed number before (Refresh actions) (Listed answers listing) after = ⊥
-IsServed number before (Refresh actions) Aborted after = ⊥
-IsServed number before (Ask asking) (Refreshed reply) after = ⊥
-IsServed number before (Ask asking) Aborted after = ⊥
-IsServed number before Abort (Refreshed reply) after = ⊥
-IsServed number before Abort (Answered answers) after = ⊥
-IsServed number before Abort (Listed answers listing) after = ⊥
+IsServed number before request reply after = ⊥
 
 -- the replies to a client's requests, each of which finds the client as the one before it left it
 abbrev pub AreServed : ℕ → TokenRecord → List RequestRecord → List Reply → TokenRecord → Type 0
@@ -65,6 +71,7 @@ abbrev pub told_of : ℕ → Reply → List Told
 told_of client (Answered answers) = flat_map (told_by client) answers
 told_of client (Listed answers listing) = flat_map (told_by client) answers
 told_of client (Refreshed reply) = []
+told_of client (Shown shown) = []
 told_of client Aborted = []
 
 -- all requests were served: what was written is the report of the replies, and the answers with rows are kept

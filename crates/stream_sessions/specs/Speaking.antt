@@ -4,7 +4,7 @@ use Rattle.std.specs.List.{list_any}
 use Rattle.history.specs.Tokens.{TokenRecord}
 use Rattle.ssb_formats.specs.declared.reply_format.ReplyFormat.{ReplyFormat}
 use Rattle.ssb_formats.specs.declared.reply_format.ReplyFormat.TheVariants.{Report}
-use Rattle.ssb_script.specs.Requests.{RequestRecord, Refresh, Ask, Abort}
+use Rattle.ssb_script.specs.Requests.{RequestRecord, Refresh, Ask, Order, Abort}
 use Rattle.stream_sessions.specs.declared.manner.Manner.{Manner}
 use Rattle.stream_sessions.specs.declared.manner.Terms.{Terms}
 use Rattle.stream_sessions.specs.declared.past.Past.{Past}
@@ -41,6 +41,7 @@ InSession terms old new Took =
 abbrev pub is_refresh : RequestRecord → Bool
 is_refresh (Refresh actions) = true
 is_refresh (Ask asking) = false
+is_refresh (Order key) = false
 is_refresh Abort = false
 
 -- whether there is a refresh among all that a request asks

@@ -9,7 +9,9 @@ use Rattle.ssb_answers.specs.declared.answer.Answer.TheVariants.{Rows, Unserved}
 use Rattle.ssb_base.specs.Limits.{most_commits}
 use Rattle.ssb_formats.specs.ReplyTexts.{reply_shown}
 use Rattle.ssb_formats.specs.declared.reply_format.ReplyFormat.{ReplyFormat}
-use Rattle.ssb_report.specs.Replies.{Reply, Refreshed, Answered, Listed, Aborted}
+use Rattle.ssb_report.specs.Replies.{Reply, Refreshed, Answered, Listed, Shown, Aborted}
+use Rattle.ssb_report.specs.declared.order.ShownOrder.{ShownOrder}
+use Rattle.ssb_report.specs.declared.order.ShownOrder.TheVariants as order
 use Rattle.ssb_statements.specs.Listing.{ListingRecord, RowsRecord}
 use Rattle.ssb_statements.specs.Listing as listing
 use Rattle.stream_sessions.specs.declared.past.Past.{Past}
@@ -42,11 +44,17 @@ abbrev pub listing_with_past : ℕ → ListingRecord → ListingRecord
 listing_with_past past (listing.Rows rows) = listing.Rows (rows_with_past past rows)
 listing_with_past past (listing.Unserved cause) = listing.Unserved cause
 
+-- so are the lines of an order
+abbrev pub order_with_past : ℕ → ShownOrder → ShownOrder
+order_with_past past (order.Lines key at lines) = order.Lines key (past + at) lines
+order_with_past past (order.Unserved key) = order.Unserved key
+
 -- a reply, where so many commits came before
 abbrev pub with_past : ℕ → Reply → Reply
 with_past past (Refreshed outcome) = Refreshed (outcome_with_past past outcome)
 with_past past (Answered answers) = Answered (map (answer_with_past past) answers)
 with_past past (Listed answers listed) = Listed (map (answer_with_past past) answers) (listing_with_past past listed)
+with_past past (Shown shown) = Shown (order_with_past past shown)
 with_past past Aborted = Aborted
 
 -- what a session tells of a reply in its format, and of replies one after another
@@ -70,8 +78,13 @@ abbrev pub IsOfFewListing : ListingRecord → Type 0
 IsOfFewListing (listing.Rows rows) = rows.at ≤ most_commits
 IsOfFewListing (listing.Unserved cause) = Unit {0}
 
+abbrev pub IsOfFewOrder : ShownOrder → Type 0
+IsOfFewOrder (order.Lines key at lines) = at ≤ most_commits
+IsOfFewOrder (order.Unserved key) = Unit {0}
+
 abbrev pub IsOfFew : Reply → Type 0
 IsOfFew (Refreshed outcome) = IsOfFewOutcome outcome
 IsOfFew (Answered answers) = AllByRecursion IsOfFewAnswer answers
 IsOfFew (Listed answers listed) = AllByRecursion IsOfFewAnswer answers × IsOfFewListing listed
+IsOfFew (Shown shown) = IsOfFewOrder shown
 IsOfFew Aborted = Unit {0}

@@ -64,6 +64,7 @@ pub(crate) fn keep_reply(told: &mut Option<Vec<Told>>, client: u32, reply: Reply
         Reply::Answered(answers) => keep_all(kept, client, answers),
         Reply::Listed(answers, _listing) => keep_all(kept, client, answers),
         Reply::Refreshed(_outcome) => {}
+        Reply::Shown(_order) => {}
         Reply::Aborted => {}
     }
 }

@@ -12,6 +12,8 @@ pub enum RequestKind {
     Refresh,
     /// So many questions, which are asked together.
     Questions(usize),
+    /// The lines of an order.
+    Order,
     /// An `abort`: nothing was asked for.
     Abort,
 }
@@ -21,6 +23,7 @@ pub(crate) fn kind_of(request: &Request) -> RequestKind {
     match request {
         Request::Refresh(_) => RequestKind::Refresh,
         Request::Ask(_) => RequestKind::Questions(question_count(request)),
+        Request::Order(_) => RequestKind::Order,
         Request::Abort => RequestKind::Abort,
     }
 }
@@ -34,6 +37,7 @@ pub(crate) fn question_count(request: &Request) -> usize
         Request::Ask(Asking::Alone(_)) => 1,
         Request::Ask(Asking::Together(questions)) => questions.len(),
         Request::Ask(Asking::Statement(asked)) => asked.statement.questions.len(),
+        Request::Order(_) => 0,
         Request::Abort => 0,
     }
 }

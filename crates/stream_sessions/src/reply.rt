@@ -1,8 +1,8 @@
 //! The reply to one request of a client.
 ghost use Rattle.std.specs.Prelude.{◌≡◌, ℕ, false, OnErr, IfOk};
 ghost use Rattle.std.specs.Option.{is_some};
-ghost use Rattle.history.specs.Members.{number_of};
 ghost use Rattle.history_core.specs.declared.event.Who.TheVariants.{Client as IsNumbered};
+ghost use Rattle.history.specs.Tokens.{IsSound};
 ghost use Rattle.ssb_formats.specs.Formats.{Shows};
 ghost use Rattle.ssb_formats.specs.ReplyTexts.{reply_shown};
 ghost use Rattle.ssb_report.specs.Replies.{reply_text};
@@ -11,17 +11,20 @@ ghost use Rattle.ssb_script.specs.Requests.{Ask, request_of};
 ghost use Rattle.ssb_script.specs.declared.request.Asking.TheVariants.{Statement as Stated};
 ghost use Rattle.stream_sessions.specs.OneRequest.{AreAlike};
 ghost use Rattle.stream_sessions.specs.Replies.{reply_of};
-ghost use Rattle.stream_sessions.specs.Served.{IsAnswered, IsServed};
+ghost use Rattle.stream_sessions.specs.Served.{IsAnswered, IsServed, IsShown};
 
 use crate::service::Service;
 use row_store::{Follower, Receipt, RefreshError};
-use ssb_answers::Answer;
+use ssb_answers::{Answer, Unserved};
 use ssb_clients::Client;
 use ssb_formats::{
-    FormatFault, ReplyFormat, write_aborted_as, write_answers_as, write_listing_as, write_reply_as,
+    FormatFault, ReplyFormat, write_aborted_as, write_answers_as, write_listing_as, write_order_as,
+    write_reply_as,
 };
 use ssb_questions::Question;
-use ssb_report::{write_aborted, write_answers, write_listing, write_reply};
+use ssb_report::{
+    ShownOrder, write_aborted, write_answers, write_listing, write_order, write_reply,
+};
 use ssb_schema::Items;
 use ssb_script::{Asking, Request, StatementAsked};
 use ssb_statements::{Listing, listed};
@@ -37,8 +40,10 @@ pub enum Reply {
     Refreshed(Result<Receipt, RefreshError>),
     /// An answer to each question that was asked, in order.
     Answered(Vec<Answer>),
-    /// An answer to each question of a statement, and what is listed of these.
-    Listed(Vec<Answer>, Listing),
+    /// An answer to each question of a statement, and what is listed of these, in a place of its own, since it is large.
+    Listed(Vec<Answer>, Box<Listing>),
+    /// The lines of an order.
+    Shown(ShownOrder),
     /// What was begun is dropped.
     Aborted,
 }
@@ -52,6 +57,7 @@ impl Reply {
             Reply::Refreshed(result) => write_reply(writer, result),
             Reply::Answered(answers) => write_answers(writer, answers.as_slice()),
             Reply::Listed(_, listing) => write_listing(writer, listing),
+            Reply::Shown(order) => write_order(writer, order),
             Reply::Aborted => write_aborted(writer),
         }
     }
@@ -72,6 +78,7 @@ impl Reply {
                 write_answers_as(alloc, writer, format, answers.as_slice())
             }
             Reply::Listed(_, listing) => write_listing_as(alloc, writer, format, listing),
+            Reply::Shown(order) => write_order_as(alloc, writer, format, order),
             Reply::Aborted => write_aborted_as(alloc, writer, format),
         }
     }
@@ -102,7 +109,7 @@ fn answers_to<W: Follower + Drop, R: Wait, K>(
 fn rows_to<W: Follower + Drop, R: Wait, K>(
     service: &Service<'_, W, R, K>,
     client: &mut Client<W>,
-    asked: StatementAsked,
+    asked: Box<StatementAsked>,
 ) -> Result<Reply, AllocError>
     requires table { client.old.table ≡ service.now.server.now }
     requires quiet { is_some client.old.asked ≡ false }
@@ -112,9 +119,38 @@ fn rows_to<W: Follower + Drop, R: Wait, K>(
     ensures same { AreAlike client.old client.new }
 {
     let questions = asked.shared_questions(service.alloc)?;
+    let unserved = Listing::Unserved(Unserved::OutOfMemory);
+    let Ok(mut listing) = Box::new(service.alloc, unserved) else {
+        return Err(AllocError);
+    };
     let answers = answers_to(service, client, questions)?;
-    let listing = listed(service.alloc, &asked.statement, answers.as_slice());
+    *listing = listed(service.alloc, &asked.statement, answers.as_slice());
     Ok(Reply::Listed(answers, listing))
+}
+
+// Shows the client the live lines of the order of this key, after all commits that it sees then. Where memory runs out
+// for them, that is shown.
+fn order_to<W: Follower + Drop, R: Wait, K>(
+    service: &Service<'_, W, R, K>,
+    client: &mut Client<W>,
+    key: u64,
+) -> ShownOrder
+    requires table { client.old.table ≡ service.now.server.now }
+    requires quiet { is_some client.old.asked ≡ false }
+    ensures shown { IsShown client.old key result client.new }
+    ensures sound { IsSound client.new }
+    ensures same { AreAlike client.old client.new }
+{
+    let lines = client.order(service.rt, service.server, key);
+    client.soundness();
+    match lines {
+        Ok(lines) => ShownOrder::Lines {
+            key,
+            at: client.seen(),
+            lines,
+        },
+        Err(_) => ShownOrder::Unserved { key },
+    }
 }
 
 // Asks what is asked in one request.
@@ -162,6 +198,7 @@ pub(crate) fn reply_to<W: Follower + Drop, R: Wait, K>(
             Ok(Reply::Refreshed(result))
         }
         Request::Ask(asking) => told_to(service, client, asking),
+        Request::Order(key) => Ok(Reply::Shown(order_to(service, client, key))),
         Request::Abort => Ok(Reply::Aborted),
     }
 }

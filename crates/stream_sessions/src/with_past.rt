@@ -4,14 +4,16 @@ ghost use Rattle.std.specs.Prelude.{◌≡◌, map};
 ghost use Rattle.std.specs.List.{AllByRecursion};
 ghost use Rattle.stream_sessions.specs.Replies.{reply_of};
 ghost use Rattle.ssb_statements.specs.Listing.{listing_of};
-ghost use Rattle.stream_sessions.specs.WithPast.{IsOfFew, IsOfFewAnswer, IsOfFewListing, IsOfFewOutcome};
-ghost use Rattle.stream_sessions.specs.WithPast.{answer_with_past, listing_with_past, outcome_with_past, with_past};
+ghost use Rattle.stream_sessions.specs.WithPast.{IsOfFew, IsOfFewAnswer, IsOfFewListing, IsOfFewOrder, IsOfFewOutcome};
+ghost use Rattle.stream_sessions.specs.WithPast.{answer_with_past, listing_with_past, order_with_past};
+ghost use Rattle.stream_sessions.specs.WithPast.{outcome_with_past, with_past};
 
 use crate::past::Past;
 use crate::reply::Reply;
 use row_store::{Receipt, RefreshError};
 use ssb_answers::Answer;
-use ssb_statements::{Listing, StatementRows};
+use ssb_report::ShownOrder;
+use ssb_statements::Listing;
 
 // The outcome of a refresh, told with the commits that came before.
 fn outcome_with_past(
@@ -59,26 +61,28 @@ fn add_past_to_all(answers: &mut [Answer], past: Past)
     }
 }
 
-// What is listed of a statement, told with the commits that came before.
-fn listing_with_past(listing: Listing, past: Past) -> Listing
-    requires { IsOfFewListing (listing_of listing) }
-    ensures { listing_of result ≡ listing_with_past past.commits (listing_of listing) }
+// Tells what is listed of a statement with the commits that came before.
+fn add_past_to_listing(listing: &mut Listing, past: Past)
+    requires { IsOfFewListing (listing_of listing.old) }
+    ensures { listing_of listing.new ≡ listing_with_past past.commits (listing_of listing.old) }
 {
-    match listing {
-        Listing::Rows(
-            StatementRows {
-                heads,
-                are_numbers,
-                at,
-                rows,
-            },
-        ) => Listing::Rows(StatementRows {
-            heads,
-            are_numbers,
+    if let Listing::Rows(rows) = listing {
+        rows.at = past.with(rows.at);
+    }
+}
+
+// An order, told with the commits that came before.
+fn order_with_past(order: ShownOrder, past: Past) -> ShownOrder
+    requires { IsOfFewOrder order }
+    ensures { result ≡ order_with_past past.commits order }
+{
+    match order {
+        ShownOrder::Lines { key, at, lines } => ShownOrder::Lines {
+            key,
             at: past.with(at),
-            rows,
-        }),
-        Listing::Unserved(cause) => Listing::Unserved(cause),
+            lines,
+        },
+        ShownOrder::Unserved { key } => ShownOrder::Unserved { key },
     }
 }
 
@@ -96,10 +100,12 @@ impl Reply {
                 Reply::Answered(answers)
             }
             Reply::Listed(answers, listing) => {
-                let mut answers = answers;
+                let (mut answers, mut listing) = (answers, listing);
                 add_past_to_all(&mut answers, past);
-                Reply::Listed(answers, listing_with_past(listing, past))
+                add_past_to_listing(&mut listing, past);
+                Reply::Listed(answers, listing)
             }
+            Reply::Shown(order) => Reply::Shown(order_with_past(order, past)),
             Reply::Aborted => Reply::Aborted,
         }
     }

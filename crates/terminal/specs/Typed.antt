@@ -195,6 +195,7 @@ record_spelling record_word.Withdraw = codes "withdraw"
 record_spelling record_word.Commit = codes "commit"
 record_spelling record_word.Ask = codes "ask"
 record_spelling record_word.Answer = codes "answer"
+record_spelling record_word.Order = codes "order"
 record_spelling record_word.Abort = codes "abort"
 
 -- the words of records, but for the one that asks, where bars part fields
@@ -204,7 +205,8 @@ barred_words = record_word.Format ∷ []
 -- and where blanks do
 abbrev pub blank_words : List RecordWord
 blank_words = record_word.Format ∷ record_word.Begin ∷ record_word.Add ∷ record_word.Amend ∷ record_word.Line
-    ∷ record_word.Withdraw ∷ record_word.Commit ∷ record_word.Ask ∷ record_word.Answer ∷ record_word.Abort ∷ []
+    ∷ record_word.Withdraw ∷ record_word.Commit ∷ record_word.Ask ∷ record_word.Answer ∷ record_word.Order
+    ∷ record_word.Abort ∷ []
 
 -- the one of these words that a field is
 abbrev pub word_among : List RecordWord → List ℕ → Option RecordWord

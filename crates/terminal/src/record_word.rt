@@ -18,6 +18,7 @@ pub enum RecordWord {
     Commit,
     Ask,
     Answer,
+    Order,
     Abort,
 }
 
@@ -25,7 +26,7 @@ pub enum RecordWord {
 pub(crate) const BARRED: [RecordWord; 1] = [RecordWord::Format];
 
 /// Those of records whose fields blanks part: all.
-pub(crate) const BLANK: [RecordWord; 10] = [
+pub(crate) const BLANK: [RecordWord; 11] = [
     RecordWord::Format,
     RecordWord::Begin,
     RecordWord::Add,
@@ -35,6 +36,7 @@ pub(crate) const BLANK: [RecordWord; 10] = [
     RecordWord::Commit,
     RecordWord::Ask,
     RecordWord::Answer,
+    RecordWord::Order,
     RecordWord::Abort,
 ];
 
@@ -53,6 +55,7 @@ impl RecordWord {
             RecordWord::Commit => b"commit",
             RecordWord::Ask => b"ask",
             RecordWord::Answer => b"answer",
+            RecordWord::Order => b"order",
             RecordWord::Abort => b"abort",
         }
     }
