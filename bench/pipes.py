@@ -26,6 +26,7 @@ BAD_REQUESTS = [("que", "70 BadLine 1"), ("commit", "70 BadLine 1"), ("query|Q9.
                 ("begin\ncommit", "72 EmptyBlock 2"), ("begin\nwithdraw|x\ncommit", "70 BadLine 2"),
                 ("begin\nadd\ncommit", "73 Row 2 1 NoLines"), ("answer", "70 BadLine 1"),
                 ("ask\nquery|Q1.1\nwithdraw|1\nanswer", "70 BadLine 3"), ("ask\nanswer", "72 EmptyBlock 2"),
+                ("order|first", "70 BadLine 1"), ("begin\norder|1\ncommit", "70 BadLine 2"),
                 ("ask\n" + "query|Q1.1\n" * 17 + "answer", "78 TooManyQuestions 18")]
 
 
