@@ -9,6 +9,7 @@
         assert first.at == second.at                # both are of one moment
         top = live.ask_sql("SELECT d_year, sum(lo_revenue) AS revenue, count(*) FROM lineorder JOIN date "
                            "ON lo_orderdate = d_datekey GROUP BY d_year ORDER BY revenue DESC LIMIT 3")
+        lines = live.order(7)                       # of the order with this key, as it is
         with live.refresh() as refresh:             # committed at the end of the block, or Refused
             refresh.withdraw(7)
         print("commit", refresh.committed)
@@ -64,6 +65,7 @@ MOST_TOLD = 30              # values of a column that a warning tells
 MOST_DIGITS, MOST_TEXT = 20, 64         # of a number; bytes of a text
 MOST_SHOWN, FEW = 100, 3    # letters of a value, and names, in an error
 MOST_TOGETHER = 16          # questions
+HEAD = re.compile(rb"\S+(?: \d+)? at \d+ (?:rows|lines) (\d+)")       # the line before rows, or lines of an order
 
 LINEORDER = ("LO_ORDERKEY", "LO_LINENUMBER", "LO_CUSTKEY", "LO_PARTKEY", "LO_SUPPKEY", "LO_ORDERDATE",
              "LO_ORDERPRIORITY", "LO_SHIPPRIORITY", "LO_QUANTITY", "LO_EXTENDEDPRICE", "LO_ORDTOTALPRICE",
@@ -403,10 +405,15 @@ def value_of(column, field):
     return None if field == "NULL" else int(field)
 
 
+def line_value_of(column, field):
+    return field if column in TEXTS or column == TEXT_OR_NUMBER else int(field)
+
+
 # ---- replies as they come ----
 
 class Replies:
-    """The bytes of so many replies as they come: each is a line, and behind a head with `rows R` stand R lines more."""
+    """The bytes of so many replies as they come: each is a line, and behind a head with `rows R`, or `lines R`, stand R
+    lines more."""
 
     def __init__(self, count, is_block):
         self.text, self.place, self.is_block = bytearray(), 0, is_block
@@ -426,8 +433,8 @@ class Replies:
         if end < 0:
             return False
         head, self.place = self.text[self.place:end], end + 1
-        before, is_answer, rows = head.rpartition(b" rows ")
-        self.rows = int(rows) if is_answer and rows.isdigit() and b" at " in before else 0
+        found = HEAD.fullmatch(head)
+        self.rows = int(found[1]) if found else 0
         self.left = 0 if self.is_block and head.startswith(b"fault: ") else self.left - 1
         return True
 
@@ -556,6 +563,12 @@ class Connection:
         record = f"sql|{statement_of(text)}"
         return self._request(["format|json", record, "format|report"], 3, self._rows, told_of=[record])
 
+    def order(self, key):
+        """The lines of the order with this key as they are then, under the names of LINEORDER: none where it is not
+        live. They can be changed and amended."""
+        number = line_field("LO_ORDERKEY", key)
+        return self._request([f"order|{number}"], 1, functools.partial(self._order, int(number)))
+
     def refresh(self):
         """A refresh, for a `with` block: it is committed at the block's end, or Refused is raised there."""
         return Refresh(self)
@@ -658,11 +671,20 @@ class Connection:
             return Answer("sql", (), self._seen_now(reply["at"]), tuple(reply["columns"]), rows)
         return self._raise(line)
 
-    def _row(self, columns, line):
+    def _order(self, key, text):
+        """The lines of the order with this key."""
+        head, *lines = text.rstrip("\n").split("\n")
+        found = re.fullmatch(r"order (\d+) at (\d+) lines (\d+)", head)
+        if not found or int(found[1]) != key:
+            self._raise(head)
+        at = self._seen_now(int(found[2]))
+        return Answer("order", (key,), at, LINEORDER, [self._row(LINEORDER, line, line_value_of) for line in lines])
+
+    def _row(self, columns, line, value=value_of):
         fields = line.split("|")
         if len(fields) == len(columns):
             with contextlib.suppress(ValueError):
-                return tuple(map(value_of, columns, fields))
+                return tuple(map(value, columns, fields))
         return self._raise(line)
 
     def _commit(self, records):
@@ -691,7 +713,7 @@ class Connection:
         refused = re.fullmatch(r"refused at (\d+) action (\d+): (\d+ .+)", reply)
         if refused:
             raise Refused(int(refused[1]), int(refused[2]), refused[3])
-        if re.match(r"\S+ unserved: |refresh: out of memory$", reply):
+        if re.match(r"\S+(?: \d+)? unserved: |refresh: out of memory$", reply):
             raise Unserved(reply)
         self._drop()
         raise OperationalError(f"not a reply of ssb_live: {reply[:80]!r}")

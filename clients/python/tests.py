@@ -386,6 +386,22 @@ class Refreshes(Trial):
         answer = self.live.ask("Q1.1")
         self.assertEqual((refresh.committed, answer.at, answer.rows), (1, 1, [(200 + 2000 + 20,)]))
 
+    def test_an_order_is_shown_as_it_is_then(self):
+        answer = self.live.order(7)
+        self.assertEqual((answer.name, answer.at, answer.columns), ("order", 0, ssb_live.LINEORDER))
+        self.assertEqual(["|".join(map(str, row)) for row in answer], TABLES["lineorder"][:2])
+        self.assertEqual(answer[1][5:10], (19930615, "5-LOW", "0", 20, 3000))
+        with self.live.refresh() as refresh:
+            refresh.amend(*((*row[:8], row[8] + 1, *row[9:]) for row in answer))
+            refresh.withdraw(8)
+        self.assertEqual([row[8] for row in self.live.order("07")], [11, 21])
+        for key in (8, 2**64 - 1):
+            shown = self.live.order(key)
+            self.assertEqual((shown.at, shown.rows, shown.constants), (1, [], (key,)))
+        for key, kind in [(-1, ssb_live.WrongValue), (2**64, ssb_live.WrongValue), (7.0, ssb_live.WrongType)]:
+            with self.raises(kind, "LO_ORDERKEY is"):
+                self.live.order(key)
+
     def test_a_line_can_be_given_by_names(self):
         named = dict(zip(ssb_live.LINEORDER, line(9)))
         with self.live.refresh() as refresh:
