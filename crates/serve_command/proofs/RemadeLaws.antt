@@ -277,20 +277,21 @@ refused_remade base marks start path dispatchers known (refusal.NotServed fault.
     absurd (omega (arith, status))
 
 -- and none of it is a wrong word
+remade_no_words : (base : Tables) (marks : List TableMark) (TellsStart : List ℕ → OpeningFault → Type 0)
+    (dispatchers : ℕ) (file : List ℕ) (why : ServeRefusal) → TellsOfFile base marks TellsStart dispatchers file why
+    → refusal_status why ≢ 2
+remade_no_words base marks TellsStart dispatchers file refusal.TooManyClients tells = absurd tells
+remade_no_words base marks TellsStart dispatchers file (refusal.Journal why) tells = opening_no_words why
+remade_no_words base marks TellsStart dispatchers file (refusal.NotServed why) tells = journaled_no_words why
+
 pub told_remade : (base : Tables) (marks : List TableMark) (start : JournalStart) (path : List ℕ) (dispatchers : ℕ)
     (known : Option (List ℕ)) (why : ServeRefusal)
     → IsNotRemade base marks (TellsStartFault start path marks) dispatchers known why
     → TellsRefused (refusal_status why) (RefusesFile base marks (start ≡ Begins) known)
 told_remade base marks start path dispatchers known why is = record {
   refused = refused_remade base marks start path dispatchers known why is;
-  words = no_words why is.tells;
+  words = remade_no_words base marks (TellsStartFault start path marks) dispatchers is.file why is.tells;
 }
-  where
-    no_words : (why : ServeRefusal) {file : List ℕ} → TellsOfFile base marks (TellsStartFault start path marks) dispatchers file why
-        → refusal_status why ≢ 2
-    no_words refusal.TooManyClients tells = absurd tells
-    no_words (refusal.Journal why) tells = opening_no_words why
-    no_words (refusal.NotServed why) tells = journaled_no_words why
 
 -- a journal's file was found with the commits that were made again
 pub found_with : {W D : Type 0} (seen : D → List ℕ) (marks : List TableMark) (known : Option (List ℕ))
