@@ -229,7 +229,7 @@ where
         speakers,
     };
     first_of_log();
-    let end = run_sessions::<U::Whole, R, S, Brand, X>(rt, who, begun, place.confirms);
+    let end = run_sessions::<U::Whole, &R, R, S, Brand, X>(rt, who, begun, place.confirms);
     match close_run::<U::Whole, &R, S>(rt.alloc(), server, end, resting) {
         Ok((left, kept)) => Ok(JournaledRun { left, kept, torn }),
         Err((fault, disk)) => Err(UnservedSource::read(fault, disk, torn)),

@@ -194,17 +194,17 @@ fn clients_and_left<W: Wait + Drop, L: Drop>(
 /// Serves the sessions behind the file of a journal, each client and each dispatcher in a thread of its own: what is told
 /// to a client is on the disk before, and confirmed. It waits until all of them have ended. Where the file is read alone,
 /// no refresh is taken, and it is as it was.
-pub(crate) fn run_sessions<'r, D, R, S, K, X>(
-    rt: &'r R,
-    who: Participants<'_, &'r R, S>,
+pub(crate) fn run_sessions<D, W, R, S, K: LogStart + Send + Sync, X>(
+    rt: &R,
+    who: Participants<'_, W, S>,
     begun: BegunJournal<D>,
     confirms: &X,
-) -> SessionsEnd<&'r R, D, S::Left>
+) -> SessionsEnd<W, D, S::Left>
 where
     D: Disk + Drop + Send,
+    W: Wait + Drop + Send,
     R: Machine,
     S: SpeaksApart<R, X::Told>,
-    K: LogStart + Send + Sync,
     X: ConfirmsOn<D>,
     requires ready { TakePart who.server.now who.clients.items who.reader who.dispatchers.items (vec_len who.speakers) }
     requires begun { (K.reader ≡ Some who.reader) × IsBegunWith D.moment D.left_since K.begun begun.file begun.count }
@@ -229,7 +229,7 @@ where
     let BegunJournal { file, count } = begun;
     match file {
         BegunFile::Open(journal) => {
-            let source: ServerLog<'_, &'r R, K> = ServerLog::new(server, reader);
+            let source: ServerLog<'_, W, K> = ServerLog::new(server, reader);
             let journaled = JournalAcknowledger {
                 journal: SharedJournal::new(JournaledLog::new(journal, source, count)),
             };

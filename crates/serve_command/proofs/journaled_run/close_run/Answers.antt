@@ -9,6 +9,6 @@ new-requires g c =
 
 pub returns-clause-told : goal.returns-clause-told
 returns-clause-told g c =
-    told_each c.in-Ok.ended.spoken.items c.deref.result.now c.in-Ok-2.left.items (λ one. one.left) g.S.Speaker.told
-    c.args.end.left.count c.in-Ok-2.ensures.left c.deref.ensures.value
+    told_each c.in-Ok.ended.spoken.items c.deref.result.now c.in-Ok-clients_and_left.left.items (λ one. one.left) g.S.Speaker.told
+    c.args.end.left.count c.in-Ok-clients_and_left.ensures.left c.deref.ensures.value
     (c.all_are_kept.ensures c.if-not-all_are_kept.false)
