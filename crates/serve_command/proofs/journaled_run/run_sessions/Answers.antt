@@ -5,7 +5,7 @@ use Rattle.serve_command.specs.JournaledRun.{begun_on}
 use Rattle.serve_command.specs.declared.journaled_run.BegunFile.TheVariants.{Open, ReadOnly}
 use Rattle.serve_command.proofs.journaled_run.run_sessions.Goals as goal
 
-pub new-requires-clause-since : goal.new-in-Open-2-requires-clause-since
+pub new-requires-clause-since : goal.new-requires-clause-since
 new-requires-clause-since g c =
     since_begun g.D.Disk.moment g.D.Disk.left_since g.K.LogStart.begun c.in-Open.journal c.args.begun.count
     c.new-source.result.reader.seen c.requires.begun.1
