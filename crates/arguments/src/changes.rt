@@ -1,6 +1,6 @@
 //! The words of `changes`.
 
-use crate::job::{HintsWord, hints_of, word_of};
+use crate::job::{HintsWord, Job, hints_of, word_of};
 use crate::notice::Notice;
 use crate::store::{FilesWord, files_of};
 use clap::ArgMatches;
@@ -123,15 +123,12 @@ fn changed_of<'a>(alloc: Global, matches: &ArgMatches<'a>) -> Result<ChangedWord
 }
 
 /// Those that were matched.
-pub(crate) fn changes_words<'a>(
-    alloc: Global,
-    matches: &ArgMatches<'a>,
-) -> Result<ChangesWords<'a>, Notice> {
-    Ok(ChangesWords {
+pub(crate) fn changes_job<'a>(alloc: Global, matches: &ArgMatches<'a>) -> Result<Job<'a>, Notice> {
+    Ok(Job::Changes(ChangesWords {
         changed: changed_of(alloc, matches)?,
         start: start_of(matches),
         format: format_of(matches),
         quiet: matches.get_flag("quiet"),
         hints: hints_of(matches),
-    })
+    }))
 }

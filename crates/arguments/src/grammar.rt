@@ -4,7 +4,7 @@ use crate::help::{
     AUDIT_HELP, CHANGES_HELP, CHECKPOINT_HELP, EXPORT_HELP, QUERY_HELP, RUN_HELP, SERVE_HELP,
     SHIP_HELP, STORE_HELP,
 };
-use crate::word::{Subcommand, Word};
+use crate::word::{COUNT, FILE, FLAG, Subcommand, TEXT, Typed, Values, Word};
 use clap::Command;
 use std::alloc::{AllocError, Global};
 
@@ -25,127 +25,139 @@ const ABOUT: &str =
      over small built-in tables, and prints the report; at a terminal a live session over them";
 
 // The folder of the five table files.
-fn data() -> Word {
-    Word::text(
-        "data",
-        &["DIR"],
-        "The folder of customer.tbl, supplier.tbl, part.tbl, date.tbl and lineorder.tbl",
-    )
-}
+const DATA: Word = Word {
+    name: "data",
+    value_names: &["DIR"],
+    help: "The folder of customer.tbl, supplier.tbl, part.tbl, date.tbl and lineorder.tbl",
+    ..TEXT
+};
+
+// The same, where a store may stand in its place.
+const DATA_OR_STORE: Word = Word {
+    unless: &["store"],
+    ..DATA
+};
+
+// The same, where a question may be explained instead.
+const QUERIED_DATA: Word = Word {
+    unless: &["explain", "store"],
+    ..DATA
+};
 
 // What parts the fields of the tables.
-fn delimiter() -> Word {
-    Word::text(
-        "delimiter",
-        &["C"],
-        "What parts the fields of the tables besides |: one character, or tab",
-    )
-    .not_without(&["data"])
-}
+const DELIMITER: Word = Word {
+    name: "delimiter",
+    value_names: &["C"],
+    help: "What parts the fields of the tables besides |: one character, or tab",
+    without: &["data"],
+    ..TEXT
+};
 
 // Whether heads stand above the rows of the tables.
-fn heads() -> Word {
-    Word::flag(
-        "heads",
-        "A line of heads, like the names of the columns, stands above the rows of each table",
-    )
-    .not_without(&["data"])
-}
+const HEADS: Word = Word {
+    name: "heads",
+    help: "A line of heads, like the names of the columns, stands above the rows of each table",
+    without: &["data"],
+    ..FLAG
+};
 
 // A store in the place of the tables and the journal.
-fn store() -> Word {
-    Word::text(
-        "store",
-        &["FOLDER"],
-        "A store, in the place of the tables and the journal",
-    )
-}
+const STORE: Word = Word {
+    name: "store",
+    value_names: &["FOLDER"],
+    help: "A store, in the place of the tables and the journal",
+    beside: &["data", "delimiter", "heads"],
+    ..TEXT
+};
+
+// The same, where a question may be explained instead.
+const QUERIED_STORE: Word = Word {
+    beside: &["data", "delimiter", "heads", "explain"],
+    ..STORE
+};
 
 // After how many commits of the store the tables are.
-fn at() -> Word {
-    Word::count(
-        "at",
-        "With --store: the tables after its first N commits; without it after all",
-    )
-    .not_without(&["store"])
-}
-
-fn times(help: &'static str) -> Word {
-    Word::flag("times", help)
-}
+const AT: Word = Word {
+    name: "at",
+    help: "With --store: the tables after its first N commits; without it after all",
+    without: &["store"],
+    ..COUNT
+};
 
 // Whether nothing is shown while the data is read.
-fn quiet() -> Word {
-    Word::flag(
-        "quiet",
-        "Shows no progress of a long load; without it, progress is shown at a terminal only",
-    )
-}
+const QUIET: Word = Word {
+    name: "quiet",
+    help: "Shows no progress of a long load; without it, progress is shown at a terminal only",
+    ..FLAG
+};
 
-fn hints() -> Word {
-    Word::flag(
-        "hints",
-        "Says below a fault what to do about it; without it, this is said at a terminal only",
-    )
-}
+const HINTS: Word = Word {
+    name: "hints",
+    help: "Says below a fault what to do about it; without it, this is said at a terminal only",
+    ..FLAG
+};
 
-fn no_hints() -> Word {
-    Word::flag("no-hints", "Says nothing below a fault").not_beside(&["hints"])
-}
-
-// A word with the path of a file behind it.
-fn file(name: &'static str, help: &'static str) -> Word {
-    Word::text(name, &["FILE"], help)
-}
+const NO_HINTS: Word = Word {
+    name: "no-hints",
+    help: "Says nothing below a fault",
+    beside: &["hints"],
+    ..FLAG
+};
 
 // How many dispatchers there are.
-fn dispatchers() -> Word {
-    Word::count(
-        "dispatchers",
-        "How many dispatchers answer the questions, each in its own thread: 1 to 4",
-    )
-    .number_within(1, 4)
-    .or("1")
-}
+const DISPATCHERS: Word = Word {
+    name: "dispatchers",
+    help: "How many dispatchers answer the questions, each in its own thread: 1 to 4",
+    values: Values::Number(1, 4),
+    default: Some("1"),
+    ..COUNT
+};
 
 // The questions that stand.
-fn standing() -> Word {
-    file(
-        "standing",
-        "The questions that stand: a script of 1 to 64 'query' records, or the word benchmark, for the thirteen",
-    )
-}
+const STANDING: Word = Word {
+    name: "standing",
+    help: "The questions that stand: a script of 1 to 64 'query' records, or the word benchmark, for the thirteen",
+    ..FILE
+};
 
 // The name of a query, which is not given where all are asked, those of a board, or a statement.
-fn name(explains: bool) -> Word {
-    let name = Word::text("name", &["NAME"], "The query, for example Q4.1, or star").placed();
-    if explains {
-        return name.unless(&["all", "board"]).not_beside(&["all", "board"]);
-    }
-    name.unless(&["all", "board", "sql"])
-        .not_beside(&["all", "board", "sql"])
-}
+const NAME: Word = Word {
+    name: "name",
+    typed: Typed::Nothing,
+    value_names: &["NAME"],
+    help: "The query, for example Q4.1, or star",
+    unless: &["all", "board", "sql"],
+    beside: &["all", "board", "sql"],
+    ..TEXT
+};
 
-// A statement in the place of a question; the system for whose SQL a question is explained.
-fn sql(explains: bool) -> Word {
-    if explains {
-        return Word::text(
-            "sql",
-            &["SYSTEM"],
-            "With --explain: as one statement of this system's SQL",
-        )
-        .named(&["sqlite", "postgresql", "clickhouse"])
-        .not_beside(&["data"])
-        .not_without(&["explain"]);
-    }
-    Word::text(
-        "sql",
-        &["TEXT"],
-        "The rows of statements of SQL, parted by ';', in place of a question; -: those of standard input; with \
-         --explain SYSTEM in its place: sqlite, postgresql or clickhouse, in whose SQL the question is written",
-    )
-    .not_beside(&["all", "board"])
-}
+// The same of a question that is explained.
+const EXPLAINED_NAME: Word = Word {
+    unless: &["all", "board"],
+    beside: &["all", "board"],
+    ..NAME
+};
+
+// A statement in the place of a question.
+const SQL: Word = Word {
+    name: "sql",
+    value_names: &["TEXT"],
+    help: "The rows of statements of SQL, parted by ';', in place of a question; -: those of standard input; with \
+           --explain SYSTEM in its place: sqlite, postgresql or clickhouse, in whose SQL the question is written",
+    beside: &["all", "board"],
+    ..TEXT
+};
+
+// The system for whose SQL a question is explained.
+const SYSTEM: Word = Word {
+    name: "sql",
+    value_names: &["SYSTEM"],
+    help: "With --explain: as one statement of this system's SQL",
+    values: Values::Name(&["sqlite", "postgresql", "clickhouse"]),
+    beside: &["data"],
+    without: &["explain"],
+    ..TEXT
+};
 
 /// The width that a text spells, where `--width` takes it.
 pub fn width_of(text: &str) -> Option<u32> {
@@ -157,453 +169,517 @@ pub fn width_of(text: &str) -> Option<u32> {
 }
 
 // How answers are written.
-fn format() -> Word {
-    Word::text("format", &["FORMAT"], "How the answers are written")
-        .named(&["report", "table", "csv", "json", "markdown", "bars", "html"])
-        .or("report")
-}
+const FORMAT: Word = Word {
+    name: "format",
+    value_names: &["FORMAT"],
+    help: "How the answers are written",
+    values: Values::Name(&["report", "table", "csv", "json", "markdown", "bars", "html"]),
+    default: Some("report"),
+    ..TEXT
+};
 
-fn width() -> Word {
-    Word::count(
-        "width",
-        "How many columns a line of bars may take, 40 to 1000; without it the variable COLUMNS, or 80",
-    )
-    .number_within(LEAST_WIDTH, MOST_WIDTH)
-}
+const WIDTH: Word = Word {
+    name: "width",
+    help: "How many columns a line of bars may take, 40 to 1000; without it the variable COLUMNS, or 80",
+    values: Values::Number(LEAST_WIDTH, MOST_WIDTH),
+    ..COUNT
+};
 
 // The file of the questions that are asked, each under a title.
-fn board() -> Word {
-    file(
-        "board",
-        "The questions of FILE in place of one: 1 to 64 lines 'Title|NAME|CONSTANT..' or 'Title|sql|TEXT', each report under its title",
-    )
-    .not_beside(&["all", "explain"])
-}
+const BOARD: Word = Word {
+    name: "board",
+    help: "The questions of FILE in place of one: 1 to 64 lines 'Title|NAME|CONSTANT..' or 'Title|sql|TEXT', each report under its title",
+    beside: &["all", "explain"],
+    ..FILE
+};
 
 // Whether a question is explained, for which no tables are needed.
-fn explain() -> Word {
-    Word::flag(
-        "explain",
-        "Says what is asked, in place of answering it; with --data also how many rows and groups it is about",
-    )
-    .not_beside(&["all", "format", "times"])
-}
+const EXPLAIN: Word = Word {
+    name: "explain",
+    help: "Says what is asked, in place of answering it; with --data also how many rows and groups it is about",
+    beside: &["all", "format", "times"],
+    ..FLAG
+};
 
 // Whether all thirteen are asked.
-fn all() -> Word {
-    Word::flag(
-        "all",
-        "All thirteen queries with the benchmark's constants, in place of one",
-    )
-}
+const ALL: Word = Word {
+    name: "all",
+    help: "All thirteen queries with the benchmark's constants, in place of one",
+    ..FLAG
+};
 
 // The commit as of which a statement's rows are.
-fn as_of() -> Word {
-    Word::count(
-        "as-of",
-        "With --explain --sql: over the table of signed lines, as of commit N",
-    )
-    .not_without(&["explain", "sql"])
-}
+const AS_OF: Word = Word {
+    name: "as-of",
+    help: "With --explain --sql: over the table of signed lines, as of commit N",
+    without: &["explain", "sql"],
+    ..COUNT
+};
 
 // Whether the times of an answer's steps are told.
-fn answer_times() -> Word {
-    times("Reports on standard error how many seconds each step took")
-}
+const ANSWER_TIMES: Word = Word {
+    name: "times",
+    help: "Reports on standard error how many seconds each step took",
+    ..FLAG
+};
 
 // The constants of a query.
-fn constants() -> Word {
-    Word::text(
-        "constants",
-        &["CONSTANT"],
-        "All constants of the query; without them, one of the thirteen has the benchmark's",
-    )
-    .placed()
-    .many(0)
-}
+const CONSTANTS: Word = Word {
+    name: "constants",
+    typed: Typed::Nothing,
+    value_names: &["CONSTANT"],
+    help: "All constants of the query; without them, one of the thirteen has the benchmark's",
+    values: Values::Many(0),
+    ..TEXT
+};
 
-// The words of `query`, where it explains a question or answers it.
-fn query<'a>(
-    alloc: Global,
-    program: Command<'a>,
-    explains: bool,
-) -> Result<Command<'a>, AllocError> {
-    let words = [
-        data().unless(&["explain", "store"]),
-        delimiter(),
-        heads(),
-        store().not_beside(&["data", "delimiter", "heads", "explain"]),
-        at(),
-        all(),
-        board(),
-        format(),
-        width(),
-        explain(),
-        sql(explains),
-        as_of(),
-        answer_times(),
-        quiet(),
-        hints(),
-        no_hints(),
-        name(explains),
-        constants(),
-    ];
-    let command = Subcommand {
+// The words of `query`, where it answers a question.
+static QUERY_WORDS: [Word; 18] = [
+    QUERIED_DATA,
+    DELIMITER,
+    HEADS,
+    QUERIED_STORE,
+    AT,
+    ALL,
+    BOARD,
+    FORMAT,
+    WIDTH,
+    EXPLAIN,
+    SQL,
+    AS_OF,
+    ANSWER_TIMES,
+    QUIET,
+    HINTS,
+    NO_HINTS,
+    NAME,
+    CONSTANTS,
+];
+
+// The same, where it explains one: behind `sql` stands a system, and a name is wanted beside it.
+static EXPLAIN_WORDS: [Word; 18] = [
+    QUERIED_DATA,
+    DELIMITER,
+    HEADS,
+    QUERIED_STORE,
+    AT,
+    ALL,
+    BOARD,
+    FORMAT,
+    WIDTH,
+    EXPLAIN,
+    SYSTEM,
+    AS_OF,
+    ANSWER_TIMES,
+    QUIET,
+    HINTS,
+    NO_HINTS,
+    EXPLAINED_NAME,
+    CONSTANTS,
+];
+
+// Where a run's trace is written.
+const TRACE: Word = Word {
+    name: "trace",
+    help: "Where the commits and the answers are written; what the file had before is deleted",
+    ..FILE
+};
+
+// Whether the times of a run are told.
+const RUN_TIMES: Word = Word {
+    name: "times",
+    help: "Reports on standard error how many seconds loading and serving took, how much was served in a second, \
+           and how long a refresh and an answer took",
+    ..FLAG
+};
+
+// The scripts of a run.
+const SCRIPTS: Word = Word {
+    name: "scripts",
+    typed: Typed::Nothing,
+    value_names: &["SCRIPT"],
+    help: "The scripts, 1 to 16: client K serves the Kth",
+    values: Values::Many(1),
+    is_required: true,
+    ..TEXT
+};
+
+static RUN_WORDS: [Word; 13] = [
+    DATA_OR_STORE,
+    DELIMITER,
+    HEADS,
+    STORE,
+    AT,
+    DISPATCHERS,
+    TRACE,
+    STANDING,
+    RUN_TIMES,
+    QUIET,
+    HINTS,
+    NO_HINTS,
+    SCRIPTS,
+];
+
+// A client of a live server.
+const CLIENTS: Word = Word {
+    name: "clients",
+    typed: Typed::As("client"),
+    value_names: &["IN", "OUT"],
+    help: "A client: IN is read, and replies go to OUT; can be given 1 to 16 times",
+    values: Values::Each(2),
+    ..TEXT
+};
+
+// What a second server tells of its disk.
+const CONFIRMED: Word = Word {
+    name: "confirmed",
+    value_names: &["BY"],
+    help: "Replies also wait for the line 'committed N' from BY, which a link to a second server writes; can be repeated",
+    values: Values::Each(1),
+    ..TEXT
+};
+
+// How many commits a segment of the store has at most.
+const SEGMENT: Word = Word {
+    name: "segment",
+    help: "After how many commits the store goes on in the next segment: 1000 to 100000000",
+    values: Values::Count(LEAST_SEGMENT, MOST_SEGMENT),
+    without: &["store"],
+    ..COUNT
+};
+
+// Whether a client's pipes are opened again.
+const KEEP: Word = Word {
+    name: "keep",
+    help: "Opens a client's named pipes again for its next session; a signal ends the server",
+    ..FLAG
+};
+
+// The journal of a server, which is gone on with.
+const SERVED_JOURNAL: Word = Word {
+    name: "journal",
+    help: "Where the commits are kept: a journal that is there; replies wait for the disk; the next server goes on from there",
+    ..FILE
+};
+
+// The journal of a server, which begins.
+const NEW_JOURNAL: Word = Word {
+    name: "new-journal",
+    help: "The same of a journal that begins: FILE is missing or empty, and is made",
+    beside: &["journal", "store"],
+    ..FILE
+};
+
+// The file of a server's figures.
+const METRICS: Word = Word {
+    name: "metrics",
+    help: "Where the server's figures are written every 10 seconds, for Prometheus: a file of such figures, or a new one",
+    ..FILE
+};
+
+// A store in the place of the tables and of a journal that is named.
+const STORE_OR_JOURNAL: Word = Word {
+    beside: &["data", "delimiter", "heads", "journal"],
+    ..STORE
+};
+
+static SERVE_WORDS: [Word; 16] = [
+    DATA_OR_STORE,
+    DELIMITER,
+    HEADS,
+    STORE_OR_JOURNAL,
+    SEGMENT,
+    DISPATCHERS,
+    CLIENTS,
+    KEEP,
+    SERVED_JOURNAL,
+    NEW_JOURNAL,
+    CONFIRMED,
+    METRICS,
+    STANDING,
+    QUIET,
+    HINTS,
+    NO_HINTS,
+];
+
+// The trace that is audited.
+const AUDITED_TRACE: Word = Word {
+    name: "trace",
+    typed: Typed::Nothing,
+    value_names: &["TRACE"],
+    help: "The trace of a run over these tables",
+    is_required: true,
+    ..TEXT
+};
+
+static AUDIT_WORDS: [Word; 9] = [
+    DATA_OR_STORE,
+    DELIMITER,
+    HEADS,
+    STORE,
+    AT,
+    QUIET,
+    HINTS,
+    NO_HINTS,
+    AUDITED_TRACE,
+];
+
+// The journal of a server, which is read.
+const READ_JOURNAL: Word = Word {
+    name: "journal",
+    help: "The journal of a server over these tables; it is not changed",
+    unless: &["store"],
+    ..FILE
+};
+
+// Where tables are written.
+const TO_FOLDER: Word = Word {
+    name: "to",
+    value_names: &["FOLDER"],
+    help: "Where the tables are written: a folder that does not exist, or is empty",
+    is_required: true,
+    ..TEXT
+};
+
+static EXPORT_WORDS: [Word; 10] = [
+    DATA_OR_STORE,
+    DELIMITER,
+    HEADS,
+    STORE_OR_JOURNAL,
+    AT,
+    READ_JOURNAL,
+    TO_FOLDER,
+    QUIET,
+    HINTS,
+    NO_HINTS,
+];
+
+// A store in the place of the tables, of a journal and of a stream of its groups.
+const CHANGED_STORE: Word = Word {
+    beside: &["data", "delimiter", "heads", "journal", "feed"],
+    ..STORE
+};
+
+// The journal whose changes are written, where no stream brings its groups.
+const CHANGED_JOURNAL: Word = Word {
+    unless: &["feed", "store"],
+    ..READ_JOURNAL
+};
+
+// A stream of a journal's groups.
+const FEED: Word = Word {
+    name: "feed",
+    value_names: &["IN"],
+    help: "What 'ssb_live ship' prints, as it comes: a pipe, a file, or - for standard input",
+    beside: &["journal"],
+    ..TEXT
+};
+
+// Behind which commit changes begin.
+const AFTER: Word = Word {
+    name: "after",
+    help: "Begins behind commit N; without it all commits are written",
+    ..COUNT
+};
+
+// Whether changes begin with the loaded lines.
+const BASE: Word = Word {
+    name: "base",
+    help: "The loaded lines first, as those of commit 0; with --store those of the newest tables",
+    beside: &["after"],
+    ..FLAG
+};
+
+// How signed lines are written.
+const LINES_FORMAT: Word = Word {
+    help: "How the lines are written: csv and json with the names of their fields",
+    values: Values::Name(&["report", "csv", "json"]),
+    ..FORMAT
+};
+
+static CHANGES_WORDS: [Word; 12] = [
+    DATA_OR_STORE,
+    DELIMITER,
+    HEADS,
+    CHANGED_STORE,
+    CHANGED_JOURNAL,
+    FEED,
+    AFTER,
+    BASE,
+    LINES_FORMAT,
+    QUIET,
+    HINTS,
+    NO_HINTS,
+];
+
+static SHIP_WORDS: [Word; 6] = [
+    Word {
+        name: "journal",
+        help: "The journal of a server, which may go on with it; it is not changed",
+        unless: &["store"],
+        ..FILE
+    },
+    Word {
+        name: "store",
+        value_names: &["FOLDER"],
+        help: "The store of a server, in the place of a journal; it is not changed",
+        beside: &["journal"],
+        ..TEXT
+    },
+    Word {
+        name: "after",
+        help: "Leaves out what ends with commit N or before",
+        ..COUNT
+    },
+    Word {
+        name: "once",
+        help: "Ends when all is printed that is there",
+        ..FLAG
+    },
+    HINTS,
+    NO_HINTS,
+];
+
+static STORE_WORDS: [Word; 7] = [
+    Word {
+        is_required: true,
+        ..DATA
+    },
+    DELIMITER,
+    HEADS,
+    Word {
+        name: "store",
+        value_names: &["FOLDER"],
+        help: "Where the store is made: a folder that does not exist, or is empty",
+        is_required: true,
+        ..TEXT
+    },
+    QUIET,
+    HINTS,
+    NO_HINTS,
+];
+
+static CHECKPOINT_WORDS: [Word; 5] = [
+    Word {
+        name: "store",
+        value_names: &["FOLDER"],
+        help: "The store, with which a server may go on meanwhile",
+        is_required: true,
+        ..TEXT
+    },
+    Word {
+        name: "keep-from",
+        help: "Keeps what the tables after N commits and all later ones are read from",
+        ..COUNT
+    },
+    QUIET,
+    HINTS,
+    NO_HINTS,
+];
+
+// The command that answers questions.
+fn query() -> Subcommand {
+    Subcommand {
         name: "query",
         about: "Prints the report of one question, or of all, over table files or a store",
         long_about: QUERY_HELP,
-        words: &words,
-    };
-    command.add_to(alloc, program)
+        words: &QUERY_WORDS,
+    }
 }
 
-// Where a run's trace is written.
-fn trace() -> Word {
-    file(
-        "trace",
-        "Where the commits and the answers are written; what the file had before is deleted",
-    )
+// The same command, where it explains a question.
+fn explained_query() -> Subcommand {
+    Subcommand {
+        name: "query",
+        about: "Prints the report of one question, or of all, over table files or a store",
+        long_about: QUERY_HELP,
+        words: &EXPLAIN_WORDS,
+    }
 }
 
-// Whether the times of a run are told.
-fn run_times() -> Word {
-    times(
-        "Reports on standard error how many seconds loading and serving took, how much was served in a second, \
-             and how long a refresh and an answer took",
-    )
-}
-
-// The scripts of a run.
-fn scripts() -> Word {
-    Word::text(
-        "scripts",
-        &["SCRIPT"],
-        "The scripts, 1 to 16: client K serves the Kth",
-    )
-    .placed()
-    .many(1)
-    .required()
-}
-
-// The words of `run`.
-fn run<'a>(alloc: Global, program: Command<'a>) -> Result<Command<'a>, AllocError> {
-    let words = [
-        data().unless(&["store"]),
-        delimiter(),
-        heads(),
-        store().not_beside(&["data", "delimiter", "heads"]),
-        at(),
-        dispatchers(),
-        trace(),
-        standing(),
-        run_times(),
-        quiet(),
-        hints(),
-        no_hints(),
-        scripts(),
-    ];
-    let command = Subcommand {
+fn run() -> Subcommand {
+    Subcommand {
         name: "run",
         about: "Serves scripts at once, a client each, and prints their reports",
         long_about: RUN_HELP,
-        words: &words,
-    };
-    command.add_to(alloc, program)
+        words: &RUN_WORDS,
+    }
 }
 
-// A client of a live server.
-fn clients() -> Word {
-    Word::text(
-        "clients",
-        &["IN", "OUT"],
-        "A client: IN is read, and replies go to OUT; can be given 1 to 16 times",
-    )
-    .typed("client")
-    .each(2)
-}
-
-// What a second server tells of its disk.
-fn confirmed() -> Word {
-    Word::text(
-        "confirmed",
-        &["BY"],
-        "Replies also wait for the line 'committed N' from BY, which a link to a second server writes; can be repeated",
-    )
-    .each(1)
-}
-
-// How many commits a segment of the store has at most.
-fn segment() -> Word {
-    Word::count(
-        "segment",
-        "After how many commits the store goes on in the next segment: 1000 to 100000000",
-    )
-    .within(LEAST_SEGMENT, MOST_SEGMENT)
-    .not_without(&["store"])
-}
-
-// Whether a client's pipes are opened again.
-fn keep() -> Word {
-    Word::flag(
-        "keep",
-        "Opens a client's named pipes again for its next session; a signal ends the server",
-    )
-}
-
-// The journal of a server, which is gone on with.
-fn served_journal() -> Word {
-    file(
-        "journal",
-        "Where the commits are kept: a journal that is there; replies wait for the disk; the next server goes on from there",
-    )
-}
-
-// The journal of a server, which begins.
-fn new_journal() -> Word {
-    file(
-        "new-journal",
-        "The same of a journal that begins: FILE is missing or empty, and is made",
-    )
-    .not_beside(&["journal", "store"])
-}
-
-// The file of a server's figures.
-fn metrics() -> Word {
-    file(
-        "metrics",
-        "Where the server's figures are written every 10 seconds, for Prometheus: a file of such figures, or a new one",
-    )
-}
-
-// The words of `serve`.
-fn serve<'a>(alloc: Global, program: Command<'a>) -> Result<Command<'a>, AllocError> {
-    let words = [
-        data().unless(&["store"]),
-        delimiter(),
-        heads(),
-        store().not_beside(&["data", "delimiter", "heads", "journal"]),
-        segment(),
-        dispatchers(),
-        clients(),
-        keep(),
-        served_journal(),
-        new_journal(),
-        confirmed(),
-        metrics(),
-        standing(),
-        quiet(),
-        hints(),
-        no_hints(),
-    ];
-    let command = Subcommand {
+fn serve() -> Subcommand {
+    Subcommand {
         name: "serve",
         about: "Serves clients as their requests come: standard input and output, or named pipes",
         long_about: SERVE_HELP,
-        words: &words,
-    };
-    command.add_to(alloc, program)
+        words: &SERVE_WORDS,
+    }
 }
 
-// The words of `audit`.
-fn audit<'a>(alloc: Global, program: Command<'a>) -> Result<Command<'a>, AllocError> {
-    let words = [
-        data().unless(&["store"]),
-        delimiter(),
-        heads(),
-        store().not_beside(&["data", "delimiter", "heads"]),
-        at(),
-        quiet(),
-        hints(),
-        no_hints(),
-        Word::text("trace", &["TRACE"], "The trace of a run over these tables")
-            .placed()
-            .required(),
-    ];
-    let command = Subcommand {
+fn audit() -> Subcommand {
+    Subcommand {
         name: "audit",
         about: "Checks the trace of a run: its commits, and the rows of its answers",
         long_about: AUDIT_HELP,
-        words: &words,
-    };
-    command.add_to(alloc, program)
+        words: &AUDIT_WORDS,
+    }
 }
 
-// The journal of a server, which is read.
-fn read_journal() -> Word {
-    file(
-        "journal",
-        "The journal of a server over these tables; it is not changed",
-    )
-}
-
-// Where tables are written.
-fn to_folder() -> Word {
-    Word::text(
-        "to",
-        &["FOLDER"],
-        "Where the tables are written: a folder that does not exist, or is empty",
-    )
-    .required()
-}
-
-// The words of `export`.
-fn export<'a>(alloc: Global, program: Command<'a>) -> Result<Command<'a>, AllocError> {
-    let words = [
-        data().unless(&["store"]),
-        delimiter(),
-        heads(),
-        store().not_beside(&["data", "delimiter", "heads", "journal"]),
-        at(),
-        read_journal().unless(&["store"]),
-        to_folder(),
-        quiet(),
-        hints(),
-        no_hints(),
-    ];
-    let command = Subcommand {
+fn export() -> Subcommand {
+    Subcommand {
         name: "export",
         about: "Writes the tables as they are after the commits of a journal",
         long_about: EXPORT_HELP,
-        words: &words,
-    };
-    command.add_to(alloc, program)
+        words: &EXPORT_WORDS,
+    }
 }
 
-// A stream of a journal's groups.
-fn feed() -> Word {
-    Word::text(
-        "feed",
-        &["IN"],
-        "What 'ssb_live ship' prints, as it comes: a pipe, a file, or - for standard input",
-    )
-    .not_beside(&["journal"])
-}
-
-// Behind which commit changes begin.
-fn behind() -> Word {
-    Word::count(
-        "after",
-        "Begins behind commit N; without it all commits are written",
-    )
-}
-
-// How signed lines are written.
-fn lines_format() -> Word {
-    Word::text(
-        "format",
-        &["FORMAT"],
-        "How the lines are written: csv and json with the names of their fields",
-    )
-    .named(&["report", "csv", "json"])
-    .or("report")
-}
-
-// The words of `changes`.
-fn changes<'a>(alloc: Global, program: Command<'a>) -> Result<Command<'a>, AllocError> {
-    let words = [
-        data().unless(&["store"]),
-        delimiter(),
-        heads(),
-        store().not_beside(&["data", "delimiter", "heads", "journal", "feed"]),
-        read_journal().unless(&["feed", "store"]),
-        feed(),
-        behind(),
-        Word::flag(
-            "base",
-            "The loaded lines first, as those of commit 0; with --store those of the newest tables",
-        )
-        .not_beside(&["after"]),
-        lines_format(),
-        quiet(),
-        hints(),
-        no_hints(),
-    ];
-    let command = Subcommand {
+fn changes() -> Subcommand {
+    Subcommand {
         name: "changes",
         about: "Writes the lines that each commit of a journal or a store brought and took away",
         long_about: CHANGES_HELP,
-        words: &words,
-    };
-    command.add_to(alloc, program)
+        words: &CHANGES_WORDS,
+    }
 }
 
-// The words of `ship`.
-fn ship<'a>(alloc: Global, program: Command<'a>) -> Result<Command<'a>, AllocError> {
-    let words = [
-        file(
-            "journal",
-            "The journal of a server, which may go on with it; it is not changed",
-        )
-        .unless(&["store"]),
-        Word::text(
-            "store",
-            &["FOLDER"],
-            "The store of a server, in the place of a journal; it is not changed",
-        )
-        .not_beside(&["journal"]),
-        Word::count("after", "Leaves out what ends with commit N or before"),
-        Word::flag("once", "Ends when all is printed that is there"),
-        hints(),
-        no_hints(),
-    ];
-    let command = Subcommand {
+fn ship() -> Subcommand {
+    Subcommand {
         name: "ship",
         about: "Prints the commits of a journal or a store as they come, for a second machine",
         long_about: SHIP_HELP,
-        words: &words,
-    };
-    command.add_to(alloc, program)
+        words: &SHIP_WORDS,
+    }
 }
 
-// The words of `store`.
-fn new_store<'a>(alloc: Global, program: Command<'a>) -> Result<Command<'a>, AllocError> {
-    let words = [
-        data().required(),
-        delimiter(),
-        heads(),
-        Word::text(
-            "store",
-            &["FOLDER"],
-            "Where the store is made: a folder that does not exist, or is empty",
-        )
-        .required(),
-        quiet(),
-        hints(),
-        no_hints(),
-    ];
-    let command = Subcommand {
+fn new_store() -> Subcommand {
+    Subcommand {
         name: "store",
         about: "Makes a store of tables: a copy of them, and a journal behind it",
         long_about: STORE_HELP,
-        words: &words,
-    };
-    command.add_to(alloc, program)
+        words: &STORE_WORDS,
+    }
 }
 
-// The words of `checkpoint`.
-fn checkpoint<'a>(alloc: Global, program: Command<'a>) -> Result<Command<'a>, AllocError> {
-    let words = [
-        Word::text(
-            "store",
-            &["FOLDER"],
-            "The store, with which a server may go on meanwhile",
-        )
-        .required(),
-        Word::count(
-            "keep-from",
-            "Keeps what the tables after N commits and all later ones are read from",
-        ),
-        quiet(),
-        hints(),
-        no_hints(),
-    ];
-    let command = Subcommand {
+fn checkpoint() -> Subcommand {
+    Subcommand {
         name: "checkpoint",
         about: "Makes newer tables of a store, and deletes what no start needs any more",
         long_about: CHECKPOINT_HELP,
-        words: &words,
-    };
-    command.add_to(alloc, program)
+        words: &CHECKPOINT_WORDS,
+    }
+}
+
+// The commands behind `query`.
+fn others() -> [Subcommand; 8] {
+    [
+        run(),
+        serve(),
+        audit(),
+        export(),
+        changes(),
+        ship(),
+        new_store(),
+        checkpoint(),
+    ]
 }
 
 /// All words of the program, where a question is explained or not.
@@ -611,13 +687,10 @@ pub fn command<'a>(alloc: Global, explains: bool) -> Result<Command<'a>, AllocEr
     let program = Command::new(alloc, "ssb_live")
         .version(VERSION)
         .about(ABOUT);
-    let program = query(alloc, program, explains)?;
-    let program = run(alloc, program)?;
-    let program = serve(alloc, program)?;
-    let program = audit(alloc, program)?;
-    let program = export(alloc, program)?;
-    let program = changes(alloc, program)?;
-    let program = ship(alloc, program)?;
-    let program = new_store(alloc, program)?;
-    checkpoint(alloc, program)
+    let query = if explains { explained_query() } else { query() };
+    let mut program = query.add_to(alloc, program)?;
+    for subcommand in others() {
+        program = subcommand.add_to(alloc, program)?;
+    }
+    Ok(program)
 }

@@ -1,12 +1,12 @@
 //! What the words ask for.
 
-use crate::changes::{ChangesWords, changes_words};
+use crate::changes::{ChangesWords, changes_job};
 use crate::grammar::{command, width_of};
 use crate::notice::Notice;
-use crate::ship::{ShipWords, ship_words};
+use crate::ship::{ShipWords, ship_job};
 use crate::store::{
-    CheckpointWords, FilesWord, SourceWord, StoreWord, StoreWords, StoredWord, checkpoint_words,
-    files_of, source_of, store_of, store_words, stored_of,
+    CheckpointWords, FilesWord, SourceWord, StoreWord, StoreWords, StoredWord, checkpoint_job,
+    files_of, source_of, store_job, store_of, stored_of,
 };
 use clap::ArgMatches;
 use clap::error::ErrorKind;
@@ -319,12 +319,12 @@ pub(crate) fn layout_of(alloc: Global, matches: &ArgMatches<'_>) -> Result<Table
     })
 }
 
-fn query_words<'a>(
+fn answer_job<'a>(
     alloc: Global,
     matches: &ArgMatches<'a>,
     columns: Option<&str>,
-) -> Result<QueryWords<'a>, Notice> {
-    Ok(QueryWords {
+) -> Result<Job<'a>, Notice> {
+    Ok(Job::Query(QueryWords {
         source: source_of(alloc, matches)?,
         all: matches.get_flag("all"),
         board: matches.get_str("board"),
@@ -335,7 +335,7 @@ fn query_words<'a>(
         times: matches.get_flag("times"),
         quiet: matches.get_flag("quiet"),
         hints: hints_of(matches),
-    })
+    }))
 }
 
 // The system whose SQL is asked for; the grammar lets no other name through.
@@ -356,8 +356,8 @@ fn target_of(matches: &ArgMatches<'_>) -> Option<SqlTarget> {
     Some(SqlTarget { system, lines })
 }
 
-fn explain_words<'a>(alloc: Global, matches: &ArgMatches<'a>) -> Result<ExplainWords<'a>, Notice> {
-    Ok(ExplainWords {
+fn explain_job<'a>(alloc: Global, matches: &ArgMatches<'a>) -> Result<Job<'a>, Notice> {
+    Ok(Job::Explain(ExplainWords {
         data: matches.get_str("data"),
         layout: layout_of(alloc, matches)?,
         name: word_of(matches, "name"),
@@ -365,7 +365,7 @@ fn explain_words<'a>(alloc: Global, matches: &ArgMatches<'a>) -> Result<ExplainW
         sql: target_of(matches),
         quiet: matches.get_flag("quiet"),
         hints: hints_of(matches),
-    })
+    }))
 }
 
 fn query_job<'a>(
@@ -375,14 +375,14 @@ fn query_job<'a>(
 ) -> Result<Job<'a>, Notice> {
     check_width(alloc, matches)?;
     if matches.get_flag("explain") {
-        Ok(Job::Explain(explain_words(alloc, matches)?))
+        explain_job(alloc, matches)
     } else {
-        Ok(Job::Query(query_words(alloc, matches, columns)?))
+        answer_job(alloc, matches, columns)
     }
 }
 
-fn run_words<'a>(alloc: Global, matches: &ArgMatches<'a>) -> Result<RunWords<'a>, Notice> {
-    Ok(RunWords {
+fn run_job<'a>(alloc: Global, matches: &ArgMatches<'a>) -> Result<Job<'a>, Notice> {
+    Ok(Job::Run(RunWords {
         source: source_of(alloc, matches)?,
         scripts: words_of(alloc, matches, "scripts")?,
         trace: matches.get_str("trace"),
@@ -391,7 +391,7 @@ fn run_words<'a>(alloc: Global, matches: &ArgMatches<'a>) -> Result<RunWords<'a>
         times: matches.get_flag("times"),
         quiet: matches.get_flag("quiet"),
         hints: hints_of(matches),
-    })
+    }))
 }
 
 // What tells what second servers have: only of commits that are kept.
@@ -407,8 +407,8 @@ fn confirmed_of<'a>(alloc: Global, matches: &ArgMatches<'a>) -> Result<Vec<&'a s
     Err(Notice::from(fault))
 }
 
-fn serve_words<'a>(alloc: Global, matches: &ArgMatches<'a>) -> Result<ServeWords<'a>, Notice> {
-    Ok(ServeWords {
+fn serve_job<'a>(alloc: Global, matches: &ArgMatches<'a>) -> Result<Job<'a>, Notice> {
+    Ok(Job::Serve(ServeWords {
         data: word_of(matches, "data"),
         layout: layout_of(alloc, matches)?,
         store: store_of(alloc, matches)?,
@@ -421,16 +421,16 @@ fn serve_words<'a>(alloc: Global, matches: &ArgMatches<'a>) -> Result<ServeWords
         dispatchers: matches.get_one::<u32>("dispatchers").unwrap_or(1),
         quiet: matches.get_flag("quiet"),
         hints: hints_of(matches),
-    })
+    }))
 }
 
-fn audit_words<'a>(alloc: Global, matches: &ArgMatches<'a>) -> Result<AuditWords<'a>, Notice> {
-    Ok(AuditWords {
+fn audit_job<'a>(alloc: Global, matches: &ArgMatches<'a>) -> Result<Job<'a>, Notice> {
+    Ok(Job::Audit(AuditWords {
         source: source_of(alloc, matches)?,
         trace: word_of(matches, "trace"),
         quiet: matches.get_flag("quiet"),
         hints: hints_of(matches),
-    })
+    }))
 }
 
 fn exported_of<'a>(alloc: Global, matches: &ArgMatches<'a>) -> Result<ExportedWord<'a>, Notice> {
@@ -440,13 +440,33 @@ fn exported_of<'a>(alloc: Global, matches: &ArgMatches<'a>) -> Result<ExportedWo
     }
 }
 
-fn export_words<'a>(alloc: Global, matches: &ArgMatches<'a>) -> Result<ExportWords<'a>, Notice> {
-    Ok(ExportWords {
+fn export_job<'a>(alloc: Global, matches: &ArgMatches<'a>) -> Result<Job<'a>, Notice> {
+    Ok(Job::Export(ExportWords {
         exported: exported_of(alloc, matches)?,
         folder: word_of(matches, "to"),
         quiet: matches.get_flag("quiet"),
         hints: hints_of(matches),
-    })
+    }))
+}
+
+// What the words of the command of this name ask for.
+fn job_named<'a>(
+    alloc: Global,
+    name: &str,
+    words: &ArgMatches<'a>,
+    columns: Option<&str>,
+) -> Result<Job<'a>, Notice> {
+    match name {
+        "run" => run_job(alloc, words),
+        "serve" => serve_job(alloc, words),
+        "audit" => audit_job(alloc, words),
+        "export" => export_job(alloc, words),
+        "changes" => changes_job(alloc, words),
+        "ship" => Ok(ship_job(words)),
+        "store" => store_job(alloc, words),
+        "checkpoint" => Ok(checkpoint_job(words)),
+        _ => query_job(alloc, words, columns),
+    }
 }
 
 /// What these words ask for, the program's name first, where the environment has this variable COLUMNS, or none; else
@@ -458,16 +478,8 @@ pub fn job_of<'a>(
 ) -> Result<Job<'a>, Notice> {
     let explains = words.iter().any(|word| word.as_str() == "--explain");
     let matched = command(alloc, explains)?.try_get_matches_from(words)?;
-    Ok(match matched.subcommand() {
-        Some(("run", words)) => Job::Run(run_words(alloc, words)?),
-        Some(("serve", words)) => Job::Serve(serve_words(alloc, words)?),
-        Some(("audit", words)) => Job::Audit(audit_words(alloc, words)?),
-        Some(("export", words)) => Job::Export(export_words(alloc, words)?),
-        Some(("changes", words)) => Job::Changes(changes_words(alloc, words)?),
-        Some(("ship", words)) => Job::Ship(ship_words(words)),
-        Some(("store", words)) => Job::Store(store_words(alloc, words)?),
-        Some(("checkpoint", words)) => Job::Checkpoint(checkpoint_words(words)),
-        Some((_, words)) => query_job(alloc, words, columns)?,
-        None => Job::Script,
-    })
+    match matched.subcommand() {
+        Some((name, words)) => job_named(alloc, name, words, columns),
+        None => Ok(Job::Script),
+    }
 }

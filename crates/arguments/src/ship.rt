@@ -1,6 +1,6 @@
 //! The words of `ship`.
 
-use crate::job::{HintsWord, hints_of, word_of};
+use crate::job::{HintsWord, Job, hints_of, word_of};
 use clap::ArgMatches;
 
 /// Whose groups are shipped.
@@ -49,11 +49,11 @@ fn shipped_of<'a>(matches: &ArgMatches<'a>) -> ShippedWord<'a> {
 }
 
 /// Those that were matched.
-pub(crate) fn ship_words<'a>(matches: &ArgMatches<'a>) -> ShipWords<'a> {
-    ShipWords {
+pub(crate) fn ship_job<'a>(matches: &ArgMatches<'a>) -> Job<'a> {
+    Job::Ship(ShipWords {
         shipped: shipped_of(matches),
         after: matches.get_one::<u64>("after").unwrap_or(0),
         once: matches.get_flag("once"),
         hints: hints_of(matches),
-    }
+    })
 }

@@ -1,7 +1,7 @@
 //! The words of stores: `store`, `checkpoint`, and those that stand in the place of the tables and the journal.
 
 use crate::grammar::command;
-use crate::job::{HintsWord, hints_of, layout_of, word_of};
+use crate::job::{HintsWord, Job, hints_of, layout_of, word_of};
 use crate::notice::Notice;
 use clap::ArgMatches;
 use clap::error::ErrorKind;
@@ -155,25 +155,22 @@ pub(crate) fn source_of<'a>(
 }
 
 /// The words of `store` that were matched.
-pub(crate) fn store_words<'a>(
-    alloc: Global,
-    matches: &ArgMatches<'a>,
-) -> Result<StoreWords<'a>, Notice> {
-    Ok(StoreWords {
+pub(crate) fn store_job<'a>(alloc: Global, matches: &ArgMatches<'a>) -> Result<Job<'a>, Notice> {
+    Ok(Job::Store(StoreWords {
         data: word_of(matches, "data"),
         layout: layout_of(alloc, matches)?,
         folder: word_of(matches, "store"),
         quiet: matches.get_flag("quiet"),
         hints: hints_of(matches),
-    })
+    }))
 }
 
 /// The words of `checkpoint` that were matched.
-pub(crate) fn checkpoint_words<'a>(matches: &ArgMatches<'a>) -> CheckpointWords<'a> {
-    CheckpointWords {
+pub(crate) fn checkpoint_job<'a>(matches: &ArgMatches<'a>) -> Job<'a> {
+    Job::Checkpoint(CheckpointWords {
         folder: word_of(matches, "store"),
         keep_from: matches.get_one::<u64>("keep-from"),
         quiet: matches.get_flag("quiet"),
         hints: hints_of(matches),
-    }
+    })
 }

@@ -4,9 +4,20 @@ use clap::builder::ValueParser;
 use clap::{Arg, ArgAction, Command};
 use std::alloc::{AllocError, Global};
 
+/// What is typed for a word, behind two dashes.
+#[derive(Clone, Copy)]
+pub(crate) enum Typed {
+    /// Its name.
+    Name,
+    /// This.
+    As(&'static str),
+    /// Nothing: its place tells what it is.
+    Nothing,
+}
+
 /// What stands behind a word.
 #[derive(Clone, Copy)]
-enum Values {
+pub(crate) enum Values {
     /// Nothing: it is there or is not.
     Nothing,
     /// One text.
@@ -26,163 +37,58 @@ enum Values {
 /// A word of a command.
 #[derive(Clone, Copy)]
 pub(crate) struct Word {
-    // By what it is asked for once it is matched.
-    name: &'static str,
-    // What is typed, behind two dashes; none where its place tells what it is.
-    typed: Option<&'static str>,
-    value_names: &'static [&'static str],
-    help: &'static str,
-    values: Values,
-    default: Option<&'static str>,
-    is_required: bool,
-    // It is required where none of these is given.
-    unless: &'static [&'static str],
-    // It is refused beside each of these.
-    beside: &'static [&'static str],
-    // It is refused without one of these.
-    without: &'static [&'static str],
+    /// By what it is asked for once it is matched.
+    pub(crate) name: &'static str,
+    pub(crate) typed: Typed,
+    /// What help calls its values.
+    pub(crate) value_names: &'static [&'static str],
+    pub(crate) help: &'static str,
+    pub(crate) values: Values,
+    /// Its value where it is not there.
+    pub(crate) default: Option<&'static str>,
+    pub(crate) is_required: bool,
+    /// It is required where none of these is given.
+    pub(crate) unless: &'static [&'static str],
+    /// It is refused beside each of these.
+    pub(crate) beside: &'static [&'static str],
+    /// It is refused without one of these.
+    pub(crate) without: &'static [&'static str],
 }
 
+/// A word that is there or is not.
+pub(crate) const FLAG: Word = Word {
+    name: "",
+    typed: Typed::Name,
+    value_names: &[],
+    help: "",
+    values: Values::Nothing,
+    default: None,
+    is_required: false,
+    unless: &[],
+    beside: &[],
+    without: &[],
+};
+
+/// A word with a text behind it.
+pub(crate) const TEXT: Word = Word {
+    values: Values::Text,
+    ..FLAG
+};
+
+/// A word with the path of a file behind it.
+pub(crate) const FILE: Word = Word {
+    value_names: &["FILE"],
+    ..TEXT
+};
+
+/// A word with a number of any size behind it.
+pub(crate) const COUNT: Word = Word {
+    value_names: &["N"],
+    values: Values::Count(0, u64::MAX),
+    ..FLAG
+};
+
 impl Word {
-    // A word without values.
-    fn plain(name: &'static str, help: &'static str) -> Word {
-        Word {
-            name,
-            typed: Some(name),
-            value_names: &[],
-            help,
-            values: Values::Nothing,
-            default: None,
-            is_required: false,
-            unless: &[],
-            beside: &[],
-            without: &[],
-        }
-    }
-
-    /// A word that is there or is not.
-    pub(crate) fn flag(name: &'static str, help: &'static str) -> Word {
-        Word::plain(name, help)
-    }
-
-    /// A word with a text behind it, which help calls so.
-    pub(crate) fn text(
-        name: &'static str,
-        value_names: &'static [&'static str],
-        help: &'static str,
-    ) -> Word {
-        Word {
-            value_names,
-            values: Values::Text,
-            ..Word::plain(name, help)
-        }
-    }
-
-    /// A word with a number of any size behind it, which help calls N.
-    pub(crate) fn count(name: &'static str, help: &'static str) -> Word {
-        Word {
-            value_names: &["N"],
-            values: Values::Count(0, u64::MAX),
-            ..Word::plain(name, help)
-        }
-    }
-
-    /// The same of a number from the first of these to the second.
-    pub(crate) fn within(self, least: u64, most: u64) -> Word {
-        Word {
-            values: Values::Count(least, most),
-            ..self
-        }
-    }
-
-    /// The same of a number of 32 bits.
-    pub(crate) fn number_within(self, least: i64, most: i64) -> Word {
-        Word {
-            values: Values::Number(least, most),
-            ..self
-        }
-    }
-
-    /// A word with one of these names behind it.
-    pub(crate) fn named(self, names: &'static [&'static str]) -> Word {
-        Word {
-            values: Values::Name(names),
-            ..self
-        }
-    }
-
-    /// The text stands by its place, without a word before it.
-    pub(crate) fn placed(self) -> Word {
-        Word {
-            typed: None,
-            ..self
-        }
-    }
-
-    /// What is typed is this.
-    pub(crate) fn typed(self, typed: &'static str) -> Word {
-        Word {
-            typed: Some(typed),
-            ..self
-        }
-    }
-
-    /// There are so many texts, each time that it is given.
-    pub(crate) fn each(self, count: usize) -> Word {
-        Word {
-            values: Values::Each(count),
-            ..self
-        }
-    }
-
-    /// There are so many texts and more.
-    pub(crate) fn many(self, least: usize) -> Word {
-        Word {
-            values: Values::Many(least),
-            ..self
-        }
-    }
-
-    /// Without it, its value is this.
-    pub(crate) fn or(self, default: &'static str) -> Word {
-        Word {
-            default: Some(default),
-            ..self
-        }
-    }
-
-    /// It has to be there.
-    pub(crate) fn required(self) -> Word {
-        Word {
-            is_required: true,
-            ..self
-        }
-    }
-
-    /// It has to be there where none of these is.
-    pub(crate) fn unless(self, names: &'static [&'static str]) -> Word {
-        Word {
-            unless: names,
-            ..self
-        }
-    }
-
-    /// It may not stand beside one of these.
-    pub(crate) fn not_beside(self, names: &'static [&'static str]) -> Word {
-        Word {
-            beside: names,
-            ..self
-        }
-    }
-
-    /// It may not stand without each of these.
-    pub(crate) fn not_without(self, names: &'static [&'static str]) -> Word {
-        Word {
-            without: names,
-            ..self
-        }
-    }
-
     // What reads its values, where they are no mere texts.
     fn parser(self) -> Option<ValueParser<'static>> {
         match self.values {
@@ -208,8 +114,9 @@ impl Word {
     fn with_help<'a>(self, argument: Arg<'a>) -> Arg<'a> {
         let argument = argument.help(self.help).required(self.is_required);
         let argument = match self.typed {
-            Some(typed) => argument.long(typed),
-            None => argument,
+            Typed::Name => argument.long(self.name),
+            Typed::As(typed) => argument.long(typed),
+            Typed::Nothing => argument,
         };
         let argument = match self.parser() {
             Some(parser) => argument.value_parser(parser),
@@ -233,14 +140,14 @@ impl Word {
 
 /// A command, and its words in their order.
 #[derive(Clone, Copy)]
-pub(crate) struct Subcommand<'w> {
+pub(crate) struct Subcommand {
     pub(crate) name: &'static str,
     pub(crate) about: &'static str,
     pub(crate) long_about: &'static str,
-    pub(crate) words: &'w [Word],
+    pub(crate) words: &'static [Word],
 }
 
-impl<'w> Subcommand<'w> {
+impl Subcommand {
     // As clap takes it.
     fn command<'a>(self, alloc: Global) -> Result<Command<'a>, AllocError> {
         let mut command = Command::new(alloc, self.name)
