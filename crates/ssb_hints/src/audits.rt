@@ -1,5 +1,6 @@
 //! What speaks against a trace.
 
+use crate::fault_numbers::number_in;
 use crate::lines::write_line;
 use std::io::Write;
 use std::{fmt, io};
@@ -42,13 +43,21 @@ impl fmt::Display for AuditHelp {
     }
 }
 
+// What speaks against a trace, by the number of the fault.
+fn help_of(number: u32) -> Option<AuditHelp> {
+    match number {
+        80 => Some(AuditHelp::Refused),
+        81 => Some(AuditHelp::WrongRows),
+        82 => Some(AuditHelp::WentBack),
+        83 => Some(AuditHelp::TooManyCommits),
+        _ => None,
+    }
+}
+
 /// Says what speaks against a trace, by the number of the fault.
 pub fn help_with_audit<E: Write>(number: &str, err: &mut E) -> io::Result<()> {
-    match number {
-        "80" => write_line(err, &AuditHelp::Refused),
-        "81" => write_line(err, &AuditHelp::WrongRows),
-        "82" => write_line(err, &AuditHelp::WentBack),
-        "83" => write_line(err, &AuditHelp::TooManyCommits),
-        _ => Ok(()),
+    match help_of(number_in(number)) {
+        Some(help) => write_line(err, &help),
+        None => Ok(()),
     }
 }

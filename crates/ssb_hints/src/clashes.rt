@@ -1,15 +1,16 @@
 //! Why a path of a command may not be used: it is another path's file, or has what would be lost.
 
+use crate::fault_numbers::number_in;
 use crate::lines::write_line;
 use crate::named::Named;
-use crate::observed_files::ObservedFiles;
+use crate::observed_files::KeepsFailures;
+use crate::table_files::table_path;
 use ssb_schema::Table;
 use std::io::Write;
-use std::rt::Files;
 use std::{fmt, fs, io};
 
 /// What a path of a command is for.
-#[derive(Clone, Copy, Debug, PartialEq, Eq)]
+#[derive(Clone, Copy)]
 pub enum PathRole {
     Table,
     Script,
@@ -83,14 +84,14 @@ impl<'a> fmt::Display for ClashHelp<'a> {
 }
 
 // Whether two paths name one file; one that is not there is compared as it is written.
-fn is_one_file<F: Files>(files: &ObservedFiles<'_, F>, one: &str, other: &str) -> bool {
+fn is_one_file<F: KeepsFailures>(files: &F, one: &str, other: &str) -> bool {
     let alloc = files.alloc();
-    match (
-        files.canonicalize(alloc, one),
-        files.canonicalize(alloc, other),
-    ) {
-        (Ok(one), Ok(other)) => one.as_str() == other.as_str(),
-        _ => one == other,
+    let Ok(found) = files.canonicalize(alloc, one) else {
+        return one == other;
+    };
+    match files.canonicalize(alloc, other) {
+        Ok(other) => found.as_str() == other.as_str(),
+        Err(_) => one == other,
     }
 }
 
@@ -103,9 +104,9 @@ const TABLES: [Table; 5] = [
 ];
 
 // Whether a path is the file of a table of this folder.
-fn is_table<F: Files>(files: &ObservedFiles<'_, F>, folder: &str, path: &str) -> io::Result<bool> {
+fn is_table<F: KeepsFailures>(files: &F, folder: &str, path: &str) -> io::Result<bool> {
     for table in TABLES {
-        let file = format!(in files.alloc(); "{folder}/{table}.tbl")?;
+        let file = table_path(files.alloc(), folder, table)?;
         if is_one_file(files, file.as_str(), path) {
             return Ok(true);
         }
@@ -114,8 +115,8 @@ fn is_table<F: Files>(files: &ObservedFiles<'_, F>, folder: &str, path: &str) ->
 }
 
 // What the first path of a command is for that is the file of this one.
-fn first_role<F: Files>(
-    files: &ObservedFiles<'_, F>,
+fn first_role<F: KeepsFailures>(
+    files: &F,
     named: &Named<'_>,
     path: &str,
 ) -> io::Result<Option<PathRole>> {
@@ -140,33 +141,51 @@ fn first_role<F: Files>(
     Ok(None)
 }
 
+// The number of a fault that is told of a path, and the path.
+fn number_and_path(fault: &str) -> (u32, &str) {
+    let (number, behind) = fault.split_once(' ').unwrap_or((fault, ""));
+    let (_, path) = behind.split_once(' ').unwrap_or((behind, ""));
+    (number_in(number), path)
+}
+
+// The help with a path, by the number of its fault, where that is of no other path.
+fn help_of<'a>(named: &Named<'a>, number: u32, path: &'a str) -> Option<ClashHelp<'a>> {
+    match number {
+        64 => Some(ClashHelp::NotMetrics(path)),
+        94 => Some(ClashHelp::InUse(path)),
+        95 => Some(ClashHelp::NotEmpty(named.folder?)),
+        97 if named.trace.is_some() => Some(ClashHelp::NotATrace(path)),
+        97 => Some(ClashHelp::HasBytes(path)),
+        _ => None,
+    }
+}
+
+// Says of which other path of the command a path is the file, if it is of one.
+fn help_with_same_file<F: KeepsFailures, E: Write>(
+    files: &F,
+    named: &Named<'_>,
+    path: &str,
+    err: &mut E,
+) -> io::Result<()> {
+    match first_role(files, named, path)? {
+        Some(role) => write_line(err, &ClashHelp::SameFile(path, role)),
+        None => Ok(()),
+    }
+}
+
 /// Says why a path may not be used, by the words of its fault, of which the path is the rest.
-pub fn help_with_clash<F: Files, E: Write>(
-    files: &ObservedFiles<'_, F>,
+pub fn help_with_clash<F: KeepsFailures, E: Write>(
+    files: &F,
     named: &Named<'_>,
     fault: &str,
     err: &mut E,
 ) -> io::Result<()> {
-    if let Some(path) = fault.strip_prefix("94 InUse ") {
-        return write_line(err, &ClashHelp::InUse(path));
+    let (number, path) = number_and_path(fault);
+    if number == 96 {
+        return help_with_same_file(files, named, path, err);
     }
-    if let Some(path) = fault.strip_prefix("64 NotMetrics ") {
-        return write_line(err, &ClashHelp::NotMetrics(path));
-    }
-    if let ("95 NotEmpty", Some(path)) = (fault, named.folder) {
-        return write_line(err, &ClashHelp::NotEmpty(path));
-    }
-    if let Some(path) = fault.strip_prefix("97 HasBytes ") {
-        return match named.trace {
-            Some(_) => write_line(err, &ClashHelp::NotATrace(path)),
-            None => write_line(err, &ClashHelp::HasBytes(path)),
-        };
-    }
-    let Some(path) = fault.strip_prefix("96 SameFile ") else {
-        return Ok(());
-    };
-    match first_role(files, named, path)? {
-        Some(role) => write_line(err, &ClashHelp::SameFile(path, role)),
+    match help_of(named, number, path) {
+        Some(help) => write_line(err, &help),
         None => Ok(()),
     }
 }

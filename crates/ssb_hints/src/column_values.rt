@@ -1,10 +1,13 @@
 //! The values that the columns of dimensions have.
 
 use crate::named::NamedTables;
+use crate::table_files::table_path;
 use csv::ByteRecord;
 use ssb_schema::Column;
 use ssb_text::{Barred, next_record, record_reader, text, trimmed_at};
+use std::alloc::{AllocError, Global};
 use std::collections::BTreeSet;
+use std::io::Read;
 use std::rt::Files;
 use std::{fs, io};
 
@@ -22,30 +25,54 @@ pub(crate) struct ColumnValues<'a, F: Files + AllocGlobal> {
     kept: Vec<KeptValues>,
 }
 
+// Adds the field at a place of a record, from 0, to values that do not have it.
+fn add_value(
+    alloc: Global,
+    record: &ByteRecord,
+    place: usize,
+    values: &mut BTreeSet<String>,
+) -> Result<(), AllocError> {
+    let value = text(trimmed_at(record, place)).unwrap_or("");
+    if !values.contains(value) {
+        values.insert(String::from_str(alloc, value)?)?;
+    }
+    Ok(())
+}
+
+// Adds the fields at a place of the records of a text, but for those of its heads.
+fn add_values<I: Read + Drop>(
+    alloc: Global,
+    source: I,
+    has_heads: bool,
+    place: usize,
+    values: &mut BTreeSet<String>,
+) -> Result<(), AllocError> {
+    let mut reader = record_reader(alloc, source);
+    let mut record = ByteRecord::new(alloc);
+    for number in 0..u64::MAX {
+        match next_record(&mut reader, &mut record) {
+            Ok(true) => {}
+            _ => break,
+        }
+        if number > 0 || !has_heads {
+            add_value(alloc, &record, place, values)?;
+        }
+    }
+    Ok(())
+}
+
 // The values that the rows of a dimension's table have in a column.
 fn values_in<F: Files + AllocGlobal>(
     files: &F,
     tables: NamedTables<'_>,
     column: Column,
 ) -> io::Result<BTreeSet<String>> {
-    let path = format!(in files.alloc(); "{}/{}.tbl", tables.folder, column.table)?;
+    let alloc = files.alloc();
+    let path = table_path(alloc, tables.folder, column.table)?;
     let file = Barred::new(fs::open(files, path.as_str())?, tables.layout.delimiter);
-    let mut reader = record_reader(files.alloc(), file);
-    let mut record = ByteRecord::new(files.alloc());
-    let mut values = BTreeSet::new(files.alloc());
-    for number in 0..u64::MAX {
-        match next_record(&mut reader, &mut record) {
-            Ok(true) => {}
-            _ => break,
-        }
-        if number == 0 && tables.layout.has_heads {
-            continue;
-        }
-        let value = text(trimmed_at(&record, column.place.saturating_sub(1))).unwrap_or("");
-        if !values.contains(value) {
-            values.insert(String::from_str(files.alloc(), value)?)?;
-        }
-    }
+    let mut values = BTreeSet::new(alloc);
+    let place = column.place.saturating_sub(1);
+    add_values(alloc, file, tables.layout.has_heads, place, &mut values)?;
     Ok(values)
 }
 

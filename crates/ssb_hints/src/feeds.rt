@@ -1,10 +1,10 @@
 //! What is wrong with a stream of a journal's groups.
 
+use crate::fault_numbers::number_of;
 use crate::journals::help_with_journal;
 use crate::lines::write_line;
-use crate::observed_files::ObservedFiles;
+use crate::observed_files::KeepsFailures;
 use std::io::Write;
-use std::rt::Files;
 use std::{fmt, io};
 
 /// Help about the stream of this name.
@@ -53,19 +53,30 @@ impl<'a> fmt::Display for FeedHelp<'a> {
     }
 }
 
+// The help with a stream, by the words of its fault, where that is not a journal's.
+fn help_of<'a>(path: &'a str, words: &[&'a str]) -> Option<FeedHelp<'a>> {
+    match number_of(words) {
+        84 => Some(FeedHelp::NotAFeed(path)),
+        86 => Some(FeedHelp::Ended(path)),
+        91 => match words {
+            [_, _, table] => Some(FeedHelp::OtherTables(path, table)),
+            _ => None,
+        },
+        92 => Some(FeedHelp::Refused(path)),
+        93 => Some(FeedHelp::Damaged(path)),
+        _ => None,
+    }
+}
+
 /// Says what is wrong with a stream, by the words of its fault, which is a stream's alone, or a journal's too.
-pub fn help_with_feed<F: Files, E: Write>(
-    files: &ObservedFiles<'_, F>,
+pub fn help_with_feed<F: KeepsFailures, E: Write>(
+    files: &F,
     path: &str,
     words: &[&str],
     err: &mut E,
 ) -> io::Result<()> {
-    match words {
-        ["84", ..] => write_line(err, &FeedHelp::NotAFeed(path)),
-        ["86", ..] => write_line(err, &FeedHelp::Ended(path)),
-        ["91", _, table] => write_line(err, &FeedHelp::OtherTables(path, table)),
-        ["92", ..] => write_line(err, &FeedHelp::Refused(path)),
-        ["93", ..] => write_line(err, &FeedHelp::Damaged(path)),
-        _ => help_with_journal(files, path, words, err),
+    match help_of(path, words) {
+        Some(help) => write_line(err, &help),
+        None => help_with_journal(files, path, words, err),
     }
 }

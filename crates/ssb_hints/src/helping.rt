@@ -8,7 +8,7 @@ use crate::fault_lines::FaultLines;
 use crate::feeds::help_with_feed;
 use crate::journals::help_with_journal;
 use crate::named::Named;
-use crate::observed_files::ObservedFiles;
+use crate::observed_files::{KeepsFailures, ObservedFiles};
 use crate::paths::{help_with_folder, help_with_last_call, help_with_path};
 use crate::questions::help_with_question;
 use crate::rows::{help_with_table_path, help_with_tables};
@@ -30,19 +30,63 @@ fn script_of<'a>(named: &Named<'a>, number: &str) -> Option<&'a str> {
     named.scripts.get(number.checked_sub(1)?).copied()
 }
 
-// The path that a fault's subject stands for.
-fn path_of<'a>(named: &Named<'a>, subject: &str) -> Option<&'a str> {
+// What a fault is told of.
+#[derive(Clone, Copy)]
+enum Subject {
+    Query,
+    Statement,
+    Paths,
+    Store,
+    Audit,
+    Data,
+    Commits,
+    Board,
+    Standing,
+    Trace,
+    Script,
+}
+
+// Each by what stands before the fault; a script has its number there.
+static SUBJECTS: [(&str, Subject); 15] = [
+    ("query", Subject::Query),
+    ("sql", Subject::Statement),
+    ("paths", Subject::Paths),
+    ("metrics", Subject::Paths),
+    ("export", Subject::Paths),
+    ("store", Subject::Store),
+    ("audit", Subject::Audit),
+    ("data", Subject::Data),
+    ("journal", Subject::Commits),
+    ("changes", Subject::Commits),
+    ("ship", Subject::Commits),
+    ("feed", Subject::Commits),
+    ("board", Subject::Board),
+    ("standing", Subject::Standing),
+    ("trace", Subject::Trace),
+];
+
+fn subject_of(told: &str) -> Subject {
+    for (name, subject) in &SUBJECTS {
+        if *name == told {
+            return *subject;
+        }
+    }
+    Subject::Script
+}
+
+// The path that a fault's subject stands for, which is called so.
+fn path_of<'a>(named: &Named<'a>, subject: Subject, told: &str) -> Option<&'a str> {
     match subject {
-        "board" => named.board,
-        "standing" => named.standing,
-        "trace" => named.trace,
-        _ => script_of(named, subject.strip_prefix("script ")?),
+        Subject::Board => named.board,
+        Subject::Standing => named.standing,
+        Subject::Trace => named.trace,
+        _ => script_of(named, told.strip_prefix("script ")?),
     }
 }
 
 // Says what is wrong with tables: those that the words name, or those of a store.
-fn help_with_data<F: Files, E: Write>(
-    files: &ObservedFiles<'_, F>,
+fn help_with_data<F: KeepsFailures, E: Write>(
+    files: &F,
     named: &Named<'_>,
     words: &[&str],
     err: &mut E,
@@ -55,8 +99,8 @@ fn help_with_data<F: Files, E: Write>(
 }
 
 // Says what is wrong with what is told as a journal: that, a store, or a stream.
-fn help_with_commits<F: Files, E: Write>(
-    files: &ObservedFiles<'_, F>,
+fn help_with_commits<F: KeepsFailures, E: Write>(
+    files: &F,
     named: &Named<'_>,
     words: &[&str],
     err: &mut E,
@@ -73,38 +117,77 @@ fn help_with_commits<F: Files, E: Write>(
     }
 }
 
-// Says what is wrong where a fault has a subject and a number: these are its words.
-fn help_with_numbered<F: Files, E: Write>(
-    files: &ObservedFiles<'_, F>,
-    named: &Named<'_>,
-    subject: &str,
+// Says what speaks against a trace, by the words of the fault.
+fn help_with_audit_words<E: Write>(words: &[&str], err: &mut E) -> io::Result<()> {
+    match words {
+        [number, ..] => help_with_audit(number, err),
+        [] => Ok(()),
+    }
+}
+
+// Says what is wrong with the file of a subject, by the words of the fault.
+fn help_with_file<F: KeepsFailures, E: Write>(
+    files: &F,
+    subject: Subject,
+    path: &str,
     words: &[&str],
     err: &mut E,
 ) -> io::Result<()> {
-    if let ("audit", [number, ..]) = (subject, words) {
-        return help_with_audit(number, err);
-    }
     match subject {
-        "data" => return help_with_data(files, named, words, err),
-        "journal" | "changes" | "ship" | "feed" => {
-            return help_with_commits(files, named, words, err);
-        }
-        _ => {}
-    }
-    let Some(path) = path_of(named, subject) else {
-        return Ok(());
-    };
-    match subject {
-        "board" => help_with_board(files, path, words, err),
-        "standing" => help_with_standing(files, path, words, err),
-        "trace" => help_with_trace(files, path, words, err),
+        Subject::Board => help_with_board(files, path, words, err),
+        Subject::Standing => help_with_standing(files, path, words, err),
+        Subject::Trace => help_with_trace(files, path, words, err),
         _ => help_with_script_file(files, path, words, err),
     }
 }
 
+// Says what is wrong where a fault has a subject and a number: these are its words.
+fn help_with_numbered<F: KeepsFailures, E: Write>(
+    files: &F,
+    named: &Named<'_>,
+    told: &str,
+    words: &[&str],
+    err: &mut E,
+) -> io::Result<()> {
+    let subject = subject_of(told);
+    match subject {
+        Subject::Audit => return help_with_audit_words(words, err),
+        Subject::Data => return help_with_data(files, named, words, err),
+        Subject::Commits => return help_with_commits(files, named, words, err),
+        _ => {}
+    }
+    match path_of(named, subject, told) {
+        Some(path) => help_with_file(files, subject, path, words, err),
+        None => Ok(()),
+    }
+}
+
+// The same, by what the fault tells.
+fn help_with_told<F: KeepsFailures, E: Write>(
+    files: &F,
+    named: &Named<'_>,
+    subject: &str,
+    told: &str,
+    err: &mut E,
+) -> io::Result<()> {
+    let words = words_of(files.alloc(), told)?;
+    help_with_numbered(files, named, subject, words.as_slice(), err)
+}
+
+// Says what is wrong with the commits of a store, by what its fault tells of them.
+fn help_with_told_commits<F: KeepsFailures, E: Write>(
+    files: &F,
+    folder: &str,
+    told: &str,
+    err: &mut E,
+) -> io::Result<()> {
+    let words = words_of(files.alloc(), told)?;
+    help_with_store_commits(files, folder, words.as_slice(), err)
+}
+
 // Says what is wrong with a store: with the folder of a new one, with what is there, or with its commits.
-fn help_with_some_store<F: Files, E: Write>(
-    files: &ObservedFiles<'_, F>,
+fn help_with_some_store<F: KeepsFailures, E: Write>(
+    files: &F,
     named: &Named<'_>,
     told: &str,
     err: &mut E,
@@ -116,17 +199,14 @@ fn help_with_some_store<F: Files, E: Write>(
         return help_with_clash(files, named, told, err);
     }
     match told.strip_prefix("journal: ") {
-        Some(told) => {
-            let words = words_of(files.alloc(), told)?;
-            help_with_store_commits(files, folder, words.as_slice(), err)
-        }
+        Some(told) => help_with_told_commits(files, folder, told, err),
         None => help_with_store(files, folder, told, err),
     }
 }
 
 // Says why a path failed, where there is one.
-fn help_with_some_path<F: Files, E: Write>(
-    files: &ObservedFiles<'_, F>,
+fn help_with_some_path<F: KeepsFailures, E: Write>(
+    files: &F,
     path: Option<&str>,
     err: &mut E,
 ) -> io::Result<()> {
@@ -137,8 +217,8 @@ fn help_with_some_path<F: Files, E: Write>(
 }
 
 // Says what is wrong where a fault is a path's, or is told in words alone.
-fn help_with_words<F: Files, E: Write>(
-    files: &ObservedFiles<'_, F>,
+fn help_with_words<F: KeepsFailures, E: Write>(
+    files: &F,
     named: &Named<'_>,
     fault: &str,
     err: &mut E,
@@ -180,8 +260,8 @@ fn output_of<'a>(named: &Named<'a>, number: usize) -> Option<&'a str> {
 }
 
 // Says why an end of a client failed, by the client's number from 1 and its fault.
-fn help_with_client<F: Files, E: Write>(
-    files: &ObservedFiles<'_, F>,
+fn help_with_client<F: KeepsFailures, E: Write>(
+    files: &F,
     named: &Named<'_>,
     number: usize,
     fault: &str,
@@ -214,8 +294,8 @@ fn help_with_some_question<E: Write>(
 }
 
 // Says what is wrong with the statements of the words, where they have some; else why they were not read.
-fn help_with_some_statement<F: Files, E: Write>(
-    files: &ObservedFiles<'_, F>,
+fn help_with_some_statement<F: KeepsFailures, E: Write>(
+    files: &F,
     named: &Named<'_>,
     err: &mut E,
 ) -> io::Result<()> {
@@ -225,9 +305,26 @@ fn help_with_some_statement<F: Files, E: Write>(
     }
 }
 
+// Says what is wrong where a fault has a subject.
+fn help_with_subject<F: KeepsFailures, E: Write>(
+    files: &F,
+    named: &Named<'_>,
+    subject: &str,
+    told: &str,
+    err: &mut E,
+) -> io::Result<()> {
+    match subject_of(subject) {
+        Subject::Query => help_with_some_question(files.alloc(), named, err),
+        Subject::Statement => help_with_some_statement(files, named, err),
+        Subject::Paths => help_with_clash(files, named, told, err),
+        Subject::Store => help_with_some_store(files, named, told, err),
+        _ => help_with_told(files, named, subject, told, err),
+    }
+}
+
 // Says what is wrong, by what a fault says behind the program's name.
-fn help_with_fault<F: Files, E: Write>(
-    files: &ObservedFiles<'_, F>,
+fn help_with_fault<F: KeepsFailures, E: Write>(
+    files: &F,
     named: &Named<'_>,
     fault: &str,
     err: &mut E,
@@ -238,18 +335,9 @@ fn help_with_fault<F: Files, E: Write>(
     if fault.starts_with("cannot ") {
         return help_with_words(files, named, fault, err);
     }
-    let Some((subject, told)) = fault.split_once(": ") else {
-        return help_with_words(files, named, fault, err);
-    };
-    match subject {
-        "query" => help_with_some_question(files.alloc(), named, err),
-        "sql" => help_with_some_statement(files, named, err),
-        "paths" | "metrics" | "export" => help_with_clash(files, named, told, err),
-        "store" => help_with_some_store(files, named, told, err),
-        _ => {
-            let words = words_of(files.alloc(), told)?;
-            help_with_numbered(files, named, subject, words.as_slice(), err)
-        }
+    match fault.split_once(": ") {
+        Some((subject, told)) => help_with_subject(files, named, subject, told, err),
+        None => help_with_words(files, named, fault, err),
     }
 }
 

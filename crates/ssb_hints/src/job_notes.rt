@@ -4,7 +4,7 @@ use crate::asking::{Asked, ask};
 use crate::column_values::ColumnValues;
 use crate::named::{Named, NamedTables};
 use crate::notes::{Notes, note_question};
-use crate::records::{open_plain, texts_from};
+use crate::records::{open_plain, texts_from, words_in};
 use crate::refusals::write_refusal_help;
 use crate::reports::{EmptyAnswer, KeptReports, Reports, ToldRefusal};
 use csv::ByteRecord;
@@ -14,8 +14,9 @@ use ssb_script::{Asking, MOST_RECORDS, Request, Script, read_questions, read_scr
 use ssb_sql::statements_of;
 use ssb_text::{next_record, record_reader};
 use std::alloc::{AllocError, Global};
-use std::io::Write;
+use std::io::{Read, Write};
 use std::rt::Files;
+use std::sync::Arc;
 use std::{fmt, io};
 
 /// A note on a run.
@@ -35,16 +36,18 @@ impl<'a> fmt::Display for RunNote<'a> {
     }
 }
 
+// The path of the script of a client, from 1.
+fn path_of<'a>(named: &Named<'a>, client: usize) -> Option<&'a str> {
+    named.scripts.get(client.checked_sub(1)?).copied()
+}
+
 // The script of a client, from 1, read once more.
 fn script_of<F: Files + AllocGlobal>(
     files: &F,
     named: &Named<'_>,
     client: usize,
 ) -> io::Result<Option<Script>> {
-    let Some(path) = client
-        .checked_sub(1)
-        .and_then(|place| named.scripts.get(place))
-    else {
+    let Some(path) = path_of(named, client) else {
         return Ok(None);
     };
     let source = open_plain(files, path)?;
@@ -61,6 +64,26 @@ fn told_questions(alloc: Global, asking: Asking) -> Result<Vec<Question>, AllocE
     Ok(questions)
 }
 
+// The question of a script that its answer of a number is to, from 1.
+fn question_of(
+    alloc: Global,
+    script: Script,
+    number: usize,
+) -> Result<Option<Question>, AllocError> {
+    let mut left = number;
+    for request in script.requests {
+        if let Request::Ask(asking) = request {
+            for question in told_questions(alloc, asking)? {
+                left = left.saturating_sub(1);
+                if left == 0 {
+                    return Ok(Some(question));
+                }
+            }
+        }
+    }
+    Ok(None)
+}
+
 // Notes what the question asks that an answer of a run is to.
 fn note_answer<F: Files + AllocGlobal, E: Write>(
     files: &F,
@@ -72,18 +95,10 @@ fn note_answer<F: Files + AllocGlobal, E: Write>(
     let Some(script) = script_of(files, named, empty.client)? else {
         return Ok(());
     };
-    let mut left = empty.answer;
-    for request in script.requests {
-        if let Request::Ask(asking) = request {
-            for question in told_questions(files.alloc(), asking)?.as_slice() {
-                left = left.saturating_sub(1);
-                if left == 0 {
-                    return note_question(notes, question, true, err);
-                }
-            }
-        }
+    match question_of(files.alloc(), script, empty.answer)? {
+        Some(question) => note_question(notes, &question, true, err),
+        None => Ok(()),
     }
-    Ok(())
 }
 
 fn note_refresh<E: Write>(
@@ -102,6 +117,20 @@ fn note_refresh<E: Write>(
     write_refusal_help(refresh, refusal.action, number, err)
 }
 
+// The refresh of a number of a script, from 1.
+fn refresh_of(script: Script, number: usize) -> Option<Arc<Refresh>> {
+    let mut left = number;
+    for request in script.requests {
+        if let Request::Refresh(refresh) = request {
+            left = left.saturating_sub(1);
+            if left == 0 {
+                return Some(refresh);
+            }
+        }
+    }
+    None
+}
+
 // Notes why a refresh of a run was refused.
 fn note_refusal<F: Files + AllocGlobal, E: Write>(
     files: &F,
@@ -112,21 +141,11 @@ fn note_refusal<F: Files + AllocGlobal, E: Write>(
     let Some(script) = script_of(files, named, refusal.client)? else {
         return Ok(());
     };
-    let path = named
-        .scripts
-        .get(refusal.client.saturating_sub(1))
-        .copied()
-        .unwrap_or("");
-    let mut left = refusal.refresh;
-    for request in script.requests {
-        if let Request::Refresh(refresh) = request {
-            left = left.saturating_sub(1);
-            if left == 0 {
-                return note_refresh(path, &refresh, refusal, err);
-            }
-        }
+    let path = path_of(named, refusal.client).unwrap_or("");
+    match refresh_of(script, refusal.refresh) {
+        Some(refresh) => note_refresh(path, &refresh, refusal, err),
+        None => Ok(()),
     }
-    Ok(())
 }
 
 // Notes what the question of this name and these constants asks, if there is one. The benchmark's own constants are in
@@ -165,6 +184,31 @@ fn note_statements<F: Files + AllocGlobal, E: Write>(
     Ok(())
 }
 
+// Notes what a statement asks of which these are the fields.
+fn note_fields<F: Files + AllocGlobal, E: Write>(
+    alloc: Global,
+    fields: &[&str],
+    notes: &mut Notes<'_, F>,
+    err: &mut E,
+) -> io::Result<()> {
+    let text = fields.join(alloc, "|")?;
+    note_statements(alloc, text.as_str(), notes, err)
+}
+
+// Notes what these fields of a board's line ask, which stand behind its title.
+fn note_asked<F: Files + AllocGlobal, E: Write>(
+    alloc: Global,
+    fields: &[&str],
+    notes: &mut Notes<'_, F>,
+    err: &mut E,
+) -> io::Result<()> {
+    match fields {
+        ["sql", fields @ ..] => note_fields(alloc, fields, notes, err),
+        [name, constants @ ..] => note_words(alloc, name, constants, false, notes, err),
+        [] => Ok(()),
+    }
+}
+
 // Notes what a line of a board asks.
 fn note_report<F: Files + AllocGlobal, E: Write>(
     alloc: Global,
@@ -173,17 +217,26 @@ fn note_report<F: Files + AllocGlobal, E: Write>(
     err: &mut E,
 ) -> io::Result<()> {
     let texts = texts_from(alloc, line, 1)?;
-    let mut words = Vec::new(alloc);
-    for text in texts.iter() {
-        words.push(text.as_str())?;
-    }
-    match words.as_slice() {
-        ["sql", parts @ ..] => {
-            note_statements(alloc, parts.join(alloc, "|")?.as_str(), notes, err)
+    let words = words_in(alloc, texts.as_slice())?;
+    note_asked(alloc, words.as_slice(), notes, err)
+}
+
+// Notes what the lines of a board's text ask.
+fn note_lines<I: Read + Drop, F: Files + AllocGlobal, E: Write>(
+    alloc: Global,
+    source: I,
+    notes: &mut Notes<'_, F>,
+    err: &mut E,
+) -> io::Result<()> {
+    let mut reader = record_reader(alloc, source);
+    let mut line = ByteRecord::new(alloc);
+    for _ in 0..u64::MAX {
+        match next_record(&mut reader, &mut line) {
+            Ok(true) => note_report(alloc, &line, notes, err)?,
+            _ => break,
         }
-        [name, constants @ ..] => note_words(alloc, name, constants, false, notes, err),
-        [] => Ok(()),
     }
+    Ok(())
 }
 
 // Notes what the lines of a board ask.
@@ -193,15 +246,8 @@ fn note_board<F: Files + AllocGlobal, E: Write>(
     notes: &mut Notes<'_, F>,
     err: &mut E,
 ) -> io::Result<()> {
-    let mut reader = record_reader(files.alloc(), open_plain(files, path)?);
-    let mut line = ByteRecord::new(files.alloc());
-    for _ in 0..u64::MAX {
-        match next_record(&mut reader, &mut line) {
-            Ok(true) => note_report(files.alloc(), &line, notes, err)?,
-            _ => break,
-        }
-    }
-    Ok(())
+    let source = open_plain(files, path)?;
+    note_lines(files.alloc(), source, notes, err)
 }
 
 // Notes what the questions ask that stand.
@@ -243,6 +289,33 @@ fn note_questions<F: Files + AllocGlobal, E: Write>(
     }
 }
 
+// Notes what the questions ask that these answers of a run are to.
+fn note_answers<F: Files + AllocGlobal, E: Write>(
+    files: &F,
+    named: &Named<'_>,
+    answers: &[EmptyAnswer],
+    notes: &mut Notes<'_, F>,
+    err: &mut E,
+) -> io::Result<()> {
+    for empty in answers {
+        note_answer(files, named, *empty, notes, err)?;
+    }
+    Ok(())
+}
+
+// Notes why refreshes of a run were refused.
+fn note_refusals<F: Files + AllocGlobal, E: Write>(
+    files: &F,
+    named: &Named<'_>,
+    refusals: &[ToldRefusal],
+    err: &mut E,
+) -> io::Result<()> {
+    for refusal in refusals {
+        note_refusal(files, named, refusal, err)?;
+    }
+    Ok(())
+}
+
 fn note_job<F: Files + AllocGlobal, E: Write>(
     files: &F,
     named: &Named<'_>,
@@ -254,13 +327,8 @@ fn note_job<F: Files + AllocGlobal, E: Write>(
     };
     let mut notes = Notes::new(ColumnValues::new(files, tables));
     note_questions(files, named, !kept.empty.is_empty(), &mut notes, err)?;
-    for empty in kept.empty.iter() {
-        note_answer(files, named, *empty, &mut notes, err)?;
-    }
-    for refusal in kept.refusals.iter() {
-        note_refusal(files, named, refusal, err)?;
-    }
-    Ok(())
+    note_answers(files, named, kept.empty.as_slice(), &mut notes, err)?;
+    note_refusals(files, named, kept.refusals.as_slice(), err)
 }
 
 /// Writes what the questions of a command look for that no row has, and why refreshes of a run were refused, where the
@@ -276,6 +344,35 @@ pub fn write_notes<F: Files + AllocGlobal, E: Write>(
     }
 }
 
+// Notes what the questions ask that are asked together.
+fn note_asking<F: Files + AllocGlobal, E: Write>(
+    alloc: Global,
+    asking: Asking,
+    notes: &mut Notes<'_, F>,
+    err: &mut E,
+) -> io::Result<()> {
+    let questions = told_questions(alloc, asking)?;
+    for question in &questions {
+        note_question(notes, question, true, err)?;
+    }
+    Ok(())
+}
+
+// Notes what the questions of a script ask.
+fn note_requests<F: Files + AllocGlobal, E: Write>(
+    alloc: Global,
+    script: Script,
+    notes: &mut Notes<'_, F>,
+    err: &mut E,
+) -> io::Result<()> {
+    for request in script.requests {
+        if let Request::Ask(asking) = request {
+            note_asking(alloc, asking, notes, err)?;
+        }
+    }
+    Ok(())
+}
+
 // Notes what the questions of a request ask.
 fn note_request<F: Files + AllocGlobal, E: Write>(
     files: &F,
@@ -288,14 +385,7 @@ fn note_request<F: Files + AllocGlobal, E: Write>(
         return Ok(());
     };
     let mut notes = Notes::new(ColumnValues::new(files, tables));
-    for request in script.requests {
-        if let Request::Ask(asking) = request {
-            for question in told_questions(alloc, asking)?.as_slice() {
-                note_question(&mut notes, question, true, err)?;
-            }
-        }
-    }
-    Ok(())
+    note_requests(alloc, script, &mut notes, err)
 }
 
 /// Writes what the questions of a live session's request look for that no row of the tables has, where they were

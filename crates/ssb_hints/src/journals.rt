@@ -1,11 +1,11 @@
 //! What is wrong with a journal.
 
+use crate::fault_numbers::{number_in, number_of};
 use crate::lines::write_line;
-use crate::observed_files::ObservedFiles;
+use crate::observed_files::KeepsFailures;
 use crate::paths::{help_with_last_call, missing};
-use crate::records::open_plain;
-use std::io::{Read, Write};
-use std::rt::Files;
+use crate::records::first_bytes;
+use std::io::Write;
 use std::{fmt, io};
 
 /// Help about the journal of this path.
@@ -97,14 +97,12 @@ const SIGN: &[u8] = b"ssb_live journal ";
 const SIGN_IS_WITHIN: u64 = 128;
 
 /// Says that a file is a journal where a trace is wanted, if it is one, and whether it is.
-pub fn help_with_journal_as_trace<F: Files, E: Write>(
-    files: &ObservedFiles<'_, F>,
+pub fn help_with_journal_as_trace<F: KeepsFailures, E: Write>(
+    files: &F,
     path: &str,
     err: &mut E,
 ) -> io::Result<bool> {
-    let mut head = Vec::new(files.alloc());
-    let mut first = open_plain(files, path)?.take(SIGN_IS_WITHIN);
-    first.read_to_end(&mut head)?;
+    let head = first_bytes(files, path, SIGN_IS_WITHIN)?;
     if !head.windows(SIGN.len()).any(|bytes| bytes == SIGN) {
         return Ok(false);
     }
@@ -113,8 +111,8 @@ pub fn help_with_journal_as_trace<F: Files, E: Write>(
 }
 
 // Says that a journal is not there: what there is not of its path, and what to do.
-fn help_with_no_journal<F: Files, E: Write>(
-    files: &ObservedFiles<'_, F>,
+fn help_with_no_journal<F: KeepsFailures, E: Write>(
+    files: &F,
     path: &str,
     err: &mut E,
 ) -> io::Result<()> {
@@ -122,26 +120,46 @@ fn help_with_no_journal<F: Files, E: Write>(
     write_line(err, &JournalHelp::NoJournal)
 }
 
+// The help with a journal of a form that is not its own, by the words of the fault. That of a store's segments is 3.
+fn form_help<'a>(path: &'a str, words: &[&'a str]) -> Option<JournalHelp<'a>> {
+    match words {
+        [_, _, form] if number_in(form) == 3 => Some(JournalHelp::Segment(path)),
+        [_, _, form] => Some(JournalHelp::NewerForm(path, form)),
+        _ => None,
+    }
+}
+
+// The help with a journal that is there, by the words of its fault.
+fn help_of<'a>(path: &'a str, words: &[&'a str]) -> Option<JournalHelp<'a>> {
+    match number_of(words) {
+        66 => form_help(path, words),
+        69 => Some(JournalHelp::FewerCommits(path)),
+        90 => Some(JournalHelp::NotAJournal(path)),
+        91 => match words {
+            [_, _, table] => Some(JournalHelp::OtherTables(path, table)),
+            _ => None,
+        },
+        92 => Some(JournalHelp::Refused(path)),
+        93 => Some(JournalHelp::Damaged(path)),
+        94 => Some(JournalHelp::InUse(path)),
+        97 => Some(JournalHelp::HasBytes(path)),
+        _ => None,
+    }
+}
+
 /// Says what is wrong with a journal, by the words of its fault. Those of a fault without a number are the system's, of
 /// the last call that failed.
-pub fn help_with_journal<F: Files, E: Write>(
-    files: &ObservedFiles<'_, F>,
+pub fn help_with_journal<F: KeepsFailures, E: Write>(
+    files: &F,
     path: &str,
     words: &[&str],
     err: &mut E,
 ) -> io::Result<()> {
-    match words {
-        ["65", ..] => help_with_no_journal(files, path, err),
-        ["69", ..] => write_line(err, &JournalHelp::FewerCommits(path)),
-        // The form of the segments of a store.
-        ["66", _, "3"] => write_line(err, &JournalHelp::Segment(path)),
-        ["66", _, form] => write_line(err, &JournalHelp::NewerForm(path, form)),
-        ["90", ..] => write_line(err, &JournalHelp::NotAJournal(path)),
-        ["91", _, table] => write_line(err, &JournalHelp::OtherTables(path, table)),
-        ["92", ..] => write_line(err, &JournalHelp::Refused(path)),
-        ["93", ..] => write_line(err, &JournalHelp::Damaged(path)),
-        ["94", ..] => write_line(err, &JournalHelp::InUse(path)),
-        ["97", ..] => write_line(err, &JournalHelp::HasBytes(path)),
-        _ => help_with_last_call(files, err),
+    if number_of(words) == 65 {
+        return help_with_no_journal(files, path, err);
+    }
+    match help_of(path, words) {
+        Some(help) => write_line(err, &help),
+        None => help_with_last_call(files, err),
     }
 }

@@ -35,6 +35,7 @@ mod column_values;
 mod constants;
 mod failed_calls;
 mod fault_lines;
+mod fault_numbers;
 mod feeds;
 mod helping;
 mod job_notes;

@@ -8,6 +8,7 @@ use ssb_schema::{
     C_CITY, C_NATION, C_REGION, Column, P_BRAND1, P_CATEGORY, P_MFGR, S_CITY, S_NATION, S_REGION,
     Text,
 };
+use std::alloc::{AllocError, Global};
 use std::collections::BTreeSet;
 use std::io;
 use std::io::Write;
@@ -56,13 +57,48 @@ impl<'a, F: Files + AllocGlobal> Notes<'a, F> {
 }
 
 // Writes a note, if it was not told.
-fn tell<E: Write>(told: &mut BTreeSet<String>, text: String, err: &mut E) -> io::Result<()> {
+fn tell<E: Write>(
+    alloc: Global,
+    told: &mut BTreeSet<String>,
+    note: QuestionNote<'_, '_>,
+    err: &mut E,
+) -> io::Result<()> {
+    let text = format!(in alloc; "{note}")?;
     if told.contains(text.as_str()) {
         return Ok(());
     }
     writeln!(err, "note: {text}")?;
     told.insert(text)?;
     Ok(())
+}
+
+// The nearest of some values to one that is none of them.
+fn nearest_value<'v>(
+    alloc: Global,
+    value: &str,
+    values: &'v BTreeSet<String>,
+) -> Result<Option<&'v str>, AllocError> {
+    let mut names = Vec::new(alloc);
+    for name in values.iter() {
+        names.push(name.as_str())?;
+    }
+    nearest(alloc, value, names.as_slice(), 1)
+}
+
+// Says that no row has a value in a column, which has these.
+fn note_missing<E: Write>(
+    alloc: Global,
+    told: &mut BTreeSet<String>,
+    column: Column,
+    value: &str,
+    values: &BTreeSet<String>,
+    err: &mut E,
+) -> io::Result<()> {
+    tell(alloc, told, QuestionNote::NoRow(column, value, values), err)?;
+    match nearest_value(alloc, value, values)? {
+        Some(near) => tell(alloc, told, QuestionNote::DidYouMean(near), err),
+        None => Ok(()),
+    }
 }
 
 // Says that no row has a value, where none has.
@@ -73,24 +109,11 @@ fn note_value<F: Files + AllocGlobal, E: Write>(
     err: &mut E,
 ) -> io::Result<()> {
     let alloc = notes.values.files.alloc();
-    let Some(values) = notes.values.of(column) else {
-        return Ok(());
-    };
-    if values.contains(value) {
-        return Ok(());
-    }
-    let note = QuestionNote::NoRow(column, value, values);
-    tell(&mut notes.told, format!(in alloc; "{note}")?, err)?;
-    let mut names = Vec::new(alloc);
-    for name in values.iter() {
-        names.push(name.as_str())?;
-    }
-    match nearest(alloc, value, names.as_slice(), 1)? {
-        Some(near) => {
-            let note = QuestionNote::DidYouMean(near);
-            tell(&mut notes.told, format!(in alloc; "{note}")?, err)
+    match notes.values.of(column) {
+        Some(values) if !values.contains(value) => {
+            note_missing(alloc, &mut notes.told, column, value, values, err)
         }
-        None => Ok(()),
+        _ => Ok(()),
     }
 }
 
@@ -113,8 +136,21 @@ fn note_turned<'x, F: Files + AllocGlobal, E: Write>(
     err: &mut E,
 ) -> io::Result<()> {
     let note = QuestionNote::TurnedRound(name, from, to);
-    let text = format!(in notes.values.files.alloc(); "{note}")?;
-    tell(&mut notes.told, text, err)
+    tell(notes.values.files.alloc(), &mut notes.told, note, err)
+}
+
+// Says the same of a range of numbers.
+fn note_turned_numbers<F: Files + AllocGlobal, E: Write>(
+    notes: &mut Notes<'_, F>,
+    name: &str,
+    from: u32,
+    to: u32,
+    err: &mut E,
+) -> io::Result<()> {
+    let alloc = notes.values.files.alloc();
+    let first = format!(in alloc; "{from}")?;
+    let last = format!(in alloc; "{to}")?;
+    note_turned(notes, name, first.as_str(), last.as_str(), err)
 }
 
 // Says that none of the values of a column lies in a range.
@@ -125,11 +161,26 @@ fn note_none_between<F: Files + AllocGlobal, E: Write>(
     err: &mut E,
 ) -> io::Result<()> {
     let alloc = notes.values.files.alloc();
-    let Some(values) = notes.values.of(column) else {
-        return Ok(());
-    };
-    let note = QuestionNote::NoneBetween(column, range, values);
-    tell(&mut notes.told, format!(in alloc; "{note}")?, err)
+    match notes.values.of(column) {
+        Some(values) => {
+            let note = QuestionNote::NoneBetween(column, range, values);
+            tell(alloc, &mut notes.told, note, err)
+        }
+        None => Ok(()),
+    }
+}
+
+// Whether one of the values of a column is a number of a range. Of a column that was not read nothing is said.
+fn has_number<F: Files + AllocGlobal>(
+    notes: &Notes<'_, F>,
+    column: Column,
+    from: u32,
+    to: u32,
+) -> bool {
+    match notes.values.of(column) {
+        Some(values) => values.iter().any(|value| lies_in(value.as_str(), from, to)),
+        None => true,
+    }
 }
 
 // Says that a range of numbers holds nothing, where it does.
@@ -140,21 +191,29 @@ fn note_numbers<F: Files + AllocGlobal, E: Write>(
     to: u32,
     err: &mut E,
 ) -> io::Result<()> {
-    let holds = match notes.values.of(column) {
-        Some(values) => values.iter().any(|value| lies_in(value.as_str(), from, to)),
-        None => true,
-    };
-    if holds {
+    if has_number(notes, column, from, to) {
         return Ok(());
     }
-    let alloc = notes.values.files.alloc();
-    let first = format!(in alloc; "{from}")?;
-    let last = format!(in alloc; "{to}")?;
     if from > to {
-        return note_turned(notes, column.name(), first.as_str(), last.as_str(), err);
+        return note_turned_numbers(notes, column.name(), from, to, err);
     }
-    let range = format!(in alloc; "{from} to {to}")?;
+    let range = format!(in notes.values.files.alloc(); "{from} to {to}")?;
     note_none_between(notes, column, range.as_str(), err)
+}
+
+// Whether one of the values of a column is a text of a range. Of a column that was not read nothing is said.
+fn has_text<F: Files + AllocGlobal>(
+    notes: &Notes<'_, F>,
+    column: Column,
+    first: &str,
+    last: &str,
+) -> bool {
+    match notes.values.of(column) {
+        Some(values) => values
+            .iter()
+            .any(|value| first <= value.as_str() && value.as_str() <= last),
+        None => true,
+    }
 }
 
 // Says that a range of texts holds nothing, where it does.
@@ -169,17 +228,37 @@ fn note_texts<F: Files + AllocGlobal, E: Write>(
     if from > to {
         return note_turned(notes, column.name(), first, last, err);
     }
-    let holds = match notes.values.of(column) {
-        Some(values) => values
-            .iter()
-            .any(|value| first <= value.as_str() && value.as_str() <= last),
-        None => true,
-    };
-    if holds {
+    if has_text(notes, column, first, last) {
         return Ok(());
     }
     let range = format!(in notes.values.files.alloc(); "{first} to {last}")?;
     note_none_between(notes, column, range.as_str(), err)
+}
+
+// Says which of these texts no row has.
+fn note_each_text<F: Files + AllocGlobal, E: Write>(
+    notes: &mut Notes<'_, F>,
+    column: Column,
+    texts: &[Text],
+    err: &mut E,
+) -> io::Result<()> {
+    for text in texts {
+        note_value(notes, column, text.as_str(), err)?;
+    }
+    Ok(())
+}
+
+// Says which of these numbers no row has.
+fn note_each_number<F: Files + AllocGlobal, E: Write>(
+    notes: &mut Notes<'_, F>,
+    column: Column,
+    numbers: &[u32],
+    err: &mut E,
+) -> io::Result<()> {
+    for number in numbers {
+        note_number(notes, column, *number, err)?;
+    }
+    Ok(())
 }
 
 // Says which of the values that a test looks for no row has.
@@ -192,19 +271,9 @@ fn note_test<F: Files + AllocGlobal, E: Write>(
     notes.values.load(column)?;
     match &test.cond {
         Cond::TextIs(text) => note_value(notes, column, text.as_str(), err),
-        Cond::TextOneOf(texts) => {
-            for text in texts.as_slice() {
-                note_value(notes, column, text.as_str(), err)?;
-            }
-            Ok(())
-        }
+        Cond::TextOneOf(texts) => note_each_text(notes, column, texts.as_slice(), err),
         Cond::NumberIs(number) => note_number(notes, column, *number, err),
-        Cond::NumberOneOf(numbers) => {
-            for number in numbers.as_slice() {
-                note_number(notes, column, *number, err)?;
-            }
-            Ok(())
-        }
+        Cond::NumberOneOf(numbers) => note_each_number(notes, column, numbers.as_slice(), err),
         Cond::TextFromTo(from, to) => note_texts(notes, column, from, to, err),
         Cond::NumberFromTo(from, to) => note_numbers(notes, column, *from, *to, err),
     }
@@ -228,16 +297,12 @@ fn note_line_range<F: Files + AllocGlobal, E: Write>(
     range: Option<NumberRange>,
     err: &mut E,
 ) -> io::Result<()> {
-    let Some(range) = range else {
-        return Ok(());
-    };
-    if range.from <= range.to {
-        return Ok(());
+    match range {
+        Some(range) if range.from > range.to => {
+            note_turned_numbers(notes, name, range.from, range.to, err)
+        }
+        _ => Ok(()),
     }
-    let alloc = notes.values.files.alloc();
-    let first = format!(in alloc; "{}", range.from)?;
-    let last = format!(in alloc; "{}", range.to)?;
-    note_turned(notes, name, first.as_str(), last.as_str(), err)
 }
 
 // Says which values a plan looks for that no row has, and which ranges hold nothing.
@@ -267,8 +332,21 @@ fn note_within<F: Files + AllocGlobal, E: Write>(
         return Ok(());
     }
     let note = QuestionNote::MoreThanWithin(column, more, within, fewer);
-    let text = format!(in notes.values.files.alloc(); "{note}")?;
-    tell(&mut notes.told, text, err)
+    tell(notes.values.files.alloc(), &mut notes.told, note, err)
+}
+
+// Says which columns that a plan uses have fewer values than one that they lie in.
+fn note_columns<F: Files + AllocGlobal, E: Write>(
+    notes: &mut Notes<'_, F>,
+    plan: &Plan,
+    err: &mut E,
+) -> io::Result<()> {
+    for (within, column) in WITHIN.iter().copied() {
+        if uses(plan, within) || uses(plan, column) {
+            note_within(notes, within, column, err)?;
+        }
+    }
+    Ok(())
 }
 
 /// Says which values a question looks for that no row of the tables has, and which ranges hold nothing, where its tests
@@ -283,10 +361,5 @@ pub(crate) fn note_question<F: Files + AllocGlobal, E: Write>(
     if looks_at_tests {
         note_plan(notes, &plan, err)?;
     }
-    for (within, column) in WITHIN.iter().copied() {
-        if uses(&plan, within) || uses(&plan, column) {
-            note_within(notes, within, column, err)?;
-        }
-    }
-    Ok(())
+    note_columns(notes, &plan, err)
 }

@@ -8,6 +8,12 @@ use std::io;
 use std::path::PathBuf;
 use std::rt::Files;
 
+/// Files that keep why calls on them failed.
+pub(crate) trait KeepsFailures: Files + AllocGlobal {
+    /// The calls that failed.
+    fn failed(&self) -> &FailedCalls;
+}
+
 /// Files of which it is kept why one could not be opened, made, named, read or written. That a path or a link is looked
 /// at, and nothing is there, is no failure. What the program asks of no file, as to change its owner, is not passed on.
 #[derive(Drop)]
@@ -20,11 +26,6 @@ impl<'a, F: Files> ObservedFiles<'a, F> {
     /// Over these files.
     pub fn new(files: &'a F, failed: &'a FailedCalls) -> ObservedFiles<'a, F> {
         ObservedFiles { files, failed }
-    }
-
-    /// The calls that failed.
-    pub(crate) fn failed(&self) -> &'a FailedCalls {
-        self.failed
     }
 
     // What a call on a path gave. Where it failed, it is kept why.
@@ -41,6 +42,12 @@ impl<'a, F: Files> Alloc for ObservedFiles<'a, F> {
 
     fn alloc(&self) -> Global {
         self.failed.alloc()
+    }
+}
+
+impl<'a, F: Files> KeepsFailures for ObservedFiles<'a, F> {
+    fn failed(&self) -> &FailedCalls {
+        self.failed
     }
 }
 

@@ -1,7 +1,7 @@
 //! Why a call on a path failed.
 
 use crate::lines::write_line;
-use crate::observed_files::ObservedFiles;
+use crate::observed_files::KeepsFailures;
 use std::io::{ErrorKind, Write};
 use std::rt::Files;
 use std::{fmt, fs, io};
@@ -73,8 +73,8 @@ fn reason<'a, F: Files>(files: &F, path: &'a str, error: io::Error) -> PathHelp<
 }
 
 /// Says why a call on a path failed, where one did.
-pub fn help_with_path<F: Files, E: Write>(
-    files: &ObservedFiles<'_, F>,
+pub fn help_with_path<F: KeepsFailures, E: Write>(
+    files: &F,
     path: &str,
     err: &mut E,
 ) -> io::Result<()> {
@@ -85,8 +85,8 @@ pub fn help_with_path<F: Files, E: Write>(
 }
 
 /// Says why the last call on a path, or on what lies in the folder of that path, failed, where one did.
-pub fn help_with_folder<F: Files, E: Write>(
-    files: &ObservedFiles<'_, F>,
+pub fn help_with_folder<F: KeepsFailures, E: Write>(
+    files: &F,
     folder: &str,
     err: &mut E,
 ) -> io::Result<()> {
@@ -97,10 +97,7 @@ pub fn help_with_folder<F: Files, E: Write>(
 }
 
 /// Says why the last call that failed did so.
-pub fn help_with_last_call<F: Files, E: Write>(
-    files: &ObservedFiles<'_, F>,
-    err: &mut E,
-) -> io::Result<()> {
+pub fn help_with_last_call<F: KeepsFailures, E: Write>(files: &F, err: &mut E) -> io::Result<()> {
     match files.failed().last() {
         Some(call) => write_line(err, &reason(files, call.path.as_str(), call.error)),
         None => Ok(()),

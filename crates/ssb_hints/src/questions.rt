@@ -6,7 +6,7 @@ use crate::lines::write_line;
 use crate::nearest::nearest;
 use crate::star::help_with_star;
 use ssb_questions::{ConstantKind, ConstantsFault, QUERIES_AND_STAR, Query, Question, Value};
-use std::alloc::Global;
+use std::alloc::{AllocError, Global};
 use std::io::Write;
 use std::{fmt, io};
 
@@ -73,17 +73,33 @@ impl<'a> fmt::Display for QuestionHelp<'a> {
     }
 }
 
-// Says which names there are.
-fn help_with_name<E: Write>(alloc: Global, name: &str, err: &mut E) -> io::Result<()> {
-    write_line(err, &QuestionHelp::UnknownQuery(name))?;
+/// The names of all queries, and star.
+pub(crate) fn query_names(alloc: Global) -> Result<Vec<&'static str>, AllocError> {
     let mut names = Vec::new(alloc);
     for query in &QUERIES_AND_STAR {
         names.push(query.name())?;
     }
-    match nearest(alloc, name, names.as_slice(), 2)? {
+    Ok(names)
+}
+
+/// Says which of these names may be meant, if one may.
+pub(crate) fn help_with_nearest<E: Write>(
+    alloc: Global,
+    text: &str,
+    names: &[&str],
+    err: &mut E,
+) -> io::Result<()> {
+    match nearest(alloc, text, names, 2)? {
         Some(near) => write_line(err, &QuestionHelp::DidYouMean(near)),
         None => Ok(()),
     }
+}
+
+// Says which names there are.
+fn help_with_name<E: Write>(alloc: Global, name: &str, err: &mut E) -> io::Result<()> {
+    write_line(err, &QuestionHelp::UnknownQuery(name))?;
+    let names = query_names(alloc)?;
+    help_with_nearest(alloc, name, names.as_slice(), err)
 }
 
 // Says what is wrong with the constant at a place, from 1.

@@ -23,6 +23,18 @@ pub fn open_plain<F: Files>(files: &F, path: &str) -> io::Result<F::File> {
     fs::open(files, path)
 }
 
+/// So many first bytes of a plain file.
+pub fn first_bytes<F: Files + AllocGlobal>(
+    files: &F,
+    path: &str,
+    count: u64,
+) -> io::Result<Vec<u8>> {
+    let mut first = open_plain(files, path)?.take(count);
+    let mut bytes = Vec::new(files.alloc());
+    first.read_to_end(&mut bytes)?;
+    Ok(bytes)
+}
+
 /// The record of this number, from 1, of a text.
 pub fn record_of<I: Read + Drop>(
     alloc: Global,
@@ -60,4 +72,19 @@ pub fn texts_from(
         texts.push(text_at(alloc, record, place)?)?;
     }
     Ok(texts)
+}
+
+/// The texts of a record from a place on, from 0, parted as a script parts them.
+pub fn joined_from(alloc: Global, record: &ByteRecord, first: usize) -> Result<String, AllocError> {
+    let texts = texts_from(alloc, record, first)?;
+    texts.as_slice().join(alloc, "|")
+}
+
+/// These texts as words.
+pub fn words_in<'t>(alloc: Global, texts: &'t [String]) -> Result<Vec<&'t str>, AllocError> {
+    let mut words = Vec::new(alloc);
+    for text in texts {
+        words.push(text.as_str())?;
+    }
+    Ok(words)
 }

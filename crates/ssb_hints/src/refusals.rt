@@ -1,5 +1,6 @@
 //! What is wrong with a refresh that was refused.
 
+use crate::fault_numbers::number_in;
 use crate::lines::write_line;
 use crate::rows::key_column;
 use ssb_schema::{Action, Column, Line, Order, Refresh, Table};
@@ -120,14 +121,24 @@ fn help_with_keys<E: Write>(order: &Order, dimension: Table, err: &mut E) -> io:
 }
 
 // Says what is wrong with the lines of an order, by the number of the cause.
-fn help_with_lines<E: Write>(order: &Order, cause: &str, err: &mut E) -> io::Result<()> {
+fn help_with_lines<E: Write>(order: &Order, cause: u32, err: &mut E) -> io::Result<()> {
     match cause {
-        "42" => help_with_keys(order, Table::Customer, err),
-        "43" => help_with_keys(order, Table::Supplier, err),
-        "44" => help_with_keys(order, Table::Part, err),
-        "45" => help_with_keys(order, Table::Date, err),
-        "46" => write_line(err, &RefusalHelp::LinesFull(order.lines().len())),
+        42 => help_with_keys(order, Table::Customer, err),
+        43 => help_with_keys(order, Table::Supplier, err),
+        44 => help_with_keys(order, Table::Part, err),
+        45 => help_with_keys(order, Table::Date, err),
+        46 => write_line(err, &RefusalHelp::LinesFull(order.lines().len())),
         _ => Ok(()),
+    }
+}
+
+// What follows from whether the order of this key is live, by the number of the cause, where that is the cause.
+fn order_help(cause: u32, key: u64) -> Option<RefusalHelp> {
+    match cause {
+        41 => Some(RefusalHelp::Present(key)),
+        47 => Some(RefusalHelp::Absent(key)),
+        48 => Some(RefusalHelp::AmendAbsent(key)),
+        _ => None,
     }
 }
 
@@ -139,21 +150,17 @@ pub fn write_refusal_help<E: Write>(
     cause: &str,
     err: &mut E,
 ) -> io::Result<()> {
-    let Some((action, earlier)) = refresh
-        .actions()
-        .get(..number)
-        .and_then(|actions| actions.split_last())
-    else {
+    let Some((action, earlier)) = refresh.actions().get(..number).unwrap_or(&[]).split_last() else {
         return Ok(());
     };
     let key = key_of(action);
     write_line(err, &RefusalHelp::Action(number, word_of(action), key))?;
-    match (cause, action) {
-        ("41", _) => help_with_order(earlier, key, &RefusalHelp::Present(key), err),
-        ("47", _) => help_with_order(earlier, key, &RefusalHelp::Absent(key), err),
-        ("48", _) => help_with_order(earlier, key, &RefusalHelp::AmendAbsent(key), err),
-        (_, Action::Add(order)) => help_with_lines(order, cause, err),
-        (_, Action::Amend(order)) => help_with_lines(order, cause, err),
-        (_, Action::Withdraw(_)) => Ok(()),
+    let cause = number_in(cause);
+    if let Some(help) = order_help(cause, key) {
+        return help_with_order(earlier, key, &help, err);
+    }
+    match action {
+        Action::Add(order) | Action::Amend(order) => help_with_lines(order, cause, err),
+        Action::Withdraw(_) => Ok(()),
     }
 }

@@ -1,11 +1,9 @@
 //! What is wrong with a request that was typed at a prompt.
 
 use crate::lines::write_line;
-use crate::nearest::nearest;
-use crate::questions::QuestionHelp;
+use crate::questions::{help_with_nearest, query_names};
 use crate::records::{record_of, text_at};
 use crate::scripts::{begins_record, record_told, write_record_help, write_script_help};
-use ssb_questions::QUERIES_AND_STAR;
 use ssb_script::ScriptError;
 use std::alloc::{AllocError, Global};
 use std::io::Write;
@@ -89,18 +87,15 @@ fn word_help(word: &str) -> PromptHelp<'_> {
     }
 }
 
+static WORDS: [&str; 17] = [
+    "query", "select", "begin", "ask", "format", "help", "status", "timing", "quit", "exit",
+    "abort", "commit", "add", "amend", "withdraw", "line", "answer",
+];
+
 // The words that a request may begin with: names of queries, and words.
 fn request_words(alloc: Global) -> Result<Vec<&'static str>, AllocError> {
-    let mut words = Vec::new(alloc);
-    for query in &QUERIES_AND_STAR {
-        words.push(query.name())?;
-    }
-    for word in [
-        "query", "select", "begin", "ask", "format", "help", "status", "timing", "quit", "exit",
-        "abort", "commit", "add", "amend", "withdraw", "line", "answer",
-    ] {
-        words.push(word)?;
-    }
+    let mut words = query_names(alloc)?;
+    words.extend_from_slice(&WORDS)?;
     Ok(words)
 }
 
@@ -109,9 +104,7 @@ fn help_with_word<E: Write>(alloc: Global, word: &str, err: &mut E) -> io::Resul
     let help = word_help(word);
     if let PromptHelp::NoRequest(_) = help {
         let words = request_words(alloc)?;
-        if let Some(near) = nearest(alloc, word, words.as_slice(), 2)? {
-            write_line(err, &QuestionHelp::DidYouMean(near))?;
-        }
+        help_with_nearest(alloc, word, words.as_slice(), err)?;
     }
     write_line(err, &help)
 }

@@ -1,11 +1,12 @@
 //! What is wrong with a row of a table's file.
 
+use crate::fault_numbers::{number_in, number_of};
 use crate::lines::write_line;
 use crate::named::NamedTables;
-use crate::observed_files::ObservedFiles;
+use crate::observed_files::KeepsFailures;
 use crate::paths::help_with_path;
 use crate::records::{open_plain, record_of, text_at};
-use crate::table_files::{help_with_kind, help_with_missing, help_with_no_rows};
+use crate::table_files::{help_with_kind, help_with_missing, help_with_no_rows, table_path};
 use csv::ByteRecord;
 use ssb_schema::{Column, Kind, Table};
 use ssb_text::{Barred, Delimiter, TableLayout, field_at, trimmed_at};
@@ -247,64 +248,71 @@ fn help_with_number<E: Write>(
     help_with_names(row, err)
 }
 
-fn help_with_range<E: Write>(
+// What the schema refuses of a row, by the words of its fault, which are about what a column has.
+fn refusal_of<'r>(
+    row: &'r ToldRow<'_>,
+    words: &[&str],
+    column: Column,
+    value: &'r str,
+) -> Option<RowHelp<'r, 'r>> {
+    let (place, name) = (row.place, column.name());
+    match (number_of(words), words, column.kind()) {
+        (7, _, _) => Some(RowHelp::KeyRepeated(place, value)),
+        (8, [_, _, _, table], _) => {
+            Some(RowHelp::UnknownKey(place, name, value, table_named(table)?))
+        }
+        (10, _, Some(Kind::Number { least, most })) => {
+            Some(RowHelp::OutOfRange(place, name, value, least, most))
+        }
+        (11, _, _) => {
+            let bytes = bytes_in(&row.record, column).len();
+            Some(RowHelp::TooLong(place, name, bytes))
+        }
+        _ => None,
+    }
+}
+
+// Says what the schema refuses of a row, by the words of its fault, which are about what a column has.
+fn help_with_refusal<E: Write>(
     row: &ToldRow<'_>,
+    words: &[&str],
     column: Column,
     value: &str,
     err: &mut E,
 ) -> io::Result<()> {
-    match column.kind() {
-        Some(Kind::Number { least, most }) => write_line(
-            err,
-            &RowHelp::OutOfRange(row.place, column.name(), value, least, most),
-        ),
-        _ => Ok(()),
-    }
-}
-
-// Says what the schema refuses of a row: these are the words of its fault.
-fn help_with_refusal<E: Write>(
-    row: &ToldRow<'_>,
-    words: &[&str],
-    value: &str,
-    err: &mut E,
-) -> io::Result<()> {
-    match words {
-        ["7", ..] => write_line(err, &RowHelp::KeyRepeated(row.place, value)),
-        ["8", _, _, name] => match table_named(name) {
-            Some(table) => write_line(
-                err,
-                &RowHelp::UnknownKey(row.place, key_column(table).name(), value, table),
-            ),
-            None => Ok(()),
-        },
-        ["10", _, name] => match column_named(row.table, name) {
-            Some(column) => help_with_range(row, column, value, err),
-            None => Ok(()),
-        },
-        ["11", _, name] => match column_named(row.table, name) {
-            Some(column) => write_line(
-                err,
-                &RowHelp::TooLong(
-                    row.place,
-                    column.name(),
-                    bytes_in(&row.record, column).len(),
-                ),
-            ),
-            None => Ok(()),
-        },
-        _ => Ok(()),
+    match refusal_of(row, words, column, value) {
+        Some(help) => write_line(err, &help),
+        None => Ok(()),
     }
 }
 
 // The column that the words of a fault name, behind its table and row; else that of the row's key.
 fn column_told(table: Table, words: &[&str]) -> Option<Column> {
-    match words {
-        ["8", _, _, name] => Some(key_column(table_named(name)?)),
-        ["10", _, name] => column_named(table, name),
-        ["11", _, name] => column_named(table, name),
-        [name] => column_named(table, name),
+    match (number_of(words), words) {
+        (8, [_, _, _, name]) => Some(key_column(table_named(name)?)),
+        (10 | 11, [_, _, name]) => column_named(table, name),
+        (_, [name]) => column_named(table, name),
         _ => Some(Column { table, place: 1 }),
+    }
+}
+
+// Says what is wrong with what a row has in a column, by the number of its fault, and by the words behind its table and
+// row.
+fn help_with_column<E: Write>(
+    alloc: Global,
+    row: &ToldRow<'_>,
+    number: u32,
+    words: &[&str],
+    column: Column,
+    err: &mut E,
+) -> io::Result<()> {
+    let value = text_at(alloc, &row.record, column.place.saturating_sub(1))?;
+    match number {
+        21 => help_with_count(row, err),
+        22 => write_line(err, &RowHelp::NotUtf8(row.place, column.name())),
+        23 => help_with_number(row, column, value.as_str(), err),
+        24 => help_with_refusal(row, words, column, value.as_str(), err),
+        _ => Ok(()),
     }
 }
 
@@ -312,20 +320,13 @@ fn column_told(table: Table, words: &[&str]) -> Option<Column> {
 fn help_with_row<E: Write>(
     alloc: Global,
     row: &ToldRow<'_>,
-    number: &str,
+    number: u32,
     words: &[&str],
     err: &mut E,
 ) -> io::Result<()> {
-    let Some(column) = column_told(row.table, words) else {
-        return Ok(());
-    };
-    let value = text_at(alloc, &row.record, column.place.saturating_sub(1))?;
-    match number {
-        "21" => help_with_count(row, err),
-        "22" => write_line(err, &RowHelp::NotUtf8(row.place, column.name())),
-        "23" => help_with_number(row, column, value.as_str(), err),
-        "24" => help_with_refusal(row, words, value.as_str(), err),
-        _ => Ok(()),
+    match column_told(row.table, words) {
+        Some(column) => help_with_column(alloc, row, number, words, column, err),
+        None => Ok(()),
     }
 }
 
@@ -353,62 +354,113 @@ fn told_row<'a, F: Files + AllocGlobal>(
     }))
 }
 
-// Says that a dimension has no rows, where it has none.
-fn help_with_dimension<F: Files, E: Write>(
-    files: &ObservedFiles<'_, F>,
+// The dimension that lacks a row, where the words of a fault tell of one.
+fn dimension_in(words: &[&str]) -> Option<Table> {
+    match words {
+        [number, _, _, dimension] if number_in(number) == 8 => table_named(dimension),
+        _ => None,
+    }
+}
+
+// Says that the dimension that lacks a row has no rows, where it has none.
+fn help_with_dimension<F: KeepsFailures, E: Write>(
+    files: &F,
     folder: &str,
-    name: &str,
+    words: &[&str],
     err: &mut E,
 ) -> io::Result<()> {
-    match table_named(name) {
+    match dimension_in(words) {
         Some(table) => help_with_no_rows(files, folder, table, err),
         None => Ok(()),
     }
 }
 
+// The table that a path is of, by its folder and its name.
+fn table_at(path: &str, folder: &str) -> Option<Table> {
+    let (within, name) = path.rsplit_once('/')?;
+    if within != folder {
+        return None;
+    }
+    table_named(name.strip_suffix(".tbl")?)
+}
+
 /// Says which files may be meant by that of a path, which cannot be read, where it is a table of this folder.
-pub(crate) fn help_with_table_path<F: Files, E: Write>(
-    files: &ObservedFiles<'_, F>,
+pub(crate) fn help_with_table_path<F: KeepsFailures, E: Write>(
+    files: &F,
     folder: &str,
     path: &str,
     err: &mut E,
 ) -> io::Result<()> {
-    let Some((within, name)) = path.rsplit_once('/') else {
+    match table_at(path, folder) {
+        Some(table) => help_with_missing(files, folder, table, err),
+        None => Ok(()),
+    }
+}
+
+// What a fault tells of a row: its table, its number, the number of the fault, and the words behind these.
+#[derive(Clone, Copy)]
+struct RowFault<'a> {
+    table: Table,
+    row: &'a str,
+    number: u32,
+    words: &'a [&'a str],
+}
+
+// Says what is wrong with the file of a table, which is at this path, where a fault is told of a row.
+fn help_with_file<F: KeepsFailures, E: Write>(
+    files: &F,
+    tables: NamedTables<'_>,
+    path: &str,
+    fault: RowFault<'_>,
+    err: &mut E,
+) -> io::Result<()> {
+    if help_with_kind(files, path, err)? {
         return Ok(());
-    };
-    let table = name.strip_suffix(".tbl").and_then(|name| table_named(name));
-    match table {
-        Some(table) if within == folder => help_with_missing(files, folder, table, err),
-        _ => Ok(()),
+    }
+    help_with_dimension(files, tables.folder, fault.words, err)?;
+    match told_row(files, path, fault.table, tables.layout, fault.row)? {
+        Some(row) => help_with_row(files.alloc(), &row, fault.number, fault.words, err),
+        None => Ok(()),
+    }
+}
+
+// Says what is wrong with a table, by the number of the fault, and by the row with what else it tells.
+fn help_with_table<F: KeepsFailures, E: Write>(
+    files: &F,
+    tables: NamedTables<'_>,
+    table: Table,
+    number: u32,
+    told: &[&str],
+    err: &mut E,
+) -> io::Result<()> {
+    let path = table_path(files.alloc(), tables.folder, table)?;
+    match told {
+        [row, words @ ..] => {
+            let fault = RowFault {
+                table,
+                row,
+                number,
+                words,
+            };
+            help_with_file(files, tables, path.as_str(), fault, err)
+        }
+        [] => help_with_path(files, path.as_str(), err),
     }
 }
 
 /// Says what is wrong with tables, by the words of the fault: its number, its name, the table, and the row with what
 /// else it tells. A row is counted with the line of heads, as a fault counts it.
-pub fn help_with_tables<F: Files, E: Write>(
-    files: &ObservedFiles<'_, F>,
+pub fn help_with_tables<F: KeepsFailures, E: Write>(
+    files: &F,
     tables: NamedTables<'_>,
     words: &[&str],
     err: &mut E,
 ) -> io::Result<()> {
-    let [number, _, name, rest @ ..] = words else {
+    let [number, _, name, told @ ..] = words else {
         return Ok(());
     };
-    let Some(table) = table_named(name) else {
-        return Ok(());
-    };
-    let path = format!(in files.alloc(); "{}/{table}.tbl", tables.folder)?;
-    let [row, rest @ ..] = rest else {
-        return help_with_path(files, path.as_str(), err);
-    };
-    if help_with_kind(files, path.as_str(), err)? {
-        return Ok(());
-    }
-    if let ["8", _, _, dimension] = rest {
-        help_with_dimension(files, tables.folder, dimension, err)?;
-    }
-    match told_row(files, path.as_str(), table, tables.layout, row)? {
-        Some(row) => help_with_row(files.alloc(), &row, number, rest, err),
+    match table_named(name) {
+        Some(table) => help_with_table(files, tables, table, number_in(number), told, err),
         None => Ok(()),
     }
 }

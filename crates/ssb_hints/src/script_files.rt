@@ -1,9 +1,10 @@
 //! What is wrong with the file of a script, of standing questions, or of a trace.
 
 use crate::audits::AuditHelp;
+use crate::fault_numbers::number_of;
 use crate::journals::help_with_journal_as_trace;
 use crate::lines::write_line;
-use crate::observed_files::ObservedFiles;
+use crate::observed_files::KeepsFailures;
 use crate::paths::help_with_path;
 use crate::records::open_plain;
 use crate::script_help::ScriptHelp;
@@ -14,11 +15,10 @@ use ssb_script::{MOST_RECORDS, Request, Script, ScriptError, read_script};
 use std::alloc::Global;
 use std::io;
 use std::io::Write;
-use std::rt::Files;
 
 // Says what is wrong with a script, which is read once more.
-fn help_with_script<F: Files, E: Write>(
-    files: &ObservedFiles<'_, F>,
+fn help_with_script<F: KeepsFailures, E: Write>(
+    files: &F,
     path: &str,
     err: &mut E,
 ) -> io::Result<()> {
@@ -34,21 +34,21 @@ fn help_with_script<F: Files, E: Write>(
 }
 
 /// Says what is wrong with the file of a script, by the words of its fault.
-pub fn help_with_script_file<F: Files, E: Write>(
-    files: &ObservedFiles<'_, F>,
+pub fn help_with_script_file<F: KeepsFailures, E: Write>(
+    files: &F,
     path: &str,
     words: &[&str],
     err: &mut E,
 ) -> io::Result<()> {
-    match words {
-        ["75", ..] => help_with_path(files, path, err),
-        _ => help_with_script(files, path, err),
+    if number_of(words) == 75 {
+        return help_with_path(files, path, err);
     }
+    help_with_script(files, path, err)
 }
 
 // Shows the record of a number that a fault has in words.
-fn show_told<F: Files, E: Write>(
-    files: &ObservedFiles<'_, F>,
+fn show_told<F: KeepsFailures, E: Write>(
+    files: &F,
     path: &str,
     number: &str,
     err: &mut E,
@@ -60,8 +60,8 @@ fn show_told<F: Files, E: Write>(
 }
 
 // Says what is wrong with a record in the place of a question that is to stand.
-fn help_with_question<F: Files, E: Write>(
-    files: &ObservedFiles<'_, F>,
+fn help_with_question<F: KeepsFailures, E: Write>(
+    files: &F,
     path: &str,
     number: &str,
     err: &mut E,
@@ -74,8 +74,8 @@ fn help_with_question<F: Files, E: Write>(
 }
 
 // Says what is wrong with the statement of a record.
-fn help_with_sql_record<F: Files, E: Write>(
-    files: &ObservedFiles<'_, F>,
+fn help_with_sql_record<F: KeepsFailures, E: Write>(
+    files: &F,
     path: &str,
     number: &str,
     err: &mut E,
@@ -108,8 +108,8 @@ fn record_of_question(alloc: Global, script: Script, number: usize) -> io::Resul
 }
 
 // Shows the record that asks the question of a number that a fault has in words.
-fn show_question<F: Files, E: Write>(
-    files: &ObservedFiles<'_, F>,
+fn show_question<F: KeepsFailures, E: Write>(
+    files: &F,
     path: &str,
     number: &str,
     err: &mut E,
@@ -127,42 +127,58 @@ fn show_question<F: Files, E: Write>(
     Ok(())
 }
 
+// Shows the record that asks the question of a number that a fault has in words, and says that it has too many groups.
+fn help_with_groups<F: KeepsFailures, E: Write>(
+    files: &F,
+    path: &str,
+    number: &str,
+    err: &mut E,
+) -> io::Result<()> {
+    show_question(files, path, number, err)?;
+    write_line(err, &ScriptHelp::TooManyGroups)
+}
+
 /// Says what is wrong with the file of the questions that are to stand, by the words of its fault.
-pub fn help_with_standing<F: Files, E: Write>(
-    files: &ObservedFiles<'_, F>,
+pub fn help_with_standing<F: KeepsFailures, E: Write>(
+    files: &F,
     path: &str,
     words: &[&str],
     err: &mut E,
 ) -> io::Result<()> {
-    match words {
-        ["75", ..] => help_with_path(files, path, err),
-        ["98", _, number] => help_with_question(files, path, number, err),
-        ["79", _, number, ..] => help_with_sql_record(files, path, number, err),
-        ["99", _, number] => {
-            show_question(files, path, number, err)?;
-            write_line(err, &ScriptHelp::TooManyGroups)
-        }
+    match (number_of(words), words) {
+        (75, _) => help_with_path(files, path, err),
+        (98, [_, _, number]) => help_with_question(files, path, number, err),
+        (79, [_, _, number, ..]) => help_with_sql_record(files, path, number, err),
+        (99, [_, _, number]) => help_with_groups(files, path, number, err),
         _ => Ok(()),
     }
 }
 
+// Says what is wrong with the record of a trace of a number that a fault has in words.
+fn help_with_trace_record<F: KeepsFailures, E: Write>(
+    files: &F,
+    path: &str,
+    number: &str,
+    err: &mut E,
+) -> io::Result<()> {
+    if help_with_journal_as_trace(files, path, err)? {
+        return Ok(());
+    }
+    show_told(files, path, number, err)?;
+    write_line(err, &AuditHelp::NoRecord)
+}
+
 /// Says what is wrong with the file of a trace, by the words of its fault.
-pub fn help_with_trace<F: Files, E: Write>(
-    files: &ObservedFiles<'_, F>,
+pub fn help_with_trace<F: KeepsFailures, E: Write>(
+    files: &F,
     path: &str,
     words: &[&str],
     err: &mut E,
 ) -> io::Result<()> {
-    match words {
-        ["75", ..] => help_with_path(files, path, err),
-        [_, _, number, ..] => {
-            if help_with_journal_as_trace(files, path, err)? {
-                return Ok(());
-            }
-            show_told(files, path, number, err)?;
-            write_line(err, &AuditHelp::NoRecord)
-        }
-        ["71", ..] => write_line(err, &AuditHelp::CutOff),
+    match (number_of(words), words) {
+        (75, _) => help_with_path(files, path, err),
+        (_, [_, _, number, ..]) => help_with_trace_record(files, path, number, err),
+        (71, _) => write_line(err, &AuditHelp::CutOff),
         _ => Ok(()),
     }
 }

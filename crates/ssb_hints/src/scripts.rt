@@ -1,9 +1,8 @@
 //! What is wrong with a script.
 
 use crate::lines::write_line;
-use crate::nearest::nearest;
-use crate::questions::{QuestionHelp, help_with_question};
-use crate::records::{record_of, text_at, texts_from};
+use crate::questions::{help_with_nearest, help_with_question};
+use crate::records::{joined_from, record_of, text_at, texts_from, words_in};
 use crate::script_help::ScriptHelp;
 use crate::statements::help_with_statement;
 use csv::ByteRecord;
@@ -62,23 +61,46 @@ fn help_with_key<E: Write>(record: &ByteRecord, err: &mut E) -> io::Result<()> {
 }
 
 fn help_with_word<E: Write>(alloc: Global, word: &str, err: &mut E) -> io::Result<()> {
-    if let Some(near) = nearest(alloc, word, &WORDS, 2)? {
-        write_line(err, &QuestionHelp::DidYouMean(near))?;
-    }
+    help_with_nearest(alloc, word, &WORDS, err)?;
     write_line(err, &ScriptHelp::Words)
 }
 
-// Whether a record of this word has no fields.
-fn stands_alone(word: &str) -> bool {
-    matches!(
-        word,
-        "begin" | "add" | "amend" | "commit" | "ask" | "answer" | "abort"
-    )
-}
+// The words of records that have no fields.
+const ALONE: [&str; 7] = ["begin", "add", "amend", "commit", "ask", "answer", "abort"];
 
 /// Whether records begin with this word.
 pub fn begins_record(word: &str) -> bool {
-    WORDS.iter().any(|own| *own == word)
+    WORDS.contains(&word)
+}
+
+// Says what is wrong with a `query` record: its question, else its place.
+fn help_with_query<E: Write>(
+    alloc: Global,
+    name: &str,
+    constants: &[&str],
+    err: &mut E,
+) -> io::Result<()> {
+    if help_with_question(alloc, name, constants, err)? {
+        return Ok(());
+    }
+    write_line(err, &ScriptHelp::Place("query"))
+}
+
+// Says what is wrong with a record of a word that has no fields, where these are given, or of no such word.
+fn help_with_alone<E: Write>(
+    alloc: Global,
+    word: &str,
+    fields: &[&str],
+    err: &mut E,
+) -> io::Result<()> {
+    if !ALONE.contains(&word) {
+        return help_with_word(alloc, word, err);
+    }
+    if fields.is_empty() {
+        write_line(err, &ScriptHelp::Place(word))
+    } else {
+        write_line(err, &ScriptHelp::Alone(word))
+    }
 }
 
 // Says what is wrong with the fields of a record, the word first.
@@ -89,19 +111,12 @@ fn help_with_fields<E: Write>(
     err: &mut E,
 ) -> io::Result<()> {
     match fields {
-        ["query", name, constants @ ..] => {
-            if help_with_question(alloc, name, constants, err)? {
-                return Ok(());
-            }
-            write_line(err, &ScriptHelp::Place("query"))
-        }
+        ["query", name, constants @ ..] => help_with_query(alloc, name, constants, err),
         ["line", rest @ ..] => help_with_line(alloc, record, rest.len(), err),
         ["withdraw", ..] => help_with_key(record, err),
         ["format", ..] => write_line(err, &ScriptHelp::Format),
         ["sql", ..] => write_line(err, &ScriptHelp::Statement),
-        [word] if stands_alone(word) => write_line(err, &ScriptHelp::Place(word)),
-        [word, ..] if stands_alone(word) => write_line(err, &ScriptHelp::Alone(word)),
-        [word, ..] => help_with_word(alloc, word, err),
+        [word, rest @ ..] => help_with_alone(alloc, word, rest, err),
         [] => Ok(()),
     }
 }
@@ -109,10 +124,7 @@ fn help_with_fields<E: Write>(
 // Says what is wrong with a record that a script does not take there: its question, its word, its fields or its place.
 fn help_with_bad_line<E: Write>(alloc: Global, record: &ByteRecord, err: &mut E) -> io::Result<()> {
     let texts = texts_from(alloc, record, 0)?;
-    let mut fields = Vec::new(alloc);
-    for text in texts.iter() {
-        fields.push(text.as_str())?;
-    }
+    let fields = words_in(alloc, texts.as_slice())?;
     help_with_fields(alloc, record, fields.as_slice(), err)
 }
 
@@ -159,8 +171,7 @@ fn help_with_schema<E: Write>(
 
 /// Says what is wrong with the statement of a `sql` record, which is read once more.
 pub fn help_with_sql<E: Write>(alloc: Global, record: &ByteRecord, err: &mut E) -> io::Result<()> {
-    let texts = texts_from(alloc, record, 1)?;
-    let text = texts.as_slice().join(alloc, "|")?;
+    let text = joined_from(alloc, record, 1)?;
     help_with_statement(alloc, text.as_str(), err)
 }
 
@@ -204,8 +215,7 @@ pub fn show_record<I: Read + Drop, E: Write>(
     let Some(record) = record_of(alloc, source, number)? else {
         return Ok(None);
     };
-    let texts = texts_from(alloc, &record, 0)?;
-    let text = texts.as_slice().join(alloc, "|")?;
+    let text = joined_from(alloc, &record, 0)?;
     write_line(err, &ScriptHelp::Record(name, number, text.as_str()))?;
     Ok(Some(record))
 }

@@ -1,12 +1,11 @@
 //! What is wrong with the constants of `star`.
 
 use crate::lines::write_line;
-use crate::nearest::nearest;
-use crate::questions::QuestionHelp;
+use crate::questions::help_with_nearest;
 use crate::star_habits::help_with_habit;
 use ssb_questions::{Clause, clause_of};
 use ssb_schema::{Column, query_columns};
-use std::alloc::Global;
+use std::alloc::{AllocError, Global};
 use std::io::Write;
 use std::{fmt, io};
 
@@ -141,7 +140,7 @@ fn has_range(constants: &[&str], column: Column) -> bool {
 
 // Why a group column may not stand behind these constants.
 fn group_help<'a>(earlier: &[&str], word: &'a str) -> StarHelp<'a> {
-    if earlier.iter().any(|one| *one == word) {
+    if earlier.contains(&word) {
         StarHelp::GroupTwice(word)
     } else if !earlier.iter().all(|one| is_head(one)) {
         StarHelp::GroupAfterTest(word)
@@ -180,19 +179,23 @@ fn help_at<'a>(words: &[&'a str], place: usize) -> StarHelp<'a> {
     }
 }
 
+// The names of the columns to group by and to test.
+fn column_names(alloc: Global) -> Result<Vec<&'static str>, AllocError> {
+    let mut names = Vec::new(alloc);
+    for column in query_columns() {
+        names.push(column.name())?;
+    }
+    Ok(names)
+}
+
 // Says which columns there are, and which one may be meant.
 fn help_with_columns<E: Write>(alloc: Global, word: &str, err: &mut E) -> io::Result<()> {
     let name = match word.split_once('=') {
         Some((name, _)) => name,
         None => word,
     };
-    let mut names = Vec::new(alloc);
-    for column in query_columns() {
-        names.push(column.name())?;
-    }
-    if let Some(near) = nearest(alloc, name, names.as_slice(), 2)? {
-        write_line(err, &QuestionHelp::DidYouMean(near))?;
-    }
+    let names = column_names(alloc)?;
+    help_with_nearest(alloc, name, names.as_slice(), err)?;
     write_line(err, &StarHelp::Columns)
 }
 

@@ -1,10 +1,10 @@
 //! What is wrong with a store.
 
+use crate::fault_numbers::{number_in, number_of};
 use crate::lines::write_line;
-use crate::observed_files::ObservedFiles;
+use crate::observed_files::KeepsFailures;
 use crate::paths::{PathHelp, help_with_last_call, help_with_path, missing};
 use std::io::Write;
-use std::rt::Files;
 use std::{fmt, fs, io};
 
 /// Help about the store of this folder, or about a file of a store, by its path.
@@ -90,26 +90,31 @@ impl<'a> fmt::Display for StoreHelp<'a> {
     }
 }
 
+// What is not there of the path of a folder: that, or already the one that it lies in.
+fn missing_folder<'a, F: KeepsFailures>(files: &F, folder: &'a str) -> PathHelp<'a> {
+    match missing(files, folder) {
+        PathHelp::NoSuchFile(folder) => PathHelp::NoSuchFolder(folder),
+        help => help,
+    }
+}
+
 // Says that a folder has no store: what there is not of its path, or in it, and what to do.
-fn help_with_no_store<F: Files, E: Write>(
-    files: &ObservedFiles<'_, F>,
+fn help_with_no_store<F: KeepsFailures, E: Write>(
+    files: &F,
     folder: &str,
     err: &mut E,
 ) -> io::Result<()> {
     if fs::metadata(files, folder).is_ok() {
         write_line(err, &StoreHelp::NoTables(folder))?;
     } else {
-        match missing(files, folder) {
-            PathHelp::NoSuchFile(folder) => write_line(err, &PathHelp::NoSuchFolder(folder))?,
-            help => write_line(err, &help)?,
-        }
+        write_line(err, &missing_folder(files, folder))?;
     }
     write_line(err, &StoreHelp::NoStore(folder))
 }
 
 // Says which segment of a store is missing, where commits are missing before that of this number.
-fn help_with_gap<F: Files, E: Write>(
-    files: &ObservedFiles<'_, F>,
+fn help_with_gap<F: KeepsFailures, E: Write>(
+    files: &F,
     folder: &str,
     number: &str,
     err: &mut E,
@@ -122,8 +127,8 @@ fn help_with_gap<F: Files, E: Write>(
 }
 
 /// Says what is wrong with a store that is there or should be, by what its fault says.
-pub fn help_with_store<F: Files, E: Write>(
-    files: &ObservedFiles<'_, F>,
+pub fn help_with_store<F: KeepsFailures, E: Write>(
+    files: &F,
     folder: &str,
     told: &str,
     err: &mut E,
@@ -134,44 +139,54 @@ pub fn help_with_store<F: Files, E: Write>(
     if let Some(path) = told.strip_suffix(": 93 Damaged 0") {
         return write_line(err, &StoreHelp::Damaged(path));
     }
-    if let Some(number) = told.strip_prefix("88 Gap ") {
-        return help_with_gap(files, folder, number, err);
-    }
-    if told.starts_with("69 ") {
-        return write_line(err, &StoreHelp::NoSuchCommit(folder));
-    }
-    match told {
-        "87 NoStore" => help_with_no_store(files, folder, err),
-        "94 InUse" => write_line(err, &StoreHelp::InCheckpoint(folder)),
+    let (number, behind) = told.split_once(' ').unwrap_or((told, ""));
+    match number_in(number) {
+        69 => write_line(err, &StoreHelp::NoSuchCommit(folder)),
+        87 => help_with_no_store(files, folder, err),
+        88 => help_with_gap(
+            files,
+            folder,
+            behind.strip_prefix("Gap ").unwrap_or(behind),
+            err,
+        ),
+        94 => write_line(err, &StoreHelp::InCheckpoint(folder)),
         _ => Ok(()),
     }
 }
 
 /// Says what is wrong with the tables of a store, by the words of their fault.
-pub fn help_with_store_tables<F: Files, E: Write>(
-    files: &ObservedFiles<'_, F>,
+pub fn help_with_store_tables<F: KeepsFailures, E: Write>(
+    files: &F,
     folder: &str,
     words: &[&str],
     err: &mut E,
 ) -> io::Result<()> {
-    match words {
-        ["20", ..] => help_with_last_call(files, err),
-        _ => write_line(err, &StoreHelp::OtherTables(folder)),
+    if number_of(words) == 20 {
+        return help_with_last_call(files, err);
+    }
+    write_line(err, &StoreHelp::OtherTables(folder))
+}
+
+// The help with the commits of a store, by the number of a fault that is told as a journal's.
+fn help_of(folder: &str, number: u32) -> Option<StoreHelp<'_>> {
+    match number {
+        91 => Some(StoreHelp::OtherTables(folder)),
+        92 => Some(StoreHelp::Refused(folder)),
+        93 => Some(StoreHelp::DamagedGroup(folder)),
+        94 => Some(StoreHelp::InUse(folder)),
+        _ => None,
     }
 }
 
 /// Says what is wrong with the commits of a store, by the words of a fault that is told as a journal's.
-pub fn help_with_store_commits<F: Files, E: Write>(
-    files: &ObservedFiles<'_, F>,
+pub fn help_with_store_commits<F: KeepsFailures, E: Write>(
+    files: &F,
     folder: &str,
     words: &[&str],
     err: &mut E,
 ) -> io::Result<()> {
-    match words {
-        ["91", ..] => write_line(err, &StoreHelp::OtherTables(folder)),
-        ["92", ..] => write_line(err, &StoreHelp::Refused(folder)),
-        ["93", ..] => write_line(err, &StoreHelp::DamagedGroup(folder)),
-        ["94", ..] => write_line(err, &StoreHelp::InUse(folder)),
-        _ => help_with_last_call(files, err),
+    match help_of(folder, number_of(words)) {
+        Some(help) => write_line(err, &help),
+        None => help_with_last_call(files, err),
     }
 }

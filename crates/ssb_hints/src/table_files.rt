@@ -1,12 +1,11 @@
 //! What is wrong with the file of a table as a whole.
 
 use crate::lines::write_line;
-use crate::observed_files::ObservedFiles;
-use crate::records::open_plain;
+use crate::observed_files::KeepsFailures;
+use crate::records::first_bytes;
 use ssb_schema::Table;
-use std::alloc::Global;
+use std::alloc::{AllocError, Global};
 use std::io::{BufReader, Read, Write};
-use std::rt::Files;
 use std::{fmt, fs, io};
 
 /// Help about the file of a table.
@@ -25,7 +24,7 @@ pub enum TableHelp<'a> {
 }
 
 /// A kind of file that is no text with bars.
-#[derive(Clone, Copy, Debug, PartialEq, Eq)]
+#[derive(Clone, Copy)]
 pub enum FileKind {
     Utf16,
     Gzip,
@@ -102,14 +101,12 @@ fn kind_of(head: &[u8]) -> Option<FileKind> {
 }
 
 /// Says that the file of a table is of another kind, or has no bytes, where it is so, and whether it is.
-pub(crate) fn help_with_kind<F: Files, E: Write>(
-    files: &ObservedFiles<'_, F>,
+pub(crate) fn help_with_kind<F: KeepsFailures, E: Write>(
+    files: &F,
     path: &str,
     err: &mut E,
 ) -> io::Result<bool> {
-    let mut head = Vec::new(files.alloc());
-    let mut first = open_plain(files, path)?.take(SIGN_IS_WITHIN);
-    first.read_to_end(&mut head)?;
+    let head = first_bytes(files, path, SIGN_IS_WITHIN)?;
     match kind_of(head.as_slice()) {
         Some(kind) => {
             write_line(err, &TableHelp::OtherKind(path, kind))?;
@@ -119,31 +116,42 @@ pub(crate) fn help_with_kind<F: Files, E: Write>(
     }
 }
 
+/// The path of a table's file in a folder.
+pub(crate) fn table_path(alloc: Global, folder: &str, table: Table) -> Result<String, AllocError> {
+    format!(in alloc; "{folder}/{table}.tbl")
+}
+
 /// Says that a table has no rows, where its file has no bytes.
-pub(crate) fn help_with_no_rows<F: Files, E: Write>(
-    files: &ObservedFiles<'_, F>,
+pub(crate) fn help_with_no_rows<F: KeepsFailures, E: Write>(
+    files: &F,
     folder: &str,
     table: Table,
     err: &mut E,
 ) -> io::Result<()> {
-    let path = format!(in files.alloc(); "{folder}/{table}.tbl")?;
+    let path = table_path(files.alloc(), folder, table)?;
     if fs::metadata(files, path.as_str())?.len() == 0 {
         return write_line(err, &TableHelp::NoRows(path.as_str()));
     }
     Ok(())
 }
 
-// The names in a folder, each with a zero byte behind it. A read gives only names for which its buffer has room, and
-// fails where it has none for the next one.
-fn names_in<F: Files>(files: &ObservedFiles<'_, F>, folder: &str) -> io::Result<Vec<u8>> {
+// All bytes of a source. A read of a folder gives only names for which its buffer has room, and fails where it has none
+// for the next one.
+fn all_of<R: Read + Drop>(alloc: Global, source: R) -> io::Result<Vec<u8>> {
+    let mut bytes = Vec::new(alloc);
+    BufReader::new(alloc, source)?.read_to_end(&mut bytes)?;
+    Ok(bytes)
+}
+
+// The names in a folder, each with a zero byte behind it.
+fn names_in<F: KeepsFailures>(files: &F, folder: &str) -> io::Result<Vec<u8>> {
     let within = format!(in files.alloc(); "{folder}/")?;
-    let mut names = Vec::new(files.alloc());
-    BufReader::new(files.alloc(), files.open_dir(within.as_str())?)?.read_to_end(&mut names)?;
-    Ok(names)
+    let opened = files.open_dir(within.as_str())?;
+    all_of(files.alloc(), opened)
 }
 
 // Whether a name, in any case and whatever its ending, is a table's.
-fn is_of(alloc: Global, name: &str, table: Table) -> io::Result<bool> {
+fn is_of(alloc: Global, name: &str, table: Table) -> Result<bool, AllocError> {
     let mut stem = String::from_str(alloc, name.split('.').next().unwrap_or(""))?;
     stem.make_ascii_lowercase();
     let stem = stem.as_str();
@@ -152,6 +160,19 @@ fn is_of(alloc: Global, name: &str, table: Table) -> io::Result<bool> {
 
 static PACKED: [&str; 6] = [".gz", ".zst", ".xz", ".bz2", ".zip", ".Z"];
 
+// The help with a file of this name, where it may be meant.
+fn help_of(alloc: Global, name: &str, table: Table) -> Result<Option<TableHelp<'_>>, AllocError> {
+    Ok(if name == "lineitem.tbl" {
+        Some(TableHelp::OtherBenchmark(name))
+    } else if !is_of(alloc, name, table)? {
+        None
+    } else if PACKED.iter().any(|ending| name.ends_with(*ending)) {
+        Some(TableHelp::Packed(name, table))
+    } else {
+        Some(TableHelp::OtherName(name, table))
+    })
+}
+
 // Says that a file may be meant, where its name is like a table's. The result is whether it is.
 fn help_with_name<E: Write>(
     alloc: Global,
@@ -159,35 +180,39 @@ fn help_with_name<E: Write>(
     table: Table,
     err: &mut E,
 ) -> io::Result<bool> {
-    if name == "lineitem.tbl" {
-        write_line(err, &TableHelp::OtherBenchmark(name))?;
-        return Ok(true);
+    match help_of(alloc, name, table)? {
+        Some(help) => {
+            write_line(err, &help)?;
+            Ok(true)
+        }
+        None => Ok(false),
     }
-    if !is_of(alloc, name, table)? {
-        return Ok(false);
-    }
-    if PACKED.iter().any(|ending| name.ends_with(*ending)) {
-        write_line(err, &TableHelp::Packed(name, table))?;
-    } else {
-        write_line(err, &TableHelp::OtherName(name, table))?;
-    }
-    Ok(true)
 }
 
-/// Says which files of a folder may be meant by that of a table, which is not there.
-pub(crate) fn help_with_missing<F: Files, E: Write>(
-    files: &ObservedFiles<'_, F>,
-    folder: &str,
+// Says which of these files, each with a zero byte behind its name, may be meant by that of a table.
+fn help_with_names<E: Write>(
+    alloc: Global,
+    names: &[u8],
     table: Table,
     err: &mut E,
 ) -> io::Result<()> {
-    let names = names_in(files, folder)?;
-    for name in names.as_slice().split(|byte| *byte == 0) {
+    for name in names.split(|byte| *byte == 0) {
         if let Ok(name) = str::from_utf8(name) {
-            if help_with_name(files.alloc(), name, table, err)? {
+            if help_with_name(alloc, name, table, err)? {
                 return Ok(());
             }
         }
     }
     Ok(())
+}
+
+/// Says which files of a folder may be meant by that of a table, which is not there.
+pub(crate) fn help_with_missing<F: KeepsFailures, E: Write>(
+    files: &F,
+    folder: &str,
+    table: Table,
+    err: &mut E,
+) -> io::Result<()> {
+    let names = names_in(files, folder)?;
+    help_with_names(files.alloc(), names.as_slice(), table, err)
 }

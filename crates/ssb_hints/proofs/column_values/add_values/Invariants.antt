@@ -1,5 +1,5 @@
 use Rattle.ssb_text.specs.Records.{IsRecordReader}
-use Rattle.ssb_hints.proofs.column_values.values_in.Given as goal
+use Rattle.ssb_hints.proofs.column_values.add_values.Given as goal
 
 abbrev pub invariant-loop-number : goal.invariant-loop-number
 invariant-loop-number g l = IsRecordReader l.reader
