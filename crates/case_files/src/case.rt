@@ -127,21 +127,14 @@ impl<'a> Reader<'a> {
             return Err(CaseLineFault::Misplaced);
         }
         self.section = Some(section);
-        match (section.part, self.case.commands.last_mut()) {
-            (SectionKind::File(path), _) => self.case.files.push(empty_file(self.alloc, path)?)?,
-            (SectionKind::Command, _) => self.case.commands.push(Command::new(self.alloc))?,
-            (SectionKind::Breaks(name, after), Some(command)) => {
-                let name = String::from_str(self.alloc, name)?;
-                command.breaks.push(Break { name, after })?;
+        match section.part {
+            SectionKind::File(path) => self.case.files.push(empty_file(self.alloc, path)?)?,
+            SectionKind::Command => self.case.commands.push(Command::new(self.alloc))?,
+            part => {
+                if let Some(command) = self.case.commands.last_mut() {
+                    command.begin(self.alloc, part)?;
+                }
             }
-            (SectionKind::Taken(path), Some(command)) => {
-                command.taken.push(String::from_str(self.alloc, path)?)?;
-            }
-            (SectionKind::Status(status), Some(command)) => command.status = status,
-            (SectionKind::Leaves(path), Some(command)) => {
-                command.leaves.push(empty_file(self.alloc, path)?)?;
-            }
-            _ => {}
         }
         Ok(())
     }
@@ -149,20 +142,10 @@ impl<'a> Reader<'a> {
     // Reads a line of a section's text.
     fn read_text(&mut self, section: Section<'a>, line: &str) -> Result<(), CaseLineFault> {
         match (section.part, self.case.commands.last_mut()) {
-            (SectionKind::File(_), _) => append_to_last(&mut self.case.files, section, line)?,
-            (SectionKind::Command, Some(command)) => command.take_words(self.alloc, section, line)?,
-            (SectionKind::Input, Some(command)) => section.append(&mut command.input, line)?,
-            (SectionKind::Output, Some(command)) => section.append(&mut command.output, line)?,
-            (SectionKind::Errors, Some(command)) => section.append(&mut command.errors, line)?,
-            (SectionKind::Leaves(_), Some(command)) => append_to_last(
-                &mut command.leaves,
-                section,
-                line,
-            )?,
-            (SectionKind::Breaks(..) | SectionKind::Taken(_) | SectionKind::Status(_), _)
-            | (_, None) => return Err(CaseLineFault::NoText),
+            (SectionKind::File(_), _) => append_to_last(&mut self.case.files, section, line),
+            (_, Some(command)) => command.read_text(self.alloc, section, line),
+            (_, None) => Err(CaseLineFault::NoText),
         }
-        Ok(())
     }
 }
 
@@ -206,6 +189,38 @@ impl Command {
             errors: Vec::new(alloc),
             status: 0,
             leaves: Vec::new(alloc),
+        }
+    }
+
+    // Begins a section of it.
+    fn begin(&mut self, alloc: Global, part: SectionKind<'_>) -> Result<(), CaseLineFault> {
+        match part {
+            SectionKind::Breaks(name, after) => {
+                let name = String::from_str(alloc, name)?;
+                self.breaks.push(Break { name, after })?;
+            }
+            SectionKind::Taken(path) => self.taken.push(String::from_str(alloc, path)?)?,
+            SectionKind::Status(status) => self.status = status,
+            SectionKind::Leaves(path) => self.leaves.push(empty_file(alloc, path)?)?,
+            _ => {}
+        }
+        Ok(())
+    }
+
+    // Reads a line of the text of a section of it.
+    fn read_text(
+        &mut self,
+        alloc: Global,
+        section: Section<'_>,
+        line: &str,
+    ) -> Result<(), CaseLineFault> {
+        match section.part {
+            SectionKind::Command => self.take_words(alloc, section, line),
+            SectionKind::Input => section.append(&mut self.input, line),
+            SectionKind::Output => section.append(&mut self.output, line),
+            SectionKind::Errors => section.append(&mut self.errors, line),
+            SectionKind::Leaves(_) => append_to_last(&mut self.leaves, section, line),
+            _ => Err(CaseLineFault::NoText),
         }
     }
 

@@ -98,6 +98,24 @@ fn lies_in(path: &str, folder: &str) -> bool {
     }
 }
 
+// The name in a folder of what a path lies in, or of the path itself.
+fn name_within<'a>(path: &'a str, folder: &str) -> Option<&'a str> {
+    let within = path.strip_prefix(folder)?.strip_prefix("/")?;
+    match within.split_once('/') {
+        Some((name, _)) => Some(name),
+        None => Some(within),
+    }
+}
+
+// The files of the small data set.
+static SMALL: [(&str, &str); 5] = [
+    ("small/customer.tbl", CUSTOMER),
+    ("small/supplier.tbl", SUPPLIER),
+    ("small/part.tbl", PART),
+    ("small/date.tbl", DATE),
+    ("small/lineorder.tbl", LINEORDER),
+];
+
 impl MemoryFiles {
     /// The small data set in the folder `small`.
     pub fn with_small_data(alloc: Global) -> io::Result<MemoryFiles> {
@@ -108,13 +126,7 @@ impl MemoryFiles {
             breaks: Mutex::new(BTreeMap::new(alloc)),
             taken: Mutex::new(BTreeSet::new(alloc)),
         };
-        for (path, text) in [
-            ("small/customer.tbl", CUSTOMER),
-            ("small/supplier.tbl", SUPPLIER),
-            ("small/part.tbl", PART),
-            ("small/date.tbl", DATE),
-            ("small/lineorder.tbl", LINEORDER),
-        ] {
+        for (path, text) in &SMALL {
             files.put(path, text.as_bytes())?;
         }
         Ok(files)
@@ -191,22 +203,14 @@ impl MemoryFiles {
         let files = hold(&self.files)?;
         let mut last: &[u8] = &[];
         for file in files.keys() {
-            let Some(rest) = file.strip_prefix(folder) else {
-                continue;
-            };
-            let Some(within) = rest.strip_prefix("/") else {
-                continue;
-            };
-            let name = match within.split_once('/') {
-                Some((name, _)) => name,
-                None => within,
-            };
-            let name = name.as_bytes();
-            if name != last {
-                names.extend_from_slice(name)?;
-                names.push(0)?;
+            if let Some(name) = name_within(file.as_str(), folder) {
+                let name = name.as_bytes();
+                if name != last {
+                    names.extend_from_slice(name)?;
+                    names.push(0)?;
+                }
+                last = name;
             }
-            last = name;
         }
         Ok(names)
     }
@@ -217,6 +221,21 @@ impl MemoryFiles {
             Some((folder, _)) => self.is_folder(folder),
             None => Ok(true),
         }
+    }
+
+    // What is opened where no file is, or its bytes are not wanted: an empty file, or a folder.
+    fn made(&self, how: &OpenOptions, path: &str) -> io::Result<MemoryFile> {
+        if how.asks_create() || how.asks_create_new() {
+            return Ok(MemoryFile::Opened(self.make(path)?, 0));
+        }
+        if self.is_folder(path)? {
+            return Ok(MemoryFile::Folder);
+        }
+        Err(Error::from(if self.is_within_file(path)? {
+            ErrorKind::NotADirectory
+        } else {
+            ErrorKind::NotFound
+        }))
     }
 
     // An empty file at this path, in a folder that is there.
@@ -272,13 +291,7 @@ impl Files for MemoryFiles {
         let file = match self.contents_of(path)? {
             Some(_) if how.asks_create_new() => return Err(Error::from(ErrorKind::AlreadyExists)),
             Some(contents) if !how.asks_truncate() => MemoryFile::Opened(contents, 0),
-            _ if how.asks_create() || how.asks_create_new() => MemoryFile::Opened(
-                self.make(path)?,
-                0,
-            ),
-            _ if self.is_folder(path)? => MemoryFile::Folder,
-            _ if self.is_within_file(path)? => return Err(Error::from(ErrorKind::NotADirectory)),
-            _ => return Err(Error::from(ErrorKind::NotFound)),
+            _ => self.made(how, path)?,
         };
         self.opened(path, file)
     }

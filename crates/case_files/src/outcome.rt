@@ -2,7 +2,7 @@
 
 ghost use Rattle.std.specs.Prelude.{◌≡◌, Ok, None};
 
-use crate::case::Command;
+use crate::case::{Command, NamedFile};
 use crate::difference::first_difference;
 use crate::files::MemoryFiles;
 use std::alloc::Global;
@@ -14,6 +14,22 @@ pub struct CommandEnd {
     pub output: Vec<u8>,
     pub errors: Vec<u8>,
     pub status: u8,
+}
+
+// What differs in a file that a command left.
+fn left_difference(
+    alloc: Global,
+    files: &MemoryFiles,
+    wanted: &NamedFile,
+) -> io::Result<Option<String>> {
+    let path = wanted.path.as_str();
+    let Some(bytes) = files.bytes_of(path)? else {
+        return Ok(Some(format!(in alloc; "leaves {path}: no such file")?));
+    };
+    match first_difference(wanted.bytes.as_slice(), bytes.as_slice()) {
+        Some(difference) => Ok(Some(format!(in alloc; "leaves {path}, {difference}")?)),
+        None => Ok(None),
+    }
 }
 
 /// What differs first in what a command did, and in the files that it left.
@@ -40,12 +56,8 @@ pub fn find_difference(
         return Ok(Some(format!(in alloc; "status: wanted {wanted}, got {got}")?));
     }
     for file in &command.leaves {
-        let path = file.path.as_str();
-        let Some(bytes) = files.bytes_of(path)? else {
-            return Ok(Some(format!(in alloc; "leaves {path}: no such file")?));
-        };
-        if let Some(difference) = first_difference(file.bytes.as_slice(), bytes.as_slice()) {
-            return Ok(Some(format!(in alloc; "leaves {path}, {difference}")?));
+        if let Some(difference) = left_difference(alloc, files, file)? {
+            return Ok(Some(difference));
         }
     }
     Ok(None)

@@ -49,6 +49,40 @@ impl<'a> SectionKind<'a> {
         }
     }
 
+    // The one whose heading is this word.
+    fn alone(word: &str) -> Option<SectionKind<'a>> {
+        match word {
+            "command" => Some(SectionKind::Command),
+            "input" => Some(SectionKind::Input),
+            "output" => Some(SectionKind::Output),
+            "errors" => Some(SectionKind::Errors),
+            _ => None,
+        }
+    }
+
+    // The one whose heading is this word with something behind it.
+    fn with(word: &str, behind: &'a str) -> Option<SectionKind<'a>> {
+        match word {
+            "file" => Some(SectionKind::File(behind)),
+            "leaves" => Some(SectionKind::Leaves(behind)),
+            "breaks" => {
+                let (name, after) = behind.rsplit_once(" after ")?;
+                Some(SectionKind::Breaks(name, after.parse().ok()?))
+            }
+            "taken" => Some(SectionKind::Taken(behind)),
+            "status" => Some(SectionKind::Status(behind.parse().ok()?)),
+            _ => None,
+        }
+    }
+
+    // Whether its heading says all of it.
+    fn has_no_text(self) -> bool {
+        matches!(
+            self,
+            SectionKind::Breaks(..) | SectionKind::Taken(_) | SectionKind::Status(_)
+        )
+    }
+
     // Whether several may stand one behind another.
     fn repeats(self) -> bool {
         matches!(
@@ -87,29 +121,54 @@ fn hex_digit(byte: u8) -> Option<u8> {
     }
 }
 
+// What a byte of a line comes to.
+#[derive(Clone, Copy)]
+enum Step {
+    // An escape is read so far.
+    Goes(Escape),
+    // This byte is spelled.
+    Spells(u8),
+}
+
+// Reads the byte behind a backslash.
+fn read_begun(byte: u8) -> Result<Step, CaseLineFault> {
+    match byte {
+        b'x' => Ok(Step::Goes(Escape::Hex)),
+        b'n' => Ok(Step::Spells(b'\n')),
+        b'r' => Ok(Step::Spells(b'\r')),
+        b't' => Ok(Step::Spells(b'\t')),
+        b'\\' => Ok(Step::Spells(b'\\')),
+        _ => Err(CaseLineFault::NoEscape),
+    }
+}
+
 impl Escape {
+    // Reads the next byte of a line.
+    fn step(self, byte: u8) -> Result<Step, CaseLineFault> {
+        match self {
+            Escape::Outside if byte == b'\\' => Ok(Step::Goes(Escape::Begun)),
+            Escape::Outside => Ok(Step::Spells(byte)),
+            Escape::Begun => read_begun(byte),
+            Escape::Hex => match hex_digit(byte) {
+                Some(high) => Ok(Step::Goes(Escape::HexDigit(high))),
+                None => Err(CaseLineFault::NoDigit),
+            },
+            Escape::HexDigit(high) => match hex_digit(byte) {
+                Some(low) => Ok(Step::Spells((high << 4) | low)),
+                None => Err(CaseLineFault::NoDigit),
+            },
+        }
+    }
+
     // Reads the next byte of a line, and appends the byte that ends here.
     fn read(self, text: &mut Vec<u8>, byte: u8) -> Result<Escape, CaseLineFault> {
-        let spelled = match (self, byte) {
-            (Escape::Outside, b'\\') => return Ok(Escape::Begun),
-            (Escape::Outside, byte) => byte,
-            (Escape::Begun, b'x') => return Ok(Escape::Hex),
-            (Escape::Begun, b'n') => b'\n',
-            (Escape::Begun, b'r') => b'\r',
-            (Escape::Begun, b't') => b'\t',
-            (Escape::Begun, b'\\') => b'\\',
-            (Escape::Begun, _) => return Err(CaseLineFault::NoEscape),
-            (Escape::Hex, byte) => match hex_digit(byte) {
-                Some(high) => return Ok(Escape::HexDigit(high)),
-                None => return Err(CaseLineFault::NoDigit),
-            },
-            (Escape::HexDigit(high), byte) => match hex_digit(byte) {
-                Some(low) => (high << 4) | low,
-                None => return Err(CaseLineFault::NoDigit),
-            },
-        };
-        text.push(spelled)?;
-        Ok(Escape::Outside)
+        match self.step(byte)? {
+            Step::Goes(escape) => Ok(escape),
+            Step::Spells(spelled) => {
+                text.push(spelled)?;
+                Ok(Escape::Outside)
+            }
+        }
     }
 }
 
@@ -130,23 +189,12 @@ impl<'a> Section<'a> {
             None => (heading, false),
         };
         let part = match words.split_once(' ') {
-            Some(("file", path)) => SectionKind::File(path),
-            Some(("leaves", path)) => SectionKind::Leaves(path),
-            Some(("breaks", words)) if !is_escaped => {
-                let (name, after) = words.rsplit_once(" after ")?;
-                SectionKind::Breaks(name, after.parse().ok()?)
-            }
-            Some(("taken", path)) if !is_escaped => SectionKind::Taken(path),
-            Some(("status", number)) if !is_escaped => SectionKind::Status(number.parse().ok()?),
-            Some(_) => return None,
-            None => match words {
-                "command" => SectionKind::Command,
-                "input" => SectionKind::Input,
-                "output" => SectionKind::Output,
-                "errors" => SectionKind::Errors,
-                _ => return None,
-            },
+            Some((word, behind)) => SectionKind::with(word, behind)?,
+            None => SectionKind::alone(words)?,
         };
+        if is_escaped && part.has_no_text() {
+            return None;
+        }
         Some(Section { part, is_escaped })
     }
 
