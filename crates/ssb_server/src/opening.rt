@@ -193,6 +193,32 @@ fn count_at_table(keeps: Keeps, dispatchers: u32) -> u32
     }
 }
 
+// The clients and dispatchers of a table that was just made, and who reads its log, where somebody does.
+fn seated<C: Replica + Drop, W: EndsCopies + Drop>(
+    alloc: Global,
+    mut made: MadeTable<C, W>,
+    counts: (u32, u32),
+    keeps: Keeps,
+) -> Result<Opened<W, C>, TwinError>
+    requires counts { (counts.0 ≡ made.opened.shared.clients) × (counts.1 ≡ made.opened.shared.dispatchers) }
+    requires few { (counts.0 ≤ most_clients) × (1 ≤ counts.1) × (counts.1 ≤ most_at_table) }
+    requires clients { made.opened.clients.items ≡ new_clients made.opened.shared }
+    requires dispatchers { made.opened.dispatchers.items ≡ new_dispatchers made.opened.shared }
+    requires readers { All (IsNewReader made.opened.shared.base) made.readers.items }
+    requires each { at_table keeps (length made.readers.items) ≡ counts.1 }
+    ensures server { IfOk result (λ seated. seated.server ≡ made.opened.shared) }
+    ensures clients { IfOk result (λ seated. seated.clients.items ≡ new_clients seated.server) }
+    ensures dispatchers { IfOk result (λ seated. with_reader seated.dispatchers.items seated.reader
+        ≡ new_dispatchers seated.server) }
+    ensures reader { IfOk result (λ seated. is_some seated.reader ≡ has_reader keeps) }
+{
+    let reader = reader_of(&mut made.opened.dispatchers, keeps);
+    match seat_all(alloc, made, reader, counts, keeps) {
+        Ok(seated) => Ok(seated),
+        Err(_) => Err(TwinError::OutOfMemory),
+    }
+}
+
 // Builds all parts over a loaded base, for counts in their ranges.
 fn build<W: Threads + Sync + Wait + Drop>(
     alloc: Global,
@@ -212,11 +238,9 @@ fn build<W: Threads + Sync + Wait + Drop>(
     ensures reader { IfOk result (λ made. is_some made.reader ≡ has_reader keeps) }
 {
     let counts = (clients, count_at_table(keeps, dispatchers));
-    let mut made = table_over(alloc, rt, loaded, counts, dispatchers)?;
-    let reader = reader_of(&mut made.opened.dispatchers, keeps);
-    match seat_all(alloc, made, reader, counts, keeps) {
-        Ok(seated) => Ok(seated),
-        Err(_) => Err(TwinError::OutOfMemory),
+    match table_over(alloc, rt, loaded, counts, dispatchers) {
+        Ok(made) => seated(alloc, made, counts, keeps),
+        Err(fault) => Err(fault),
     }
 }
 
