@@ -1,11 +1,9 @@
 pub mod Places
-pub mod Names
+pub mod RowColumns
 pub mod Columns
 pub mod Filters
 pub mod Classed
 pub mod Stored
-pub mod Laid
-pub mod LineOrders
 pub mod Spans
 pub mod Coded
 pub mod Kept
@@ -15,4 +13,5 @@ pub mod Applied
 pub mod ZoneSets
 pub mod Zoned
 pub mod Tables
+pub mod Laid
 pub mod Loading

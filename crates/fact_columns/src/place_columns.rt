@@ -8,7 +8,7 @@ ghost use Rattle.fact_columns.specs.Places.{freed};
 ghost use Rattle.fact_columns.specs.Watching.{scanned_line};
 ghost use Rattle.fact_columns.specs.Zoned.{AreZonesOfPlaces};
 
-use crate::named_columns::NamedColumns;
+use crate::named_rows::NamedRows;
 use crate::place::Place;
 use crate::scanned_line::ScannedLine;
 use crate::table_zones::TableZones;
@@ -17,11 +17,12 @@ use std::alloc::{AllocError, Global};
 use std::marker::Model;
 use std::mem;
 
-/// The columns of the fact table, each as long as the others: of each line the classes of its rows, and its numbers.
-/// Contracts see the places, and for how many more there is memory.
+/// The columns of the fact table, each as long as the others: of each line its order, the classes of its rows, and its
+/// numbers. Contracts see the places, and for how many more there is memory.
 #[derive(Drop)]
 pub struct PlaceColumns {
-    named: NamedColumns,
+    order: Vec<u64>,
+    rows: NamedRows,
     terms: Vec<u16>,
     price: Vec<u32>,
     revenue: Vec<u32>,
@@ -91,7 +92,8 @@ impl PlaceColumns {
         ensures { result ≡ record { places = []; room = 0 } }
     {
         PlaceColumns {
-            named: NamedColumns::new(),
+            order: Vec::new(alloc),
+            rows: NamedRows::new(),
             terms: Vec::new(alloc),
             price: Vec::new(alloc),
             revenue: Vec::new(alloc),
@@ -108,7 +110,7 @@ impl PlaceColumns {
     pub fn len(&self) -> usize
         ensures { result ≡ length self.now.places }
     {
-        self.terms.len()
+        self.order.len()
     }
 
     /// Takes memory for so many places more, in every column.
@@ -118,6 +120,7 @@ impl PlaceColumns {
         ensures exact { OnOk result (self.new.room ≡ count) }
         ensures unchanged { OnErr result (self.new ≡ self.old) }
     {
+        self.order.reserve(count)?;
         self.terms.reserve(count)?;
         self.price.reserve(count)?;
         self.revenue.reserve(count)?;
@@ -126,8 +129,17 @@ impl PlaceColumns {
         self.supplier_class.reserve(count)?;
         self.part_class.reserve(count)?;
         self.date_class.reserve(count)?;
-        self.capacity = self.terms.len() + count;
+        self.capacity = self.order.len() + count;
         Ok(())
+    }
+
+    /// The order of what stands at a place.
+    #[inline(always)]
+    pub fn order(&self, place: usize) -> u64
+        requires { place < length self.now.places }
+        ensures { (other : PlainPlace) → result ≡ (slice_index_or self.now.places place other).order }
+    {
+        self.order[place]
     }
 
     /// The line at a place, as queries read it.
@@ -155,7 +167,8 @@ impl PlaceColumns {
         ensures places { self.new.places ≡ set self.old.places place with }
         ensures room { self.new.room ≡ self.old.room }
     {
-        self.named.write(place, &with);
+        self.order[place] = with.order;
+        self.rows.write(place, &with);
         self.terms[place] = with.terms;
         self.price[place] = with.price;
         self.revenue[place] = with.revenue;
@@ -184,7 +197,8 @@ impl PlaceColumns {
         ensures places { self.new.places ≡ self.old.places ++ with ∷ [] }
         ensures room { self.old.room ≡ self.new.room + 1 }
     {
-        self.named.push(&with);
+        self.order.push_reserved(with.order);
+        self.rows.push(&with);
         self.terms.push_reserved(with.terms);
         self.price.push_reserved(with.price);
         self.revenue.push_reserved(with.revenue);
@@ -202,7 +216,8 @@ impl PlaceColumns {
         ensures unchanged { OnErr result (self.new ≡ self.old) }
     {
         self.reserve(other.len())?;
-        self.named.append(&other.named);
+        extend(&mut self.order, other.order.as_slice());
+        self.rows.append(&other.rows);
         extend(&mut self.terms, other.terms.as_slice());
         extend(&mut self.price, other.price.as_slice());
         extend(&mut self.revenue, other.revenue.as_slice());
@@ -223,7 +238,8 @@ impl PlaceColumns {
         ensures room { IfOk result (λ laid. laid.room ≡ 0) }
     {
         let PlaceColumns {
-            mut named,
+            mut order,
+            mut rows,
             mut terms,
             mut price,
             mut revenue,
@@ -234,9 +250,10 @@ impl PlaceColumns {
             mut date_class,
             capacity: _,
         } = self;
-        named.lay(places);
+        rows.lay(places);
+        lay_apart(&mut order, places, 0)?;
         lay_apart(&mut terms, places, 0)?;
-        let mut spare = vec![in *terms.allocator(); 0u32; places.len()]?;
+        let mut spare = vec![in *order.allocator(); 0u32; places.len()]?;
         lay(&mut price, places, &mut spare);
         lay(&mut revenue, places, &mut spare);
         lay(&mut cost, places, &mut spare);
@@ -245,7 +262,8 @@ impl PlaceColumns {
         lay(&mut part_class, places, &mut spare);
         lay(&mut date_class, places, &mut spare);
         Ok(PlaceColumns {
-            named,
+            order,
+            rows,
             terms,
             price,
             revenue,
@@ -284,11 +302,12 @@ impl PlaceColumns {
         ensures places { IfOk result (λ copy. copy.places ≡ self.now.places) }
         ensures room { IfOk result (λ copy. copy.room ≡ 0) }
     {
-        let alloc = *self.terms.allocator();
-        let mut named = NamedColumns::new();
-        named.append(&self.named);
+        let alloc = *self.order.allocator();
+        let mut rows = NamedRows::new();
+        rows.append(&self.rows);
         Ok(PlaceColumns {
-            named,
+            order: self.order.to_vec(alloc)?,
+            rows,
             terms: self.terms.to_vec(alloc)?,
             price: self.price.to_vec(alloc)?,
             revenue: self.revenue.to_vec(alloc)?,
@@ -297,7 +316,7 @@ impl PlaceColumns {
             supplier_class: self.supplier_class.to_vec(alloc)?,
             part_class: self.part_class.to_vec(alloc)?,
             date_class: self.date_class.to_vec(alloc)?,
-            capacity: self.terms.len(),
+            capacity: self.order.len(),
         })
     }
 }

@@ -1,41 +1,40 @@
-//! Which order and which rows the lines name.
+//! Which rows the lines name.
 ghost use Rattle.std.specs.Prelude.{◌≡◌};
 ghost use Rattle.std.specs.Borrow.{ftrue};
-ghost use Rattle.fact_columns.specs.Names.{Names, appended, laid, names_of, no_names, written};
+ghost use Rattle.fact_columns.specs.RowColumns.{RowColumns, appended, laid, no_rows, rows_of, written};
 
 use crate::place::Place;
 use std::marker::{Model, PhantomData};
 
-/// The columns of what the lines of places name: their orders by key, and their rows by position. A scan reads the
-/// rows' classes, and the orders of lines stand elsewhere, so no memory holds these columns: they stand in clauses
-/// alone. Each method does nothing.
+/// The rows that the lines of places name, by position. A scan reads the rows' classes, so no memory holds these: they
+/// stand in clauses alone. Each method does nothing.
 #[derive(Drop)]
-pub struct NamedColumns {
+pub struct NamedRows {
     marker: PhantomData<u8>,
-    pub ghost columns: { Names },
+    pub ghost columns: { RowColumns },
 }
 
-impl Model for NamedColumns {
+impl Model for NamedRows {
     ghost also_owns = { λ _. ftrue };
 }
 
-impl NamedColumns {
+impl NamedRows {
     /// Of no place.
-    pub fn new() -> NamedColumns
-        ensures { result.columns ≡ no_names }
+    pub fn new() -> NamedRows
+        ensures { result.columns ≡ no_rows }
     {
-        NamedColumns {
+        NamedRows {
             marker: PhantomData,
         }
     }
 
     /// A place more.
     pub fn push(&mut self, _place: &Place)
-        ensures { self.new.columns ≡ appended self.old.columns (names_of _place.now) }
+        ensures { self.new.columns ≡ appended self.old.columns (rows_of _place.now) }
     {}
 
     /// Places more.
-    pub fn append(&mut self, _others: &NamedColumns)
+    pub fn append(&mut self, _others: &NamedRows)
         ensures { self.new.columns ≡ appended self.old.columns _others.now.columns }
     {}
 
@@ -50,6 +49,6 @@ impl NamedColumns {
     {}
 }
 
-unsafe impl Send for NamedColumns {}
+unsafe impl Send for NamedRows {}
 
-unsafe impl Sync for NamedColumns {}
+unsafe impl Sync for NamedRows {}
