@@ -50,7 +50,7 @@ class Commit:
                 line = [field if place in TEXT_FIELDS else int(field) for place, field in enumerate(fields)]
                 self.actions[-1].lines.append(line)
                 self.actions[-1].key = line[0]
-            elif word in ("add", "amend"):
+            elif word in ("add", "amend", "put"):
                 self.actions.append(Order(word, None, []))
             else:
                 raise Disagreement(f"a commit of the journal has the record {record}")

@@ -131,9 +131,9 @@ class Steady(Balanced):
             return Refresh([Withdrawal(self.own.pop(0))])
         if self.own and self.chance(0.2):
             key = self.random.choice(self.own)
-            return Refresh([Order("amend", key, self.lines(key))])
+            return Refresh([Order(self.random.choice(["amend", "put"]), key, self.lines(key))])
         key = self.new_key()
-        return Refresh([Order("add", key, self.lines(key))])
+        return Refresh([Order(self.random.choice(["add", "add", "put"]), key, self.lines(key))])
 
 
 class Ahead(Client):

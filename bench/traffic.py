@@ -142,10 +142,11 @@ class Traffic:
         return Refresh([self.action() for _ in range(count)])
 
     def action(self):
-        word = self.random.choice(["add", "add", "amend", "withdraw", "withdraw"])
+        word = self.random.choice(["add", "add", "amend", "put", "withdraw", "withdraw"])
         if word == "withdraw":
             return Withdrawal(self.live_key(leaves=True))
-        key = self.new_key() if word == "add" else self.live_key(leaves=False)
+        is_new = word == "add" or word == "put" and self.chance(0.5)
+        key = self.new_key() if is_new else self.live_key(leaves=False)
         return Order(word, key, self.lines(key))
 
     def common_key(self):

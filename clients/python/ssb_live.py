@@ -481,6 +481,10 @@ class Refresh:
         """Puts an order of these lines in the place of the one with its key."""
         self._order("amend", lines)
 
+    def put(self, *lines):
+        """Puts an order of these lines in the place of the one with its key, or adds it where there is none."""
+        self._order("put", lines)
+
     def withdraw(self, key):
         """Removes all lines of the order with this key."""
         self.records.append(f"withdraw|{line_field('LO_ORDERKEY', key)}")

@@ -386,6 +386,14 @@ class Refreshes(Trial):
         answer = self.live.ask("Q1.1")
         self.assertEqual((refresh.committed, answer.at, answer.rows), (1, 1, [(200 + 2000 + 20,)]))
 
+    def test_an_order_is_put_whether_it_is_live_or_not(self):
+        with self.live.refresh() as refresh:
+            refresh.put(line(9, 1, 100), line(9, 2, 1000))
+            refresh.put(line(7, 4, 10))
+            refresh.put(dict(zip(ssb_live.LINEORDER, line(9, 3, 30))))
+        self.assertEqual((refresh.committed, self.live.ask("Q1.1").rows), (1, [(10 * 2 + 30 * 2,)]))
+        self.assertEqual([[row[1] for row in self.live.order(key)] for key in (7, 9)], [[4], [3]])
+
     def test_an_order_is_shown_as_it_is_then(self):
         answer = self.live.order(7)
         self.assertEqual((answer.name, answer.at, answer.columns), ("order", 0, ssb_live.LINEORDER))
@@ -453,6 +461,9 @@ class Refreshes(Trial):
                 refresh.add(line(9, date=20260101))
                 refresh.withdraw(8)
         self.assertEqual((told.exception.column, told.exception.values), ("LO_ORDERDATE", ["20260101"]))
+        with self.raises(ssb_live.Refused, "action 1: 45 UnknownDate: LO_ORDERDATE is 20260102"):
+            with self.live.refresh() as refresh:
+                refresh.put(line(7, date=20260102))
         for work, text, key in [(lambda it: it.add(line(7)), "41 Present 7", "7"),
                                 (lambda it: it.amend(line(77)), "48 AmendAbsent 77", "77"),
                                 (lambda it: it.withdraw(77), "47 Absent 77", "77")]:

@@ -94,9 +94,9 @@ the order given, the line 'client K' and the report of its records, and at the e
 then writes the commits and the answers into FILE, which 'ssb_live audit' checks.
 
 A script has one record on a line. 'query|NAME' or 'query|NAME|CONSTANT..' asks. 'ask', then 1 to 16 of these, then
-'answer' asks them together: all are answered after the same commits. 'begin', then 'add' or 'amend' with 'line|..'
-records, and 'withdraw|KEY', then 'commit' is one refresh, which is accepted whole or refused whole. 'order|KEY' shows
-the lines of an order.
+'answer' asks them together: all are answered after the same commits. 'begin', then 'add', 'amend' or 'put' with
+'line|..' records, and 'withdraw|KEY', then 'commit' is one refresh, which is accepted whole or refused whole.
+'order|KEY' shows the lines of an order.
 
 With --standing the questions of FILE stand: each keeps totals that follow the commits, and is answered from these. The
 reports are the same without it.
@@ -182,7 +182,7 @@ Examples:
 pub const CHANGES_HELP: &str = "\
 Reads the commits that 'ssb_live serve --journal' kept in FILE, with the same five table files of a folder, and prints
 what they changed, for other systems. A line 'N|1|' and the 17 fields of a line order: commit N brought this line. A
-line 'N|-1|' and the fields: commit N took it away, by a withdrawal, or as one of the lines that an amended order had.
+line 'N|-1|' and the fields: commit N took it away, by a withdrawal, or as one that an order had before an amend or put.
 Of each line the signs up to commit N add up to 1 where it is live after N commits, and to 0 where it is not.
 
 With --base the loaded lines come first, as those of commit 0. With --after N the commits behind the first N are
@@ -245,7 +245,7 @@ pub const TERMINAL_HELP: &str = help_with_questions!(
 Q1.1 asks with the benchmark's constants, and Q1.1 1994 1 3 0 24 with these. Names may be in any case. A constant with a
 blank in it stands in quotes: star COUNT 'C_REGION=MIDDLE EAST'; or bars part the fields: star|COUNT|C_REGION=MIDDLE
 EAST. ask, then 1 to 16 questions, then answer asks them together: all are answered after the same commits. begin, then
-add or amend with line|.. records, and withdraw KEY, then commit is one refresh; nothing of it is done without commit.
+add, amend or put with line|.. records, and withdraw KEY, then commit is one refresh; without commit nothing is done.
 
   order 7     shows the lines of order 7, as they are then
   abort       drops the refresh, or the questions, that were begun
@@ -304,7 +304,7 @@ loaded: refreshes change lineorder alone. To see which values a column has, grou
 
 /// What the words `help begin` show there.
 pub const REFRESH_HELP: &str = "\
-A refresh adds, amends and withdraws whole orders. All of it is done at its commit, or nothing of it.
+A refresh adds, amends, puts and withdraws whole orders. All of it is done at its commit, or nothing of it.
 
   begin
   add
@@ -312,9 +312,10 @@ A refresh adds, amends and withdraws whole orders. All of it is done at its comm
   withdraw 7
   commit
 
-add makes an order of the 1 to 7 lines below it; amend puts such an order in the place of the one with its key; withdraw
-removes the order of a key. The fields of a line are, in this order: LO_ORDERKEY, LO_LINENUMBER, LO_CUSTKEY, LO_PARTKEY,
-LO_SUPPKEY, LO_ORDERDATE, LO_ORDERPRIORITY, LO_SHIPPRIORITY, LO_QUANTITY, LO_EXTENDEDPRICE, LO_ORDTOTALPRICE,
-LO_DISCOUNT, LO_REVENUE, LO_SUPPLYCOST, LO_TAX, LO_COMMITDATE, LO_SHIPMODE. Its customer, part, supplier and order date
-are rows of the load. abort in the place of commit drops the refresh.
+add makes an order of the 1 to 7 lines below it; amend puts such an order in the place of the one with its key; put does
+so, too, where there is one, and else adds it; withdraw removes the order of a key. The fields of a line are, in this
+order: LO_ORDERKEY, LO_LINENUMBER, LO_CUSTKEY, LO_PARTKEY, LO_SUPPKEY, LO_ORDERDATE, LO_ORDERPRIORITY, LO_SHIPPRIORITY,
+LO_QUANTITY, LO_EXTENDEDPRICE, LO_ORDTOTALPRICE, LO_DISCOUNT, LO_REVENUE, LO_SUPPLYCOST, LO_TAX, LO_COMMITDATE,
+LO_SHIPMODE. Its customer, part, supplier and order date are rows of the load. abort in the place of commit drops the
+refresh.
 ";

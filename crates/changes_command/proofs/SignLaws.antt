@@ -8,7 +8,7 @@ use Rattle.row_store.specs.Lines.{added_by, lines_after_action, lines_after_refr
 use Rattle.ssb_schema.specs.Orders.{order_key}
 use Rattle.ssb_schema.specs.declared.line.LineFields.{LineFields}
 use Rattle.ssb_schema.specs.declared.refresh.Action.{Action}
-use Rattle.ssb_schema.specs.declared.refresh.Action.TheVariants.{Add, Amend, Withdraw}
+use Rattle.ssb_schema.specs.declared.refresh.Action.TheVariants.{Add, Amend, Put, Withdraw}
 use Rattle.changes_command.specs.Laws.{SignsAddUp, came_by, went_by}
 use Rattle.changes_command.specs.Signed.{SignedLine, changes_behind, changes_by, changes_by_all, signed, signed_lines}
 use Rattle.changes_command.specs.Signed.{taken_by}
@@ -85,6 +85,8 @@ after_action : (holds : LineFields → Bool) (lines : List LineFields) (action :
     + count_by holds (lines_after_action lines action)
 after_action holds lines (Add order) = grind (arith, count_both)
 after_action holds lines (Amend order) =
+    grind (arith, count_both, kept_and_gone (order_key order) holds lines)
+after_action holds lines (Put order) =
     grind (arith, count_both, kept_and_gone (order_key order) holds lines)
 after_action holds lines (Withdraw key) = grind (arith, kept_and_gone key holds lines)
 

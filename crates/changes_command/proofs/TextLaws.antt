@@ -1,11 +1,12 @@
 -- The text of signed lines, in parts.
 use Rattle.std.proofs.Common.{◌≡◌, ℕ, zero, suc, ◌+◌, ◌<◌, Bool, true, false, cond, leb, List, [], ◌∷◌, ◌++◌, length}
 use Rattle.std.proofs.Common.{take, drop, get_or, slice_get, flat_map, decimal, refl, sym, ap, ◌∙◌, arith}
-use Rattle.std.proofs.Common.{append_assoc, append-nil, Option, Some, None, Result, Ok, Err, OnOk}
+use Rattle.std.proofs.Common.{append_assoc, append-nil, inl, inr, Option, Some, None, Result, Ok, Err, OnOk}
 use Rattle.std.proofs.lemmas.List.{take_more, take-append-drop}
 use Rattle.std.proofs.lemmas.List.Concat.{flat_map-append}
 use Rattle.std.proofs.lemmas.List.Sums.{fold-append}
 use Rattle.std.specs.Option.{option_map, option_or}
+use Rattle.row_store.proofs.ReplacedLaws.{Replaces}
 use Rattle.row_store.specs.History.{CommitRecord, lines_after}
 use Rattle.row_store.specs.Lines.{added_by, lines_after_action, lines_after_refresh, lines_of}
 use Rattle.row_store.specs.Refusals.{cause_of, first_refusal, refusal_of}
@@ -17,7 +18,7 @@ use Rattle.ssb_schema.specs.Orders.{order_key}
 use Rattle.ssb_schema.specs.Rows.{line_values}
 use Rattle.ssb_schema.specs.declared.line.LineFields.{LineFields}
 use Rattle.ssb_schema.specs.declared.refresh.Action.{Action}
-use Rattle.ssb_schema.specs.declared.refresh.Action.TheVariants.{Add, Amend, Withdraw}
+use Rattle.ssb_schema.specs.declared.refresh.Action.TheVariants.{Add, Amend, Put, Withdraw}
 use Rattle.ssb_text.specs.TableText.{row_text}
 use Rattle.changes_command.specs.Signed.{SignedLine, changes_by, changes_by_all, signed}
 use Rattle.changes_command.specs.SignedText.{barred, lines_text, sign_text}
@@ -68,10 +69,14 @@ pub text_of_added : (format : ChangesFormat) (commit : ℕ) (lines order : List 
     → lines_text format (changes_by commit lines (Add order)) ≡ flat_map (signed_text format commit Came) order
 text_of_added format commit lines order = text_of_action format commit lines (Add order)
 
-pub text_of_amended : (format : ChangesFormat) (commit : ℕ) (lines order : List LineFields)
-    → lines_text format (changes_by commit lines (Amend order))
+pub text_of_replaced : (format : ChangesFormat) (commit : ℕ) (lines : List LineFields) (action : Action)
+    (order : List LineFields) → Replaces action order
+    → lines_text format (changes_by commit lines action)
     ≡ flat_map (signed_text format commit Went) (lines_of (order_key order) lines) ++ flat_map (signed_text format commit Came) order
-text_of_amended format commit lines order = text_of_action format commit lines (Amend order)
+text_of_replaced format commit lines action order (inl is) =
+    ap (λ a. lines_text format (changes_by commit lines a)) is ∙ text_of_action format commit lines (Amend order)
+text_of_replaced format commit lines action order (inr is) =
+    ap (λ a. lines_text format (changes_by commit lines a)) is ∙ text_of_action format commit lines (Put order)
 
 pub text_of_withdrawn : (format : ChangesFormat) (commit key : ℕ) (lines : List LineFields)
     → lines_text format (changes_by commit lines (Withdraw key)) ≡ flat_map (signed_text format commit Went) (lines_of key lines)

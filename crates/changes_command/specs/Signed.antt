@@ -6,7 +6,7 @@ use Rattle.ssb_base.specs.Base.{Tables}
 use Rattle.ssb_schema.specs.Orders.{order_key}
 use Rattle.ssb_schema.specs.declared.line.LineFields.{LineFields}
 use Rattle.ssb_schema.specs.declared.refresh.Action.{Action}
-use Rattle.ssb_schema.specs.declared.refresh.Action.TheVariants.{Add, Amend, Withdraw}
+use Rattle.ssb_schema.specs.declared.refresh.Action.TheVariants.{Add, Amend, Put, Withdraw}
 use Rattle.changes_command.specs.declared.signed.ChangesStart.{ChangesStart}
 use Rattle.changes_command.specs.declared.signed.ChangesStart.TheVariants.{Loaded, Behind}
 use Rattle.changes_command.specs.declared.signed.Sign.{Sign}
@@ -26,10 +26,11 @@ pub record SignedLine : Type 0 where
 abbrev pub signed : ℕ → Sign → List LineFields → List SignedLine
 signed commit sign lines = map (λ line. record { commit = commit; sign = sign; line = line }) lines
 
--- the live lines that go by an action: those of the order that it amends or withdraws
+-- the live lines that go by an action: those of the order that it amends, puts or withdraws
 abbrev pub taken_by : List LineFields → Action → List LineFields
 taken_by lines (Add order) = []
 taken_by lines (Amend order) = lines_of (order_key order) lines
+taken_by lines (Put order) = lines_of (order_key order) lines
 taken_by lines (Withdraw key) = lines_of key lines
 
 -- what an action changes: the lines that go by it, and then those that it adds

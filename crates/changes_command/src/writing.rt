@@ -68,7 +68,7 @@ fn held_after<'a>(held: Option<&'a [Line]>, action: &'a Action, key: u64) -> Opt
                 held
             }
         }
-        Action::Amend(order) => {
+        Action::Amend(order) | Action::Put(order) => {
             let lines = order.lines();
             if order.key() == key {
                 Some(lines)
@@ -129,7 +129,7 @@ fn write_action<W: Write>(
 {
     match action {
         Action::Add(order) => write_lines(out, format, commit, Sign::Came, order.lines()),
-        Action::Amend(order) => {
+        Action::Amend(order) | Action::Put(order) => {
             write_taken(out, format, store, commit, earlier, order.key())?;
             write_lines(out, format, commit, Sign::Came, order.lines())
         }

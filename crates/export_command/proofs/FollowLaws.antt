@@ -1,7 +1,7 @@
 -- The orders that stand follow actions and commits.
 use Rattle.std.proofs.Common.{◌≡◌, ℕ, zero, suc, ◌+◌, ◌<◌, ◌≤◌, false, List, [], ◌∷◌, ◌++◌, length, take, drop, get_or}
 use Rattle.std.proofs.Common.{slice_get, Some, None, refl, sym, ap, ◌∙◌, subst, arith, append_assoc, append-nil}
-use Rattle.std.proofs.Common.{length-append}
+use Rattle.std.proofs.Common.{inl, inr, length-append}
 use Rattle.std.specs.List.{AllByRecursion}
 use Rattle.std.proofs.lemmas.List.Concat.{flat_map-append}
 use Rattle.std.proofs.lemmas.List.Elements.{recursion_from_All}
@@ -11,12 +11,13 @@ use Rattle.row_store.specs.Legal.{IsLegal}
 use Rattle.row_store.specs.Lines.{added_by, is_present, lines_after_action, lines_after_refresh, lines_without}
 use Rattle.row_store.specs.Refusals.{cause_of, first_refusal, refusal_of}
 use Rattle.row_store.proofs.CauseLaws.{none_refused-next}
+use Rattle.row_store.proofs.ReplacedLaws.{Replaces, replaced_added, replaced_after}
 use Rattle.row_store.proofs.StateLaws.{lines_after-push}
 use Rattle.ssb_base.specs.Base.{Tables}
 use Rattle.ssb_schema.specs.declared.line.LineFields.{LineFields}
 use Rattle.ssb_schema.specs.Orders.{IsOrder, order_key}
 use Rattle.ssb_schema.specs.declared.refresh.Action.{Action}
-use Rattle.ssb_schema.specs.declared.refresh.Action.TheVariants.{Add, Amend, Withdraw}
+use Rattle.ssb_schema.specs.declared.refresh.Action.TheVariants.{Add, Withdraw}
 use Rattle.export_command.specs.After.{AddsOrder, actions_of}
 use Rattle.export_command.specs.Standing.{AreLeft, Follows, lines_at}
 use Rattle.export_command.specs.declared.standing_orders.StandingOrders.{StandingOrders}
@@ -90,15 +91,21 @@ without_it : (key : ℕ) (lines : List LineFields) → is_present key (lines_wit
 without_it key [] = refl
 without_it key (line ∷ lines) = grind (arith, without_it key lines)
 
-pub notes_amend : (actions : List Action) (place key : ℕ) (order : List LineFields) (old mid new : StandingOrders)
-    → slice_get actions place ≡ Some (Amend order) → key ≡ order_key order → Leaves key old mid
-    → Joins key (lines_at actions place) mid new → NotesAction actions place old new
-notes_amend actions place key order old mid new at same leaves joins base lines action here none left =
-    subst (λ a. AreLeft base.lines (lines_after_action lines a) new)
-    (same_there actions place (Amend order) action at here)
+pub replaced_order : (action : Action) (order : List LineFields) → Replaces action order → AddsOrder action
+    → IsOrder order
+replaced_order action order (inl is) adds = subst AddsOrder is adds
+replaced_order action order (inr is) adds = subst AddsOrder is adds
+
+pub notes_replace : (actions : List Action) (place key : ℕ) (one : Action) (order : List LineFields)
+    (old mid new : StandingOrders) → slice_get actions place ≡ Some one → Replaces one order → key ≡ order_key order
+    → Leaves key old mid → Joins key (lines_at actions place) mid new → NotesAction actions place old new
+notes_replace actions place key one order old mid new at by same leaves joins base lines action here none left =
+    subst (λ a. AreLeft base.lines (lines_after_action lines a) new) (same_there actions place one action at here)
+    (subst (λ l. AreLeft base.lines l new) (sym (replaced_after lines one order by))
     (subst (λ k. AreLeft base.lines (lines_without k lines ++ order) new) same
-    (subst (λ l. AreLeft base.lines (lines_without key lines ++ l) new) (lines_there actions place (Amend order) at)
-    (joins base.lines (lines_without key lines) (without_it key lines) (leaves base.lines lines left))))
+    (subst (λ l. AreLeft base.lines (lines_without key lines ++ l) new)
+    (lines_there actions place one at ∙ replaced_added one order by)
+    (joins base.lines (lines_without key lines) (without_it key lines) (leaves base.lines lines left)))))
 
 pub notes_withdraw : (actions : List Action) (place key : ℕ) (old new : StandingOrders)
     → slice_get actions place ≡ Some (Withdraw key) → Leaves key old new → NotesAction actions place old new

@@ -20,7 +20,7 @@ use Rattle.ssb_base.specs.Base.{supplier_key}
 use Rattle.ssb_schema.specs.Orders.{IsOrder, order_key}
 use Rattle.ssb_schema.specs.declared.line.LineFields.{LineFields}
 use Rattle.ssb_schema.specs.declared.refresh.Action.{Action}
-use Rattle.ssb_schema.specs.declared.refresh.Action.TheVariants.{Add, Amend, Withdraw}
+use Rattle.ssb_schema.specs.declared.refresh.Action.TheVariants.{Add, Amend, Put, Withdraw}
 use Rattle.export_command.specs.After.{AddsOrder, TablesAfterAreSound, actions_of}
 use Rattle.export_command.proofs.ApartLaws.{IsApart, all_append, all_filter, all_more, apart_append, apart_filter}
 use Rattle.export_command.proofs.NextLaws.{at_seam, front_of}
@@ -124,6 +124,7 @@ good-action : (base : Tables) (lines : List LineFields) (action : Action) → Ar
     → AddsOrder action → cause_of base lines action ≡ None → AreGood base.dimensions (lines_after_action lines action)
 good-action base lines (Add order) good is none = grind (arith, none_tested, good-joined, absent, order-known)
 good-action base lines (Amend order) good is none = grind (arith, good-joined, good-without, without-it, order-known)
+good-action base lines (Put order) good is none = grind (arith, good-joined, good-without, without-it, order-known)
 good-action base lines (Withdraw key) good is none = grind (arith, good-without)
 
 both-none : {X Y : Type 0} (f : X → Y) (first : Option X) (second : Option Y)

@@ -10,7 +10,7 @@ use Rattle.row_store.specs.Lines.{added_by, lines_after_action, lines_after_refr
 use Rattle.row_store.proofs.AbsorbedLaws.{absorbed}
 use Rattle.ssb_schema.specs.declared.line.LineFields.{LineFields}
 use Rattle.ssb_schema.specs.declared.refresh.Action.{Action}
-use Rattle.ssb_schema.specs.declared.refresh.Action.TheVariants.{Add, Amend, Withdraw}
+use Rattle.ssb_schema.specs.declared.refresh.Action.TheVariants.{Add, Amend, Put, Withdraw}
 use Rattle.export_command.specs.After.{LinesStand, actions_of, goes_by, standing, standing_added}
 
 -- the commits one after another are their actions one after another
@@ -43,6 +43,7 @@ drop-front {X = X} front x back = ap (λ n. drop n (front ++ x ∷ back)) (add-o
 of-none : (action : Action) → lines_after_action [] action ≡ added_by action
 of-none (Add order) = refl
 of-none (Amend order) = refl
+of-none (Put order) = refl
 of-none (Withdraw key) = refl
 
 -- what actions make of no lines, which come behind others

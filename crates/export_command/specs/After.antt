@@ -10,7 +10,7 @@ use Rattle.ssb_base.specs.Base.{Tables, IsSound}
 use Rattle.ssb_schema.specs.declared.line.LineFields.{LineFields}
 use Rattle.ssb_schema.specs.Orders.{IsOrder}
 use Rattle.ssb_schema.specs.declared.refresh.Action.{Action}
-use Rattle.ssb_schema.specs.declared.refresh.Action.TheVariants.{Add, Amend, Withdraw}
+use Rattle.ssb_schema.specs.declared.refresh.Action.TheVariants.{Add, Amend, Put, Withdraw}
 
 -- the dimensions as they were, and the lines after the history
 abbrev pub tables_after : Tables → List CommitRecord → Tables
@@ -49,6 +49,7 @@ LinesStand = (base : Tables) (history : List CommitRecord) → let actions = act
 abbrev pub AddsOrder : Action → Type 0
 AddsOrder (Add order) = IsOrder order
 AddsOrder (Amend order) = IsOrder order
+AddsOrder (Put order) = IsOrder order
 AddsOrder (Withdraw key) = Unit {0}
 
 -- the tables after a legal history of such actions keep what those of a base keep

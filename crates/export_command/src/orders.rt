@@ -10,7 +10,7 @@ pub(crate) fn adds_order(action: &Action)
     ensures { AddsOrder action.now }
 {
     match action {
-        Action::Add(order) | Action::Amend(order) => {
+        Action::Add(order) | Action::Amend(order) | Action::Put(order) => {
             let _lines = order.lines();
         }
         Action::Withdraw(_) => {}

@@ -42,7 +42,7 @@ fn lines_added(action: &Action) -> &[Line]
     ensures { result.now ≡ added_by action.now }
 {
     match action {
-        Action::Add(order) | Action::Amend(order) => order.lines(),
+        Action::Add(order) | Action::Amend(order) | Action::Put(order) => order.lines(),
         Action::Withdraw(_) => &[],
     }
 }
@@ -163,7 +163,7 @@ impl StandingOrders {
         adds_order(action);
         match action {
             Action::Add(order) => self.join(order.key(), refresh, place),
-            Action::Amend(order) => {
+            Action::Amend(order) | Action::Put(order) => {
                 let key = order.key();
                 self.leave(key)?;
                 self.join(key, refresh, place)

@@ -7,7 +7,7 @@ use Rattle.ssb_schema.specs.Facts.{facts_of}
 use Rattle.ssb_schema.specs.declared.fact.Fact.{Fact}
 use Rattle.ssb_schema.specs.declared.line.LineFields.{LineFields}
 use Rattle.ssb_schema.specs.declared.refresh.Action.{Action}
-use Rattle.ssb_schema.specs.declared.refresh.Action.TheVariants.{Add, Amend, Withdraw}
+use Rattle.ssb_schema.specs.declared.refresh.Action.TheVariants.{Add, Amend, Put, Withdraw}
 use Rattle.ssb_schema.specs.Orders.{order_key}
 use Rattle.row_store.specs.State.{Counts, with_fact, fact_counts}
 use Rattle.fact_columns.specs.declared.place.Place.{Place}
@@ -50,4 +50,5 @@ with_places dimensions counts places = fold (λ m place. with_fact m (fact_at di
 abbrev pub key_of : Action → ℕ
 key_of (Add order) = order_key order
 key_of (Amend order) = order_key order
+key_of (Put order) = order_key order
 key_of (Withdraw key) = key

@@ -11,7 +11,7 @@ pub fn added(action: &Action) -> &[Line]
     ensures alike { All (λ line. line.order_key ≡ key_of action.now) result.now }
 {
     match action {
-        Action::Add(order) | Action::Amend(order) => order.lines(),
+        Action::Add(order) | Action::Amend(order) | Action::Put(order) => order.lines(),
         Action::Withdraw(_) => &[],
     }
 }

@@ -134,7 +134,7 @@ fn apply_action<W: Watch>(
             add(table, spans, hints, watch, order.key(), lines);
             0
         }
-        Action::Amend(order) => {
+        Action::Amend(order) | Action::Put(order) => {
             let freed = withdraw(table, spans, hints, watch, order.key());
             add(table, spans, hints, watch, order.key(), lines);
             freed

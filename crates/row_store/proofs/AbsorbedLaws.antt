@@ -5,7 +5,7 @@ use Rattle.std.proofs.lemmas.Bool.Decides.{nat_tests}
 use Rattle.std.proofs.lemmas.List.Elements.{filter-append}
 use Rattle.ssb_schema.specs.declared.line.LineFields.{LineFields}
 use Rattle.ssb_schema.specs.declared.refresh.Action.{Action}
-use Rattle.ssb_schema.specs.declared.refresh.Action.TheVariants.{Add, Amend, Withdraw}
+use Rattle.ssb_schema.specs.declared.refresh.Action.TheVariants.{Add, Amend, Put, Withdraw}
 use Rattle.ssb_schema.specs.Orders.{order_key}
 use Rattle.row_store.specs.Lines.{is_of, lines_without, lines_after_refresh}
 use Rattle.row_store.specs.Absorbing.{gone_by, lines_without_all}
@@ -23,21 +23,33 @@ without_more : (key : ℕ) (keys : List ℕ) (lines : List LineFields)
 without_more key keys [] = grind arith
 without_more key keys (line ∷ lines) = grind (arith, flip, without_more key keys lines)
 
+-- lines in the place of those of their order: the rest, told apart, as the actions behind them tell it
+replaced : (lines more order : List LineFields) (actions : List Action) → let key = order_key order in
+    let fresh = lines_without key more ++ order in
+    lines_after_refresh (lines_without key lines ++ fresh) actions
+    ≡ lines_without_all (flat_map gone_by actions) (lines_without key lines) ++ lines_after_refresh fresh actions
+    → lines_after_refresh (lines_without key (lines ++ more) ++ order) actions
+    ≡ lines_without_all (key ∷ flat_map gone_by actions) lines ++ lines_after_refresh fresh actions
+replaced lines more order actions rest =
+    let key = order_key order in
+    let kept : lines_without key (lines ++ more) ≡ lines_without key lines ++ lines_without key more =
+    filter-append (λ line. not (is_of key line)) lines more in
+    ap (λ l. lines_after_refresh (l ++ order) actions) kept
+    ∙ ap (λ l. lines_after_refresh l actions) (append_assoc (lines_without key lines) (lines_without key more) order)
+    ∙ rest
+    ∙ ap (λ l. l ++ lines_after_refresh (lines_without key more ++ order) actions)
+    (without_more key (flat_map gone_by actions) lines)
+
 split : (lines more : List LineFields) (actions : List Action)
     → lines_after_refresh (lines ++ more) actions ≡ lines_without_all (flat_map gone_by actions) lines
     ++ lines_after_refresh more actions
 split lines more [] = ap (λ l. l ++ more) (sym (without_none lines))
 split lines more (Add order ∷ actions) =
     ap (λ l. lines_after_refresh l actions) (append_assoc lines more order) ∙ split lines (more ++ order) actions
-split lines more (Amend order ∷ actions) =
-    let key = order_key order in
-    let kept : lines_without key (lines ++ more) ≡ lines_without key lines ++ lines_without key more =
-    filter-append (λ line. not (is_of key line)) lines more in
-    ap (λ l. lines_after_refresh (l ++ order) actions) kept
-    ∙ ap (λ l. lines_after_refresh l actions) (append_assoc (lines_without key lines) (lines_without key more) order)
-    ∙ split (lines_without key lines) (lines_without key more ++ order) actions
-    ∙ ap (λ l. l ++ lines_after_refresh (lines_without key more ++ order) actions)
-    (without_more key (flat_map gone_by actions) lines)
+split lines more (Amend order ∷ actions) = replaced lines more order actions
+    (split (lines_without (order_key order) lines) (lines_without (order_key order) more ++ order) actions)
+split lines more (Put order ∷ actions) = replaced lines more order actions
+    (split (lines_without (order_key order) lines) (lines_without (order_key order) more ++ order) actions)
 split lines more (Withdraw key ∷ actions) =
     let kept : lines_without key (lines ++ more) ≡ lines_without key lines ++ lines_without key more =
     filter-append (λ line. not (is_of key line)) lines more in

@@ -7,7 +7,7 @@ use Rattle.std.specs.Prelude.{if◌then◌else◌, slice_get}
 use Rattle.std.specs.Option.{option_or, option_map}
 use Rattle.ssb_schema.specs.declared.line.LineFields.{LineFields}
 use Rattle.ssb_schema.specs.declared.refresh.Action.{Action}
-use Rattle.ssb_schema.specs.declared.refresh.Action.TheVariants.{Add, Amend, Withdraw}
+use Rattle.ssb_schema.specs.declared.refresh.Action.TheVariants.{Add, Amend, Put, Withdraw}
 use Rattle.ssb_base.specs.Base.{Tables}
 use Rattle.row_store.specs.History.{CommitRecord, lines_after}
 use Rattle.row_store.specs.Lines.{lines_after_action, lines_after_refresh}
@@ -39,6 +39,7 @@ few_after_action : (base : Tables) (lines : List LineFields) (action : Action) �
     → length lines ≤ base.limits.lines → length (lines_after_action lines action) ≤ base.limits.lines
 few_after_action base lines (Add order) e h = grind (arith, joined_few)
 few_after_action base lines (Amend order) e h = grind (arith, joined_few)
+few_after_action base lines (Put order) e h = grind (arith, joined_few)
 few_after_action base lines (Withdraw key) e h = grind (arith, length_kept)
 
 few_after_refresh : (base : Tables) (number : ℕ) (lines : List LineFields) (actions : List Action)

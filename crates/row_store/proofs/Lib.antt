@@ -9,6 +9,7 @@ pub mod LastLaws
 pub mod PlacedLaws
 pub mod PrefixLaws
 pub mod RearrangedLaws
+pub mod ReplacedLaws
 pub mod ReplyLaws
 pub mod SevenLaws
 pub mod StateLaws

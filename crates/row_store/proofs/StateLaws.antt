@@ -14,7 +14,7 @@ use Rattle.std.proofs.lemmas.List.{append-nil, map-append}
 use Rattle.ssb_schema.specs.declared.fact.Fact.{Fact}
 use Rattle.ssb_schema.specs.declared.line.LineFields.{LineFields}
 use Rattle.ssb_schema.specs.declared.refresh.Action.{Action}
-use Rattle.ssb_schema.specs.declared.refresh.Action.TheVariants.{Add, Amend, Withdraw}
+use Rattle.ssb_schema.specs.declared.refresh.Action.TheVariants.{Add, Amend, Put, Withdraw}
 use Rattle.ssb_base.specs.Base.{Tables}
 use Rattle.ssb_schema.specs.Facts.{fact_of, facts_of}
 use Rattle.ssb_schema.specs.Orders.{order_key}
@@ -113,6 +113,7 @@ pub counts_after_action-fact_counts : (lines : List LineFields) (action : Action
     (facts_of (lines_after_action lines action))
 counts_after_action-fact_counts lines (Add order) = grind (arith, fact_counts-append)
 counts_after_action-fact_counts lines (Amend order) = grind (arith, fold, counts_without-fact_counts, fact_counts-append)
+counts_after_action-fact_counts lines (Put order) = grind (arith, fold, counts_without-fact_counts, fact_counts-append)
 counts_after_action-fact_counts lines (Withdraw key) = grind (arith, counts_without-fact_counts)
 
 pub counts_after-all : (lines : List LineFields) (actions : List Action)

@@ -2,13 +2,16 @@
 use Rattle.std.specs.Prelude.{◌≡◌, ℕ, ◌+◌, ◌≤◌, ◌==◌, if◌then◌else◌, List, [], ◌∷◌, ◌++◌, length, fold, None, Some}
 use Rattle.std.specs.Prelude.{Result, Ok, Err, IsPermutation}
 use Rattle.std.specs.Bool.{Decides}
+use Rattle.ssb_schema.specs.declared.line.LineFields.{LineFields}
 use Rattle.ssb_schema.specs.declared.refresh.Action.{Action}
+use Rattle.ssb_schema.specs.declared.refresh.Action.TheVariants.{Add, Amend, Put}
+use Rattle.ssb_schema.specs.Orders.{order_key}
 use Rattle.ssb_schema.specs.declared.fact.Fact.{Fact}
 use Rattle.ssb_base.specs.Base.{Tables, IsSound}
 use Rattle.ssb_schema.specs.Facts.{facts_of}
-use Rattle.row_store.specs.Lines.{lines_after_refresh}
+use Rattle.row_store.specs.Lines.{is_present, lines_after_action, lines_after_refresh}
 use Rattle.row_store.specs.History.{CommitRecord, IsPrefix, lines_after}
-use Rattle.row_store.specs.Refusals.{refusal_of}
+use Rattle.row_store.specs.Refusals.{cause_of, refusal_of}
 use Rattle.row_store.specs.Legal.{IsLegal, warehouse_reply, warehouse_after, IsRefreshReply, Tells}
 use Rattle.row_store.specs.State.{State, StandsFor, Counts, is_same, occurrences, count_of, with_fact, counts_without}
 use Rattle.row_store.specs.State.{fact_counts, state_after}
@@ -63,6 +66,13 @@ AsLongIsTheWhole = (shorter longer : List CommitRecord) → IsPrefix shorter lon
 abbrev pub LinesFollowCommits : Type 0
 LinesFollowCommits = (base : Tables) (history : List CommitRecord) (commit : CommitRecord)
     → lines_after base (history ++ commit ∷ []) ≡ lines_after_refresh (lines_after base history) commit.actions
+
+-- an order that is put is amended where it is live, and else added
+abbrev pub PuttingAmendsOrAdds : Type 0
+PuttingAmendsOrAdds = (base : Tables) (lines order : List LineFields)
+    → let same = if is_present (order_key order) lines then Amend order else Add order in
+    (lines_after_action lines (Put order) ≡ lines_after_action lines same)
+    × (cause_of base lines (Put order) ≡ cause_of base lines same)
 
 -- where a state stands for a history, the state after a commit stands for the history and that commit
 abbrev pub StatesFollowCommits : Type 0

@@ -3,7 +3,7 @@ use Rattle.std.specs.Prelude.{ℕ, Bool, not, ◌==◌, List, [], ◌++◌, filt
 use Rattle.std.specs.List.{list_any}
 use Rattle.ssb_schema.specs.declared.line.LineFields.{LineFields}
 use Rattle.ssb_schema.specs.declared.refresh.Action.{Action}
-use Rattle.ssb_schema.specs.declared.refresh.Action.TheVariants.{Add, Amend, Withdraw}
+use Rattle.ssb_schema.specs.declared.refresh.Action.TheVariants.{Add, Amend, Put, Withdraw}
 use Rattle.ssb_schema.specs.Orders.{order_key}
 
 -- the line is of the order with this key
@@ -26,13 +26,15 @@ lines_without key lines = filter (λ line. not (is_of key line)) lines
 abbrev pub added_by : Action → List LineFields
 added_by (Add order) = order
 added_by (Amend order) = order
+added_by (Put order) = order
 added_by (Withdraw key) = []
 
--- adding an order appends its lines, amending one puts its lines in place of those with its key, withdrawing one drops
--- every line with its key
+-- adding an order appends its lines, amending or putting one puts its lines in place of those with its key (of which an
+-- order that is put may have none), withdrawing one drops every line with its key
 abbrev pub lines_after_action : List LineFields → Action → List LineFields
 lines_after_action lines (Add order) = lines ++ order
 lines_after_action lines (Amend order) = lines_without (order_key order) lines ++ order
+lines_after_action lines (Put order) = lines_without (order_key order) lines ++ order
 lines_after_action lines (Withdraw key) = lines_without key lines
 
 -- the actions one after another

@@ -5,7 +5,7 @@ use Rattle.std.specs.Option.{option_or, option_map}
 use Rattle.std.specs.List.{list_any}
 use Rattle.ssb_schema.specs.declared.line.LineFields.{LineFields}
 use Rattle.ssb_schema.specs.declared.refresh.Action.{Action}
-use Rattle.ssb_schema.specs.declared.refresh.Action.TheVariants.{Add, Amend, Withdraw}
+use Rattle.ssb_schema.specs.declared.refresh.Action.TheVariants.{Add, Amend, Put, Withdraw}
 use Rattle.ssb_schema.specs.Orders.{order_key}
 use Rattle.ssb_base.specs.Base.{Tables, Dimensions, has_key, customer_key, supplier_key, part_key, date_key}
 use Rattle.row_store.specs.Lines.{is_present, lines_without, lines_after_action}
@@ -45,7 +45,8 @@ lines_full most lines order = if nat_lt most (length lines + length order) then 
 abbrev pub order_cause : Tables → List LineFields → List LineFields → Option Cause
 order_cause base lines order = option_or (unknown_key base.dimensions order) (lines_full base.limits.lines lines order)
 
--- why an action is refused where these lines are live. An amended order's old lines do not count against the limit
+-- why an action is refused where these lines are live. The old lines of an order that is amended or put do not count
+-- against the limit
 abbrev pub cause_of : Tables → List LineFields → Action → Option Cause
 cause_of base lines (Add order) =
     if is_present (order_key order) lines then Some (Present (order_key order))
@@ -53,6 +54,7 @@ cause_of base lines (Add order) =
 cause_of base lines (Amend order) =
     if is_present (order_key order) lines then order_cause base (lines_without (order_key order) lines) order
     else Some (AmendAbsent (order_key order))
+cause_of base lines (Put order) = order_cause base (lines_without (order_key order) lines) order
 cause_of base lines (Withdraw key) = if is_present key lines then None else Some (Absent key)
 
 -- the first action that is refused, counted from a number on, and why; each is looked at among the lines that the

@@ -8,7 +8,7 @@ use Rattle.std.specs.FinMap as map
 use Rattle.std.specs.Coded.{Coded, code_by, coded_list, coded_ℕ}
 use Rattle.ssb_schema.specs.declared.fact.Fact.{Fact}
 use Rattle.ssb_schema.specs.declared.refresh.Action.{Action}
-use Rattle.ssb_schema.specs.declared.refresh.Action.TheVariants.{Add, Amend, Withdraw}
+use Rattle.ssb_schema.specs.declared.refresh.Action.TheVariants.{Add, Amend, Put, Withdraw}
 use Rattle.ssb_base.specs.Base.{Tables}
 use Rattle.ssb_schema.specs.Facts.{facts_of}
 use Rattle.ssb_schema.specs.Orders.{order_key}
@@ -74,6 +74,7 @@ fact_counts facts = fold with_fact map.empty facts
 abbrev pub counts_after_action : Counts → Action → Counts
 counts_after_action counts (Add order) = fold with_fact counts (facts_of order)
 counts_after_action counts (Amend order) = fold with_fact (counts_without (order_key order) counts) (facts_of order)
+counts_after_action counts (Put order) = fold with_fact (counts_without (order_key order) counts) (facts_of order)
 counts_after_action counts (Withdraw key) = counts_without key counts
 
 -- a replica's state

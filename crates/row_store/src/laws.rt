@@ -1,6 +1,6 @@
 //! What holds of every history and state: each law is the contract of a function that does nothing.
 ghost use Rattle.row_store.specs.Laws.{BeginningsAreLegal, AcceptedStaysLegal, LegalHistoriesAreFew};
-ghost use Rattle.row_store.specs.Laws.{LinesFollowCommits, StatesFollowCommits};
+ghost use Rattle.row_store.specs.Laws.{LinesFollowCommits, PuttingAmendsOrAdds, StatesFollowCommits};
 ghost use Rattle.row_store.specs.Laws.{BeginsWithItself, BeginningsChain, OneMoreBeginsWithIt, BeginningsOfOneAgree};
 ghost use Rattle.row_store.specs.Laws.{BeginningsAreShorter, AsLongIsTheWhole};
 ghost use Rattle.row_store.specs.Laws.{SameFactsAreEqual, CountsTellOccurrences, OneFactCountsOnce, WithoutAnOrder};
@@ -42,6 +42,12 @@ pub fn histories_grow()
 /// The lines after a history and one commit more are the commit's action on the lines after the history.
 pub fn lines_follow_commits()
     ensures { LinesFollowCommits }
+{}
+
+/// An order that is put is amended where it is live, and else added: the lines after it are the same, and so is the
+/// cause of its refusal.
+pub fn putting_amends_or_adds()
+    ensures { PuttingAmendsOrAdds }
 {}
 
 /// Where a state stands for a history, the state after a commit stands for the history and that commit.

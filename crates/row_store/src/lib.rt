@@ -1,10 +1,10 @@
 //! The primary replica of the warehouse: the live orders by key, and the log of commits. And what other replicas are.
 //!
-//! A refresh adds, amends and withdraws whole orders, all of it or nothing. `RowStore::check` tells whether it would be
-//! accepted, or the first action that is refused and why; `RowStore::apply` makes an accepted refresh the next commit,
-//! and `RowStore::refresh` is the same with what a client is told. Orders are found by key, so none of them depends on
-//! the number of lines, and the loaded lines are never copied. Keys hash with random keys, so that no client can pick
-//! some that collide.
+//! A refresh adds, amends, puts and withdraws whole orders, all of it or nothing. `RowStore::check` tells whether it
+//! would be accepted, or the first action that is refused and why; `RowStore::apply` makes an accepted refresh the next
+//! commit, and `RowStore::refresh` is the same with what a client is told. Orders are found by key, so none of them
+//! depends on the number of lines, and the loaded lines are never copied. Keys hash with random keys, so that no client
+//! can pick some that collide.
 //!
 //! The contract: the store answers as a warehouse of one thread does that keeps a plain list of lines.
 //! `specs/Lines.antt` says what an action does to that list, `specs/Refusals.antt` which refresh is refused and why,

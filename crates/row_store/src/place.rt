@@ -37,7 +37,7 @@ pub(crate) fn added(action: &Action) -> &[Line]
     ensures { result.now ≡ added_by action.now }
 {
     match action {
-        Action::Add(order) | Action::Amend(order) => order.lines(),
+        Action::Add(order) | Action::Amend(order) | Action::Put(order) => order.lines(),
         Action::Withdraw(_) => &[],
     }
 }
@@ -69,7 +69,7 @@ fn count_with(count: u64, action: &Action, key: u64) -> u64
                 count
             }
         }
-        Action::Amend(order) => {
+        Action::Amend(order) | Action::Put(order) => {
             let lines = order.lines();
             if order.key() == key {
                 lines.len() as u64
@@ -111,7 +111,7 @@ fn put(orders: &mut OrderPlaces, action: &Action, source: Source)
             let lines = order.lines().len() as u32;
             let _ = orders.insert(order.key(), OrderPlace { lines, source });
         }
-        Action::Amend(order) => {
+        Action::Amend(order) | Action::Put(order) => {
             let lines = order.lines().len() as u32;
             let _ = orders.insert(order.key(), OrderPlace { lines, source });
         }

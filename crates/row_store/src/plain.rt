@@ -50,7 +50,7 @@ fn note_gone(keys: &mut Vec<u64>, action: &Action) -> Result<(), AllocError>
 {
     match action {
         Action::Add(_) => {}
-        Action::Amend(order) => keys.push(order.key())?,
+        Action::Amend(order) | Action::Put(order) => keys.push(order.key())?,
         Action::Withdraw(key) => keys.push(*key)?,
     }
     Ok(())
@@ -82,7 +82,7 @@ fn act(lines: &mut Vec<Line>, action: &Action) -> Result<(), AllocError>
 {
     match action {
         Action::Add(order) => clone_lines(lines, order.lines()),
-        Action::Amend(order) => {
+        Action::Amend(order) | Action::Put(order) => {
             drop_orders(lines, &[order.key()]);
             clone_lines(lines, order.lines())
         }

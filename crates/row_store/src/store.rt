@@ -393,6 +393,10 @@ impl RowStore {
                 }
                 lines_after_joining(&self.base, order, live - count)
             }
+            Action::Put(order) => {
+                let gone = self.count(earlier, order.key());
+                lines_after_joining(&self.base, order, live - gone)
+            }
             Action::Withdraw(key) => {
                 let count = self.count(earlier, *key);
                 if count == 0 {

@@ -38,7 +38,7 @@ impl fmt::Display for RefusalHelp {
             }
             RefusalHelp::Present(key) => write!(
                 f,
-                "order {key} is live already; amend it, or withdraw it first"
+                "order {key} is live already; amend or put it, or withdraw it first"
             ),
             RefusalHelp::Line(number, column, key) => write!(f, "line {number} has {column} {key}"),
             RefusalHelp::NoRow(table) => write!(
@@ -53,7 +53,7 @@ impl fmt::Display for RefusalHelp {
                 f,
                 "order {key} is not live; there is nothing to withdraw"
             ),
-            RefusalHelp::AmendAbsent(key) => write!(f, "order {key} is not live; add it"),
+            RefusalHelp::AmendAbsent(key) => write!(f, "order {key} is not live; add or put it"),
         }
     }
 }
@@ -63,6 +63,7 @@ fn word_of(action: &Action) -> &'static str {
     match action {
         Action::Add(_) => "add",
         Action::Amend(_) => "amend",
+        Action::Put(_) => "put",
         Action::Withdraw(_) => "withdraw",
     }
 }
@@ -72,6 +73,7 @@ fn key_of(action: &Action) -> u64 {
     match action {
         Action::Add(order) => order.key(),
         Action::Amend(order) => order.key(),
+        Action::Put(order) => order.key(),
         Action::Withdraw(key) => *key,
     }
 }
@@ -154,6 +156,7 @@ pub fn write_refusal_help<E: Write>(
         ("48", _) => help_with_order(earlier, key, &RefusalHelp::AmendAbsent(key), err),
         (_, Action::Add(order)) => help_with_lines(order, cause, err),
         (_, Action::Amend(order)) => help_with_lines(order, cause, err),
+        (_, Action::Put(order)) => help_with_lines(order, cause, err),
         (_, Action::Withdraw(_)) => Ok(()),
     }
 }

@@ -97,7 +97,7 @@ fn request_words(alloc: Global) -> Result<Vec<&'static str>, AllocError> {
     }
     for word in [
         "query", "select", "order", "begin", "ask", "format", "help", "status", "timing", "quit",
-        "exit", "abort", "commit", "add", "amend", "withdraw", "line", "answer",
+        "exit", "abort", "commit", "add", "amend", "put", "withdraw", "line", "answer",
     ] {
         words.push(word)?;
     }

@@ -60,8 +60,8 @@ pub enum ScriptHelp<'a> {
 fn said(help: &ScriptHelp<'_>) -> &'static str {
     match help {
         ScriptHelp::Words => {
-            "a record begins with query, sql, order, ask, answer, begin, add, amend, line, withdraw, commit or abort, in \
-             a live session also with format, in small letters and without spaces"
+            "a record begins with query, sql, order, ask, answer, begin, add, amend, put, line, withdraw, commit or abort, \
+             in a live session also with format, in small letters and without spaces"
         }
         ScriptHelp::Format =>
             "format stands alone, in a live session; it takes report, table, csv, json, markdown or bars",
@@ -77,11 +77,12 @@ fn said(help: &ScriptHelp<'_>) -> &'static str {
             "a block has at most 16 questions; put answer and ask before this one",
         ScriptHelp::TooManyActions =>
             "a refresh has at most 64 actions; put commit and begin before this one",
-        ScriptHelp::NoLines => "the order has no line; line records stand below its add or amend",
+        ScriptHelp::NoLines =>
+            "the order has no line; line records stand below its add, amend or put",
         ScriptHelp::TooManyLines =>
             "an order has at most 7 lines; put the others under another LO_ORDERKEY",
         ScriptHelp::KeysDiffer =>
-            "the lines of an order have one LO_ORDERKEY; each other key has an add or amend of its own",
+            "the lines of an order have one LO_ORDERKEY; each other key has an add, amend or put of its own",
         ScriptHelp::TooLong => "a script has at most 1000000000 records; make two of it",
         ScriptHelp::RequestTooLong =>
             "a request has at most 1 MiB; end each refresh with commit, each block with answer",
@@ -126,8 +127,8 @@ impl<'a> fmt::Display for ScriptHelp<'a> {
             }
             ScriptHelp::Place(word) => write!(
                 f,
-                "{word} is in a wrong place; query, sql, order, ask and begin stand alone, add, amend and withdraw between \
-                 begin and commit, line below add or amend"
+                "{word} is in a wrong place; query, sql, order, ask and begin stand alone, add, amend, put and withdraw \
+                 between begin and commit, line below add, amend or put"
             ),
             ScriptHelp::NoEnd(path, number, word) => {
                 write!(

@@ -15,8 +15,8 @@ use std::io;
 use std::io::{Read, Write};
 
 // The words that records begin with.
-const WORDS: [&str; 13] = [
-    "query", "sql", "order", "begin", "add", "amend", "line", "withdraw", "commit", "ask",
+const WORDS: [&str; 14] = [
+    "query", "sql", "order", "begin", "add", "amend", "put", "line", "withdraw", "commit", "ask",
     "answer", "abort", "format",
 ];
 
@@ -73,7 +73,7 @@ fn help_with_word<E: Write>(alloc: Global, word: &str, err: &mut E) -> io::Resul
 fn stands_alone(word: &str) -> bool {
     matches!(
         word,
-        "begin" | "add" | "amend" | "commit" | "ask" | "answer" | "abort"
+        "begin" | "add" | "amend" | "put" | "commit" | "ask" | "answer" | "abort"
     )
 }
 

@@ -16,6 +16,8 @@ pub enum Action {
     Add(Order),
     /// Puts an order in the place of the one of its key, which is present.
     Amend(Order),
+    /// Puts an order in the place of the one of its key, or adds it where the key is absent.
+    Put(Order),
     /// Takes away the order of this key, which is present.
     Withdraw(u64),
 }
@@ -25,6 +27,7 @@ impl Drop for Action {
         match self {
             Action::Add(_) => {}
             Action::Amend(_) => {}
+            Action::Put(_) => {}
             Action::Withdraw(_) => {}
         }
     }

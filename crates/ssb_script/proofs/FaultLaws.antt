@@ -33,7 +33,7 @@ use Rattle.ssb_script.specs.Scripts.{Spell, SpellAll}
 use Rattle.ssb_script.specs.Scripts.{SpellsScript, checks_in, ends_in_order, fault_of, first_of, is_outside, lines_in}
 use Rattle.ssb_script.specs.Scripts.{lines_of_begun, order_refused, refusal_at_end}
 use Rattle.ssb_script.specs.declared.control.OrderOpening.{OrderOpening}
-use Rattle.ssb_script.specs.declared.control.OrderOpening.TheVariants.{Add, Amend}
+use Rattle.ssb_script.specs.declared.control.OrderOpening.TheVariants.{Add, Amend, Put}
 use Rattle.ssb_script.specs.declared.error.ScriptError.{ScriptError}
 use Rattle.ssb_script.specs.declared.error.ScriptError.TheVariants as error
 use Rattle.ssb_script.specs.declared.request.Asking.{Asking}
@@ -172,6 +172,7 @@ behind_questions questions (question ∷ more) = behind_questions (questions ++ 
 behind_action : (s : Stand) (a : Action) → actions_of (behind s (lines_of_action a)) ≡ actions_of s ++ a ∷ []
 behind_action s (action.Add order) = ap actions_of (behind_rows (actions_of s) Add [] order)
 behind_action s (action.Amend order) = ap actions_of (behind_rows (actions_of s) Amend [] order)
+behind_action s (action.Put order) = ap actions_of (behind_rows (actions_of s) Put [] order)
 behind_action s (action.Withdraw key) = refl
 
 behind_actions : (actions : List Action) (s : Stand)
@@ -188,6 +189,7 @@ behind_settled : (a : Action) (actions : List Action) (s : Stand) → ends_in_or
     → behind s (flat_map lines_of_action (a ∷ actions)) ≡ Inside (actions_of s ++ a ∷ actions)
 behind_settled (action.Add order) [] s e = absurd cc
 behind_settled (action.Amend order) [] s e = absurd cc
+behind_settled (action.Put order) [] s e = absurd cc
 behind_settled (action.Withdraw key) [] s e = refl
 behind_settled a (b ∷ actions) s e =
     let between = behind s (lines_of_action a) in
@@ -273,6 +275,11 @@ fit_action (action.Amend order) s rest end room whole later = (
   (end, room),
   fit_rows (actions_of s) Amend [] order rest (omega (arith, (order_keeps order whole).few))
       (later (Within (actions_of s) Amend order) whole refl),
+)
+fit_action (action.Put order) s rest end room whole later = (
+  (end, room),
+  fit_rows (actions_of s) Put [] order rest (omega (arith, (order_keeps order whole).few))
+      (later (Within (actions_of s) Put order) whole refl),
 )
 fit_action (action.Withdraw key) s rest end room whole later =
     ((end, room), later (Inside (actions_of s ++ action.Withdraw key ∷ [])) tt refl)
@@ -529,6 +536,7 @@ no_sql_queries (question ∷ questions) rest = no_sql_queries questions rest
 no_sql_action : (a : Action) (rest : List ScriptLine) → has_sql (lines_of_action a ++ rest) ≡ has_sql rest
 no_sql_action (action.Add order) rest = no_sql_rows order rest
 no_sql_action (action.Amend order) rest = no_sql_rows order rest
+no_sql_action (action.Put order) rest = no_sql_rows order rest
 no_sql_action (action.Withdraw key) rest = refl
 
 no_sql_actions : (actions : List Action) (rest : List ScriptLine)

@@ -11,7 +11,7 @@ use Rattle.ssb_script.specs.Lines.{line_or_refusal, word_of}
 use Rattle.ssb_script.specs.Lines as line
 use Rattle.ssb_script.specs.Steps.{line_of_row, line_of_control}
 use Rattle.ssb_script.specs.declared.control.Control.{Control}
-use Rattle.ssb_script.specs.declared.control.OrderOpening.TheVariants.{Add, Amend}
+use Rattle.ssb_script.specs.declared.control.OrderOpening.TheVariants.{Add, Amend, Put}
 use Rattle.ssb_script.specs.declared.order_line.OrderLine.{OrderLine}
 use Rattle.ssb_script.specs.declared.word.ScriptWord.{ScriptWord}
 use Rattle.ssb_script.specs.declared.word.ScriptWord.TheVariants as word
@@ -51,6 +51,7 @@ word_for (line.Sql text) = word.Sql
 word_for line.Begin = word.Begin
 word_for (line.Open Add) = word.Add
 word_for (line.Open Amend) = word.Amend
+word_for (line.Open Put) = word.Put
 word_for (line.Line row) = word.Line
 word_for (line.Withdraw key) = word.Withdraw
 word_for line.Commit = word.Commit
@@ -88,6 +89,7 @@ word_said (Some word.Sql) fields l e = by_option word.Sql line.Sql _ l (λ x. re
 word_said (Some word.Begin) fields l e = by_alone _ line.Begin l e
 word_said (Some word.Add) fields l e = by_alone _ (line.Open Add) l e
 word_said (Some word.Amend) fields l e = by_alone _ (line.Open Amend) l e
+word_said (Some word.Put) fields l e = by_alone _ (line.Open Put) l e
 word_said (Some word.Line) fields l e = by_row _ l e
 word_said (Some word.Withdraw) fields l e = by_option word.Withdraw line.Withdraw _ l (λ x. refl) e
 word_said (Some word.Commit) fields l e = by_alone _ line.Commit l e
@@ -117,6 +119,7 @@ after_alone (line.Sql text) fields is = absurd is
 after_alone line.Begin fields is = refl
 after_alone (line.Open Add) fields is = refl
 after_alone (line.Open Amend) fields is = refl
+after_alone (line.Open Put) fields is = refl
 after_alone (line.Line row) fields is = absurd is
 after_alone (line.Withdraw key) fields is = absurd is
 after_alone line.Commit fields is = refl

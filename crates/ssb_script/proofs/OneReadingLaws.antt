@@ -20,7 +20,7 @@ use Rattle.ssb_script.specs.Lines as line
 use Rattle.ssb_script.specs.Requests.{RequestRecord, Refresh, Ask, Order, Abort, AreAlike, AreOneStatement, IsWholeRequest}
 use Rattle.ssb_script.specs.Requests.{AskAlike, action_of, lines_of_action, lines_of_asking}
 use Rattle.ssb_script.specs.Scripts.{Spell, SpellAll, SpellsScript, is_outside, lines_in, lines_of_begun}
-use Rattle.ssb_script.specs.declared.control.OrderOpening.TheVariants.{Add, Amend}
+use Rattle.ssb_script.specs.declared.control.OrderOpening.TheVariants.{Add, Amend, Put}
 use Rattle.ssb_script.specs.declared.request.Asking.{Asking}
 use Rattle.ssb_script.specs.declared.request.Asking.TheVariants.{Alone, Together, Statement as Stated}
 use Rattle.ssb_script.specs.declared.statement.StatementAsked.{StatementAsked}
@@ -154,6 +154,7 @@ of_action : (a : Action) (rest : List ScriptLine) → (tail_of rest).lines ≡ [
     }
 of_action (action.Add order) rest none = ap (before (line.Open Add)) (of_order order rest none)
 of_action (action.Amend order) rest none = ap (before (line.Open Amend)) (of_order order rest none)
+of_action (action.Put order) rest none = ap (before (line.Open Put)) (of_order order rest none)
 of_action (action.Withdraw key) rest none = refl
 
 of_actions : (actions : List Action) (rest : List ScriptLine)
@@ -203,6 +204,7 @@ later_action : (a : Action) (rest : List ScriptLine)
     → later_of (tail_of (lines_of_action a ++ rest)) ≡ later_of (tail_of rest)
 later_action (action.Add order) rest = later_order order rest
 later_action (action.Amend order) rest = later_order order rest
+later_action (action.Put order) rest = later_order order rest
 later_action (action.Withdraw key) rest = refl
 
 later_actions : (actions : List Action) (rest : List ScriptLine)

@@ -19,7 +19,7 @@ use Rattle.ssb_script.specs.Questions.{AsksAlone, AsksNone, HasNone, IsAskedBy, 
 use Rattle.ssb_script.specs.Questions.{IsNoStatement, IsOneTooMany, IsQuestionsFault, IsRecordFault, StandsBehind, asked_so}
 use Rattle.ssb_script.specs.Questions.{most_alone, questions_of}
 use Rattle.ssb_script.specs.Requests.{questions_in}
-use Rattle.ssb_script.specs.declared.control.OrderOpening.TheVariants.{Add, Amend}
+use Rattle.ssb_script.specs.declared.control.OrderOpening.TheVariants.{Add, Amend, Put}
 use Rattle.ssb_script.specs.declared.questions.QuestionsError.{QuestionsError}
 use Rattle.ssb_script.specs.declared.questions.QuestionsError.TheVariants as error
 use Rattle.ssb_script.specs.declared.request.Asking.{Asking}
@@ -66,6 +66,7 @@ after_other (Some word.Sql) fields is none = absurd cc
 after_other (Some word.Begin) fields is none = of_choice _ line.Begin tt
 after_other (Some word.Add) fields is none = of_choice _ (line.Open Add) tt
 after_other (Some word.Amend) fields is none = of_choice _ (line.Open Amend) tt
+after_other (Some word.Put) fields is none = of_choice _ (line.Open Put) tt
 after_other (Some word.Line) fields is none = of_row _
 after_other (Some word.Withdraw) fields is none = of_key (key_of fields)
 after_other (Some word.Commit) fields is none = of_choice _ line.Commit tt

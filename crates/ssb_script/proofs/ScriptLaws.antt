@@ -24,7 +24,7 @@ use Rattle.ssb_script.specs.Begun as begun
 use Rattle.ssb_script.specs.Requests.{RequestRecord, Refresh, Ask, Order, Abort, IsWholeRequest, lines_of_action}
 use Rattle.ssb_script.specs.Scripts.{Spell, SpellsScript, is_outside, lines_in, lines_of_begun}
 use Rattle.ssb_script.specs.declared.control.OrderOpening.{OrderOpening}
-use Rattle.ssb_script.specs.declared.control.OrderOpening.TheVariants.{Add, Amend}
+use Rattle.ssb_script.specs.declared.control.OrderOpening.TheVariants.{Add, Amend, Put}
 use Rattle.ssb_script.specs.CuttingLaws.{AskedBy, HasScriptOfRequests, request_texts}
 use Rattle.ssb_text.proofs.MachineLaws.{Ended, fields_from, records_in}
 use Rattle.ssb_text.proofs.LineRecordLaws.{RecordsFrom, contents_of, lines_have, strip_line, strip_lines, unmarked}
@@ -62,6 +62,7 @@ opening_is_no_end opening = no_end Refreshing (script.Open opening) (λ e. cc) (
 action_has_no_end : (a : Action) → HasNoEnd Refreshing (lines_of_action a)
 action_has_no_end (action.Add order) = (opening_is_no_end Add, order_has_no_end order)
 action_has_no_end (action.Amend order) = (opening_is_no_end Amend, order_has_no_end order)
+action_has_no_end (action.Put order) = (opening_is_no_end Put, order_has_no_end order)
 action_has_no_end (action.Withdraw key) = (no_end Refreshing (script.Withdraw key) (λ e. cc) (λ e. cc), tt)
 
 actions_have_no_end : (actions : List Action) → HasNoEnd Refreshing (flat_map lines_of_action actions)

@@ -26,7 +26,7 @@ use Rattle.ssb_script.specs.declared.begun.ScriptStep.{ScriptStep}
 use Rattle.ssb_script.specs.declared.control.Control.{Control}
 use Rattle.ssb_script.specs.declared.control.Control.TheVariants as control
 use Rattle.ssb_script.specs.declared.control.OrderOpening.{OrderOpening}
-use Rattle.ssb_script.specs.declared.control.OrderOpening.TheVariants.{Add, Amend}
+use Rattle.ssb_script.specs.declared.control.OrderOpening.TheVariants.{Add, Amend, Put}
 use Rattle.ssb_script.specs.declared.error.ScriptError.{ScriptError}
 use Rattle.ssb_script.specs.declared.error.ScriptError.TheVariants as error
 use Rattle.ssb_script.specs.declared.word.ScriptWord.{ScriptWord}
@@ -36,6 +36,7 @@ lines_of_action-action_of : (opening : OrderOpening) (order : List LineFields)
     → lines_of_action (action_of opening order) ≡ Open opening ∷ map Line order
 lines_of_action-action_of Add order = refl
 lines_of_action-action_of Amend order = refl
+lines_of_action-action_of Put order = refl
 
 -- the end of an order adds no line
 lines-ended : (b : Begun) → lines_of_begun (begun_of (ended_of b)) ≡ lines_of_begun b
@@ -57,6 +58,7 @@ whole-action_of : (opening : OrderOpening) (order : List LineFields) → order_f
     → IsWholeAction (action_of opening order)
 whole-action_of Add order whole = whole
 whole-action_of Amend order whole = whole
+whole-action_of Put order whole = whole
 
 -- an order that is not refused has its place in the refresh
 pub room-ended : (count after : ℕ) (b : Begun) → HasRoom count b → refusal_at_end b ≡ None

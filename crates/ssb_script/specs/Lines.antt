@@ -26,7 +26,7 @@ use Rattle.ssb_questions.specs.declared.value.Value.{Value}
 use Rattle.ssb_questions.specs.declared.value.Value.TheVariants as value
 use Rattle.ssb_schema.specs.declared.fault.SchemaFault.{SchemaFault}
 use Rattle.ssb_script.specs.declared.control.OrderOpening.{OrderOpening}
-use Rattle.ssb_script.specs.declared.control.OrderOpening.TheVariants.{Add, Amend}
+use Rattle.ssb_script.specs.declared.control.OrderOpening.TheVariants.{Add, Amend, Put}
 use Rattle.ssb_script.specs.declared.word.ScriptWord.{ScriptWord}
 use Rattle.ssb_script.specs.declared.word.ScriptWord.TheVariants as word
 
@@ -57,6 +57,7 @@ spelling_of word.Sql = codes "sql"
 spelling_of word.Begin = codes "begin"
 spelling_of word.Add = codes "add"
 spelling_of word.Amend = codes "amend"
+spelling_of word.Put = codes "put"
 spelling_of word.Line = codes "line"
 spelling_of word.Withdraw = codes "withdraw"
 spelling_of word.Commit = codes "commit"
@@ -66,8 +67,8 @@ spelling_of word.Order = codes "order"
 spelling_of word.Abort = codes "abort"
 
 abbrev pub words : List ScriptWord
-words = word.Query ∷ word.Sql ∷ word.Begin ∷ word.Add ∷ word.Amend ∷ word.Line ∷ word.Withdraw ∷ word.Commit ∷
-    word.Ask ∷ word.Answer ∷ word.Order ∷ word.Abort ∷ []
+words = word.Query ∷ word.Sql ∷ word.Begin ∷ word.Add ∷ word.Amend ∷ word.Put ∷ word.Line ∷ word.Withdraw ∷
+    word.Commit ∷ word.Ask ∷ word.Answer ∷ word.Order ∷ word.Abort ∷ []
 
 -- the word that bytes spell, letter for letter
 abbrev pub word_spelled : List ℕ → Option ScriptWord
@@ -215,6 +216,7 @@ line_after (Some word.Sql) fields = line_or_bad (option_map Sql (sql_of fields))
 line_after (Some word.Begin) fields = line_or_bad (alone Begin fields)
 line_after (Some word.Add) fields = line_or_bad (alone (Open Add) fields)
 line_after (Some word.Amend) fields = line_or_bad (alone (Open Amend) fields)
+line_after (Some word.Put) fields = line_or_bad (alone (Open Put) fields)
 line_after (Some word.Line) fields = line_or_refusal (row_of table.Lineorder (drop 1 fields))
 line_after (Some word.Withdraw) fields = line_or_bad (option_map Withdraw (key_of fields))
 line_after (Some word.Commit) fields = line_or_bad (alone Commit fields)

@@ -19,7 +19,7 @@ use Rattle.ssb_sql.specs.declared.statement.Statement.{Statement}
 use Rattle.ssb_script.specs.Lines.{ScriptLine}
 use Rattle.ssb_script.specs.Lines as line
 use Rattle.ssb_script.specs.declared.control.OrderOpening.{OrderOpening}
-use Rattle.ssb_script.specs.declared.control.OrderOpening.TheVariants.{Add, Amend}
+use Rattle.ssb_script.specs.declared.control.OrderOpening.TheVariants.{Add, Amend, Put}
 
 -- what a request asks: the actions of a refresh, or questions, each a query with its constants, or the lines of the
 -- order of a key; or that what it began be dropped
@@ -59,6 +59,7 @@ requests_of script = map request_of script.requests.items
 abbrev pub lines_of_action : Action → List ScriptLine
 lines_of_action (action.Add order) = line.Open Add ∷ map line.Line order
 lines_of_action (action.Amend order) = line.Open Amend ∷ map line.Line order
+lines_of_action (action.Put order) = line.Open Put ∷ map line.Line order
 lines_of_action (action.Withdraw key) = line.Withdraw key ∷ []
 
 abbrev pub lines_of_refresh : List Action → List ScriptLine
@@ -73,11 +74,13 @@ lines_of_asking (Stated asked) = line.Sql asked.value.text ∷ []
 abbrev pub action_of : OrderOpening → List LineFields → Action
 action_of Add order = action.Add order
 action_of Amend order = action.Amend order
+action_of Put order = action.Put order
 
 -- the order of an action is one: it has one to seven lines of one key, with distinct numbers
 abbrev pub IsWholeAction : Action → Type 0
 IsWholeAction (action.Add order) = order_fault order ≡ None
 IsWholeAction (action.Amend order) = order_fault order ≡ None
+IsWholeAction (action.Put order) = order_fault order ≡ None
 IsWholeAction (action.Withdraw key) = Unit {0}
 
 -- a statement is what its text means

@@ -98,10 +98,11 @@ pub record SpellsScript (most : ℕ) (text : List ℕ) (requests : List RequestR
   pub spelled : SpellAll requests lines
   pub whole : All IsWholeRequest requests
 
--- whether the last of these actions adds or amends an order
+-- whether the last of these actions adds, amends or puts an order
 abbrev pub is_order : Action → Bool
 is_order (action.Add order) = true
 is_order (action.Amend order) = true
+is_order (action.Put order) = true
 is_order (action.Withdraw key) = false
 
 abbrev pub ends_in_order : List Action → Bool

@@ -16,13 +16,15 @@ use ssb_schema::{Action, Order, Text, number};
 use ssb_text::{has_columns, trimmed_at};
 use std::alloc::{AllocError, Global};
 
-/// How an order begins: as one that is absent, or one that is present.
+/// How an order begins: as one that is absent, one that is present, or either.
 #[derive(Clone, Copy, Debug, PartialEq, Eq)]
 pub enum OrderOpening {
     /// `add`: its key is absent.
     Add,
     /// `amend`: it takes the place of the order of its key.
     Amend,
+    /// `put`: it takes the place of the order of its key, if there is one.
+    Put,
 }
 
 /// What a record that is no `line` and no `abort` says.
@@ -34,7 +36,7 @@ pub enum Control {
     Sql(Text),
     /// `begin`: a refresh begins.
     Begin,
-    /// `add` or `amend`: an order begins.
+    /// `add`, `amend` or `put`: an order begins.
     Open(OrderOpening),
     /// `withdraw`: the order of this key is taken away.
     Withdraw(u64),
@@ -56,6 +58,7 @@ impl OrderOpening {
         match self {
             OrderOpening::Add => Action::Add(order),
             OrderOpening::Amend => Action::Amend(order),
+            OrderOpening::Put => Action::Put(order),
         }
     }
 }
@@ -102,6 +105,7 @@ impl Control {
             ScriptWord::Begin => Control::Begin.alone(fields),
             ScriptWord::Add => Control::Open(OrderOpening::Add).alone(fields),
             ScriptWord::Amend => Control::Open(OrderOpening::Amend).alone(fields),
+            ScriptWord::Put => Control::Open(OrderOpening::Put).alone(fields),
             ScriptWord::Withdraw => key_of(fields).map(Control::Withdraw),
             ScriptWord::Commit => Control::Commit.alone(fields),
             ScriptWord::Ask => Control::Ask.alone(fields),

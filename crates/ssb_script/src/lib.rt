@@ -2,9 +2,9 @@
 //! (lists of whole-order actions, in the manner of TPC-H's refresh functions), questions, and the lines of orders.
 //!
 //! A script is text, one record a line, fields parted by `|`: `query|Q4.1` asks, `ask` .. `answer` asks several
-//! questions that are answered together, `begin` .. `commit` is a refresh, and in it `add`, `amend` (each with its
-//! `line` records) and `withdraw|KEY` are its actions. `order|KEY` asks for the lines of an order. `abort` in place of
-//! `answer` or `commit` drops what was begun.
+//! questions that are answered together, `begin` .. `commit` is a refresh, and in it `add`, `amend`, `put` (each with
+//! its `line` records) and `withdraw|KEY` are its actions. `order|KEY` asks for the lines of an order. `abort` in place
+//! of `answer` or `commit` drops what was begun.
 //! The one contract, of `read_script`: the requests are exactly those whose lines the script's records spell, and an
 //! error is the first fault that the script has, record by record and check by check; only a failed read and lack of
 //! memory may come before it.

@@ -12,6 +12,7 @@ pub(crate) enum ScriptWord {
     Begin,
     Add,
     Amend,
+    Put,
     Line,
     Withdraw,
     Commit,
@@ -22,12 +23,13 @@ pub(crate) enum ScriptWord {
 }
 
 /// All words.
-pub(crate) const WORDS: [ScriptWord; 12] = [
+pub(crate) const WORDS: [ScriptWord; 13] = [
     ScriptWord::Query,
     ScriptWord::Sql,
     ScriptWord::Begin,
     ScriptWord::Add,
     ScriptWord::Amend,
+    ScriptWord::Put,
     ScriptWord::Line,
     ScriptWord::Withdraw,
     ScriptWord::Commit,
@@ -76,6 +78,7 @@ impl ScriptWord {
             ScriptWord::Begin => b"begin",
             ScriptWord::Add => b"add",
             ScriptWord::Amend => b"amend",
+            ScriptWord::Put => b"put",
             ScriptWord::Line => b"line",
             ScriptWord::Withdraw => b"withdraw",
             ScriptWord::Commit => b"commit",

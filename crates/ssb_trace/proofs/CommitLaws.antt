@@ -66,6 +66,7 @@ stands_inside None fields line e = absurd cc
 stands_inside (Some word.Commit) fields line e = absurd cc
 stands_inside (Some word.Add) fields line e = of_alone _ line (has_columns 1 fields) tt e
 stands_inside (Some word.Amend) fields line e = of_alone _ line (has_columns 1 fields) tt e
+stands_inside (Some word.Put) fields line e = of_alone _ line (has_columns 1 fields) tt e
 stands_inside (Some word.Line) fields line e = of_row _ line e
 stands_inside (Some word.Withdraw) fields line e = of_key (script.key_of fields) line e
 stands_inside (Some word.End) fields line e = of_alone _ line (has_columns 1 fields) tt e

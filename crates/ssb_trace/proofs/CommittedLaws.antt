@@ -36,6 +36,10 @@ says-amend : Says (codes "amend" ∷ []) (Inside (script.Open opening.Amend))
 unfolding word_of without_spaces
 says-amend = refl
 
+says-put : Says (codes "put" ∷ []) (Inside (script.Open opening.Put))
+unfolding word_of without_spaces
+says-put = refl
+
 says-end : Says (codes "end" ∷ []) (Inside script.Commit)
 unfolding word_of without_spaces
 says-end = refl
@@ -102,6 +106,11 @@ written-action client (action.Amend order) allowed =
     written_both (record_text (codes "amend") []) (flat_map line_text order) (Inside (script.Open opening.Amend) ∷ [])
     (map (in_commit client) (map script.Line order))
     (written_one (codes "amend" ∷ []) (Inside (script.Open opening.Amend)) (refl, refl, tt) says-amend)
+    (written-lines client order allowed)
+written-action client (action.Put order) allowed =
+    written_both (record_text (codes "put") []) (flat_map line_text order) (Inside (script.Open opening.Put) ∷ [])
+    (map (in_commit client) (map script.Line order))
+    (written_one (codes "put" ∷ []) (Inside (script.Open opening.Put)) (refl, refl, tt) says-put)
     (written-lines client order allowed)
 written-action client (action.Withdraw key) allowed =
     written_one (codes "withdraw" ∷ decimal key ∷ []) (Inside (script.Withdraw key))

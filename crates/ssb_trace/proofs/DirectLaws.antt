@@ -19,7 +19,7 @@ use Rattle.ssb_schema.specs.declared.table.Table.TheVariants as table
 use Rattle.ssb_script.specs.Lines.{ScriptLine}
 use Rattle.ssb_script.specs.Lines as script
 use Rattle.ssb_script.specs.Requests.{IsWholeRequest, Refresh, lines_of_action}
-use Rattle.ssb_script.specs.declared.control.OrderOpening.TheVariants.{Add, Amend}
+use Rattle.ssb_script.specs.declared.control.OrderOpening.TheVariants.{Add, Amend, Put}
 use Rattle.ssb_text.specs.Direct.{BeginsWithLined, BeginsWithNumbered, BeginsWithRecord}
 use Rattle.ssb_text.specs.Records.{HasRecords, record_config}
 use Rattle.ssb_text.specs.Row.{row_of}
@@ -77,6 +77,10 @@ says_amend : Says ((97 ∷ 109 ∷ 101 ∷ 110 ∷ 100 ∷ []) ∷ []) (Inside (
 unfolding word_of without_spaces
 says_amend = refl
 
+says_put : Says ((112 ∷ 117 ∷ 116 ∷ []) ∷ []) (Inside (script.Open Put))
+unfolding word_of without_spaces
+says_put = refl
+
 says_end : Says ((101 ∷ 110 ∷ 100 ∷ []) ∷ []) (Inside script.Commit)
 unfolding word_of without_spaces
 says_end = refl
@@ -125,6 +129,11 @@ pub begins_amend : {text behind end : List ℕ} (lines : List ScriptLine)
     → BeginsWithRecord text ((97 ∷ 109 ∷ 101 ∷ 110 ∷ 100 ∷ []) ∷ []) behind
     → BeginsWithLines behind (lines_in lines) end → BeginsWithLines text (lines_in (script.Open Amend ∷ lines)) end
 begins_amend lines begins rest = begins_both (begins_one begins says_amend) rest
+
+pub begins_put : {text behind end : List ℕ} (lines : List ScriptLine)
+    → BeginsWithRecord text ((112 ∷ 117 ∷ 116 ∷ []) ∷ []) behind
+    → BeginsWithLines behind (lines_in lines) end → BeginsWithLines text (lines_in (script.Open Put ∷ lines)) end
+begins_put lines begins rest = begins_both (begins_one begins says_put) rest
 
 pub begins_withdraw : {text behind : List ℕ} {key : ℕ} → BeginsWithNumbered withdraw_word text key behind
     → BeginsWithLines text (lines_in (script.Withdraw key ∷ [])) behind
@@ -176,6 +185,7 @@ order_inside client (line ∷ order) = ap (λ rest. Inside (script.Line line) �
 action_inside : (client : ℕ) (one : Action) → map (in_commit client) (lines_of_action one) ≡ lines_in (lines_of_action one)
 action_inside client (action.Add order) = ap (λ rest. Inside (script.Open Add) ∷ rest) (order_inside client order)
 action_inside client (action.Amend order) = ap (λ rest. Inside (script.Open Amend) ∷ rest) (order_inside client order)
+action_inside client (action.Put order) = ap (λ rest. Inside (script.Open Put) ∷ rest) (order_inside client order)
 action_inside client (action.Withdraw key) = refl
 
 actions_inside : (client : ℕ) (actions : List Action)

@@ -18,7 +18,7 @@ use Rattle.ssb_schema.specs.declared.refresh.Action.TheVariants as action
 use Rattle.ssb_script.specs.Lines.{ScriptLine, RecordFault}
 use Rattle.ssb_script.specs.Lines as script
 use Rattle.ssb_script.specs.Requests.{action_of, lines_of_action, lines_of_refresh}
-use Rattle.ssb_script.specs.declared.control.OrderOpening.TheVariants.{Add, Amend}
+use Rattle.ssb_script.specs.declared.control.OrderOpening.TheVariants.{Add, Amend, Put}
 use Rattle.ssb_text.proofs.OneListLaws.{one_records}
 use Rattle.ssb_trace.specs.Entries.{answers_in, commits_in, in_commit, lines_of_entries}
 use Rattle.ssb_trace.specs.Laws.{HasOneReading}
@@ -63,6 +63,7 @@ says_inside question (Some word.Row) fields line e = absurd cc
 says_inside question None fields line e = ap inside e
 says_inside question (Some word.Add) fields line e = ap inside e
 says_inside question (Some word.Amend) fields line e = ap inside e
+says_inside question (Some word.Put) fields line e = ap inside e
 says_inside question (Some word.Line) fields line e = ap inside e
 says_inside question (Some word.Withdraw) fields line e = ap inside e
 says_inside question (Some word.End) fields line e = ap inside e
@@ -217,6 +218,8 @@ of_action client outer (action.Add order) rest none = ap (before (Inside (script
     (of_order client outer order rest none)
 of_action client outer (action.Amend order) rest none =
     ap (before (Inside (script.Open Amend))) (of_order client outer order rest none)
+of_action client outer (action.Put order) rest none =
+    ap (before (Inside (script.Open Put))) (of_order client outer order rest none)
 of_action client outer (action.Withdraw key) rest none = refl
 
 of_actions : (client : ℕ) (outer : List TraceLine) (actions : List Action)

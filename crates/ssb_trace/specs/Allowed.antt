@@ -34,6 +34,7 @@ IsAllowedLine line = IsTableRow table.Lineorder (line_values line)
 abbrev pub IsAllowedAction : Action → Type 0
 IsAllowedAction (action.Add order) = AllByRecursion IsAllowedLine order
 IsAllowedAction (action.Amend order) = AllByRecursion IsAllowedLine order
+IsAllowedAction (action.Put order) = AllByRecursion IsAllowedLine order
 IsAllowedAction (action.Withdraw key) = key < 2 ^ 64
 
 -- one of at most 16 clients

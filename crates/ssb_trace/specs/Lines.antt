@@ -10,7 +10,7 @@ use Rattle.ssb_text.specs.Spelling.{field}
 use Rattle.ssb_schema.specs.declared.table.Table.TheVariants as table
 use Rattle.ssb_script.specs.Lines.{ScriptLine, RecordFault, Open, Withdraw, Commit, Bad, alone, key_of, line_or_bad}
 use Rattle.ssb_script.specs.Lines.{line_or_refusal}
-use Rattle.ssb_script.specs.declared.control.OrderOpening.TheVariants.{Add, Amend}
+use Rattle.ssb_script.specs.declared.control.OrderOpening.TheVariants.{Add, Amend, Put}
 use Rattle.ssb_trace.specs.Heads.{commit_of, head_of}
 use Rattle.ssb_trace.specs.Rows.{row_of}
 use Rattle.ssb_trace.specs.declared.heads.AnswerHead.{AnswerHead}
@@ -33,6 +33,7 @@ abbrev pub spelling_of : TraceWord → List ℕ
 spelling_of word.Commit = codes "commit"
 spelling_of word.Add = codes "add"
 spelling_of word.Amend = codes "amend"
+spelling_of word.Put = codes "put"
 spelling_of word.Line = codes "line"
 spelling_of word.Withdraw = codes "withdraw"
 spelling_of word.End = codes "end"
@@ -40,7 +41,8 @@ spelling_of word.Answer = codes "answer"
 spelling_of word.Row = codes "row"
 
 abbrev pub words : List TraceWord
-words = word.Commit ∷ word.Add ∷ word.Amend ∷ word.Line ∷ word.Withdraw ∷ word.End ∷ word.Answer ∷ word.Row ∷ []
+words = word.Commit ∷ word.Add ∷ word.Amend ∷ word.Put ∷ word.Line ∷ word.Withdraw ∷ word.End ∷ word.Answer ∷
+    word.Row ∷ []
 
 -- the word that bytes spell, letter for letter
 abbrev pub word_spelled : List ℕ → Option TraceWord
@@ -59,6 +61,7 @@ is_line _ = false
 abbrev pub line_inside : Option TraceWord → List (List ℕ) → Result ScriptLine RecordFault
 line_inside (Some word.Add) fields = line_or_bad (alone (Open Add) fields)
 line_inside (Some word.Amend) fields = line_or_bad (alone (Open Amend) fields)
+line_inside (Some word.Put) fields = line_or_bad (alone (Open Put) fields)
 line_inside (Some word.Line) fields = line_or_refusal (row.row_of table.Lineorder (drop 1 fields))
 line_inside (Some word.Withdraw) fields = line_or_bad (option_map Withdraw (key_of fields))
 line_inside (Some word.End) fields = line_or_bad (alone Commit fields)

@@ -3,7 +3,7 @@ use Rattle.std.specs.Prelude.{ℕ, List, [], ◌∷◌, ◌++◌, map, length, f
 use Rattle.ssb_schema.specs.Rows.{line_values}
 use Rattle.ssb_schema.specs.declared.line.LineFields.{LineFields}
 use Rattle.ssb_schema.specs.declared.refresh.Action.{Action}
-use Rattle.ssb_schema.specs.declared.refresh.Action.TheVariants.{Add, Amend, Withdraw}
+use Rattle.ssb_schema.specs.declared.refresh.Action.TheVariants.{Add, Amend, Put, Withdraw}
 use Rattle.ssb_questions.specs.Queries.{standard_constants}
 use Rattle.ssb_questions.specs.Query.{name_of}
 use Rattle.ssb_questions.specs.QuestionEq.{question_eq}
@@ -26,6 +26,7 @@ line_text line = record_text (codes "line") (map column_text (line_values line))
 abbrev pub action_text : Action → List ℕ
 action_text (Add order) = record_text (codes "add") [] ++ flat_map line_text order
 action_text (Amend order) = record_text (codes "amend") [] ++ flat_map line_text order
+action_text (Put order) = record_text (codes "put") [] ++ flat_map line_text order
 action_text (Withdraw key) = record_text (codes "withdraw") (decimal key ∷ [])
 
 -- a commit: its client, its actions, and its end

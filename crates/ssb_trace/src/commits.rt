@@ -41,6 +41,7 @@ fn write_action<W: Write>(writer: &mut W, action: &Action) -> Result<(), WriteFa
     match action {
         Action::Add(order) => write_order(writer, "add", order.lines()),
         Action::Amend(order) => write_order(writer, "amend", order.lines()),
+        Action::Put(order) => write_order(writer, "put", order.lines()),
         Action::Withdraw(key) => write_pieces(
             writer,
             &[

@@ -25,6 +25,7 @@ fn action_is_allowed(action: &Action)
     match action {
         Action::Add(order) => order_is_allowed(order),
         Action::Amend(order) => order_is_allowed(order),
+        Action::Put(order) => order_is_allowed(order),
         Action::Withdraw(key) => {
             let _key = *key;
         },

@@ -17,6 +17,7 @@ pub(crate) fn control_of(word: Option<TraceWord>, fields: &ByteRecord) -> Option
     match word {
         Some(TraceWord::Add) => Control::Open(OrderOpening::Add).alone(fields),
         Some(TraceWord::Amend) => Control::Open(OrderOpening::Amend).alone(fields),
+        Some(TraceWord::Put) => Control::Open(OrderOpening::Put).alone(fields),
         Some(TraceWord::Withdraw) => key_of(fields).map(Control::Withdraw),
         Some(TraceWord::End) => Control::Commit.alone(fields),
         Some(TraceWord::Line) => None,

@@ -62,6 +62,10 @@ fn take_action(alloc: Global, text: &[u8]) -> Option<(Action, &[u8])>
         let (order, behind) = take_order(alloc, rest)?;
         return Some((Action::Amend(order), behind));
     }
+    if let Some(rest) = take_word(text, b"put") {
+        let (order, behind) = take_order(alloc, rest)?;
+        return Some((Action::Put(order), behind));
+    }
     let (key, behind) = take_numbered(text, b"withdraw")?;
     Some((Action::Withdraw(key), behind))
 }

@@ -13,6 +13,7 @@ pub(crate) enum TraceWord {
     Commit,
     Add,
     Amend,
+    Put,
     Line,
     Withdraw,
     End,
@@ -21,10 +22,11 @@ pub(crate) enum TraceWord {
 }
 
 /// All words.
-pub(crate) const WORDS: [TraceWord; 8] = [
+pub(crate) const WORDS: [TraceWord; 9] = [
     TraceWord::Commit,
     TraceWord::Add,
     TraceWord::Amend,
+    TraceWord::Put,
     TraceWord::Line,
     TraceWord::Withdraw,
     TraceWord::End,
@@ -40,6 +42,7 @@ impl TraceWord {
             TraceWord::Commit => b"commit",
             TraceWord::Add => b"add",
             TraceWord::Amend => b"amend",
+            TraceWord::Put => b"put",
             TraceWord::Line => b"line",
             TraceWord::Withdraw => b"withdraw",
             TraceWord::End => b"end",

@@ -11,7 +11,7 @@ use Rattle.row_store.specs.declared.refusal.Cause.TheVariants.{LogFull}
 use Rattle.std.specs.Option.{option_or, option_map}
 use Rattle.ssb_schema.specs.declared.line.LineFields.{LineFields}
 use Rattle.ssb_schema.specs.declared.refresh.Action.{Action}
-use Rattle.ssb_schema.specs.declared.refresh.Action.TheVariants.{Add, Amend, Withdraw}
+use Rattle.ssb_schema.specs.declared.refresh.Action.TheVariants.{Add, Amend, Put, Withdraw}
 use Rattle.ssb_base.specs.Base.{Tables}
 use Rattle.row_store.specs.Lines.{lines_after_action, lines_after_refresh}
 use Rattle.row_store.specs.History.{CommitRecord, lines_after}
@@ -33,6 +33,7 @@ cause-same : (base : Tables) (history : List CommitRecord) (lines : List LineFie
     → cause_of (tables_after base history) lines action ≡ cause_of base lines action
 cause-same base history lines (Add order) = refl
 cause-same base history lines (Amend order) = refl
+cause-same base history lines (Put order) = refl
 cause-same base history lines (Withdraw key) = refl
 
 refusal-same : (base : Tables) (history : List CommitRecord) (number : ℕ) (lines : List LineFields) (actions : List Action)

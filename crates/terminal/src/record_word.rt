@@ -13,6 +13,7 @@ pub enum RecordWord {
     Begin,
     Add,
     Amend,
+    Put,
     Line,
     Withdraw,
     Commit,
@@ -26,11 +27,12 @@ pub enum RecordWord {
 pub(crate) const BARRED: [RecordWord; 1] = [RecordWord::Format];
 
 /// Those of records whose fields blanks part: all.
-pub(crate) const BLANK: [RecordWord; 11] = [
+pub(crate) const BLANK: [RecordWord; 12] = [
     RecordWord::Format,
     RecordWord::Begin,
     RecordWord::Add,
     RecordWord::Amend,
+    RecordWord::Put,
     RecordWord::Line,
     RecordWord::Withdraw,
     RecordWord::Commit,
@@ -50,6 +52,7 @@ impl RecordWord {
             RecordWord::Begin => b"begin",
             RecordWord::Add => b"add",
             RecordWord::Amend => b"amend",
+            RecordWord::Put => b"put",
             RecordWord::Line => b"line",
             RecordWord::Withdraw => b"withdraw",
             RecordWord::Commit => b"commit",

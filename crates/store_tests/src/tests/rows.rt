@@ -158,6 +158,45 @@ fn amended_orders_do_not_count_their_old_lines(rt: HostRuntime) -> Result<(), Fa
     Ok(())
 }
 
+// Order 2 has one line; order 9 is one line too many, until order 1 has one line; then order 2 may not have two.
+const PUT: &str = "\
+begin
+put
+line|2|1|3|4|3|19971215|o|0|1|10|10|0|10|2000|0|19971215|AIR
+commit
+begin
+put
+line|9|1|3|4|3|19971215|o|0|1|10|10|0|10|2000|0|19971215|AIR
+commit
+begin
+put
+line|1|1|3|4|3|19971215|o|0|1|10|10|0|10|2000|0|19971215|AIR
+put
+line|9|1|3|4|3|19971215|o|0|1|10|10|0|10|2000|0|19971215|AIR
+commit
+begin
+put
+line|2|1|3|4|3|19971215|o|0|1|10|10|0|10|2000|0|19971215|AIR
+line|2|2|3|4|3|19971215|o|0|1|10|10|0|10|2000|0|19971215|AIR
+commit
+";
+
+#[test]
+fn orders_that_are_put_do_not_count_their_old_lines(rt: HostRuntime) -> Result<(), Fail> {
+    let told = replies(&rt, Limits::new(4, 4, 3).ok_or("limits")?, PUT)?;
+    reads(
+        &rt,
+        &told,
+        "\
+committed 1
+refused at 1 action 1: 46 LinesFull
+committed 2
+refused at 2 action 1: 46 LinesFull
+lines 4",
+    );
+    Ok(())
+}
+
 // The line numbers of an order's lines.
 fn numbers_of(alloc: Global, store: &RowStore, key: u64) -> Result<String, Fail> {
     let mut told = String::new(alloc);

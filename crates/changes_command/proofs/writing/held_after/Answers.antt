@@ -1,7 +1,7 @@
 use Rattle.std.proofs.Common.{◌≡◌, sym, ◌∙◌}
 use Rattle.ssb_schema.specs.Orders.{order_key}
 use Rattle.row_store.proofs.CountedLaws.{lines_gone}
-use Rattle.changes_command.proofs.HeldLaws.{held_added, held_amended, held_beside_added, held_beside_amended}
+use Rattle.changes_command.proofs.HeldLaws.{held_added, held_replaced, held_beside_added, held_beside_replaced}
 use Rattle.changes_command.proofs.HeldLaws.{held_beside_withdrawn}
 use Rattle.changes_command.proofs.writing.held_after.Goals as goal
 
@@ -18,15 +18,16 @@ returns-else-key c = λ base before lines none was.
 
 pub returns-then-key-2 : goal.returns-then-key-2
 returns-then-key-2 c = λ base before lines none was.
-    rw c.in-Amend.is (held_amended c.args.key lines c.in-Amend.order c.lines-lines-in-Amend.ensures.order
-    (sym c.key-in-Amend.ensures ∙ c.if-key-2.true) ∙ sym c.lines-lines-in-Amend.ensures.lines)
+    held_replaced c.args.key lines c.args.action.now c.in-Amend.order c.in-Amend.is
+    c.lines-lines-in-Amend.ensures.order
+    (sym c.key-in-Amend.ensures ∙ c.if-key-2.true) ∙ sym c.lines-lines-in-Amend.ensures.lines
 
 pub returns-else-key-2 : goal.returns-else-key-2
 returns-else-key-2 c = λ base before lines none was.
     let apart : order_key c.in-Amend.order ≡ c.args.key → ⊥ =
     λ same. c.if-key-2.false (c.key-in-Amend.ensures ∙ same) in
-    rw c.in-Amend.is (held_beside_amended c.args.key before c.args.held lines c.in-Amend.order
-    c.lines-lines-in-Amend.ensures.order apart was)
+    held_beside_replaced c.args.key before c.args.held lines c.args.action.now c.in-Amend.order c.in-Amend.is
+    c.lines-lines-in-Amend.ensures.order apart was
 
 pub returns-then-gone-key : goal.returns-then-gone-key
 returns-then-gone-key c = λ base before lines none was.

@@ -1,10 +1,12 @@
-use Rattle.std.proofs.Common.{◌≡◌, length, sym, ap, ◌∙◌, arith}
+use Rattle.std.proofs.Common.{◌≡◌, length, sym, ap, ◌∙◌, arith, ⊎_elim}
 use Rattle.std.proofs.lemmas.Grind.{common_steps}
 use Rattle.std.proofs.lemmas.List.{length-map}
 use Rattle.ssb_schema.specs.declared.refresh.Action.{Action}
 use Rattle.ssb_schema.specs.Facts.{facts_of}
+use Rattle.ssb_schema.specs.Orders.{order_key}
 use Rattle.row_store.specs.Lines.{added_by}
-use Rattle.fact_columns.specs.Coded.{key_of}
+use Rattle.row_store.proofs.ReplacedLaws.{replaced_added, replaced_counts}
+use Rattle.fact_columns.specs.Coded.{counts_at, key_of}
 use Rattle.fact_columns.specs.Places.{fact_at}
 use Rattle.fact_columns.proofs.CodingLaws.{codes_own}
 use Rattle.fact_columns.proofs.orders.apply_action.Goals as goal
@@ -26,13 +28,15 @@ add-requires g c =
 pub add-requires-in-Amend : goal.add-requires-in-Amend
 add-requires-in-Amend g c =
     let action = c.args.action.now in
+    let key : key_of action ≡ order_key c.in-Amend.order =
+    ⊎_elim (λ is. ap key_of is) (λ is. ap key_of is) c.in-Amend.is in
     record {
       room = omega (arith, c.withdraw-freed.ensures.room, c.requires.room);
       small = omega (arith, c.withdraw-freed.ensures.len, c.requires.small);
       spare = omega (arith, c.withdraw-freed.ensures.spare, c.requires.spare);
       live = c.requires.coded.lives;
       own = λ k d within. codes_own c.requires.dimensions (added_by action) c.args.lines.now (key_of action)
-          c.requires.coded c.requires.alike k d within ∙ ap key_of c.in-Amend.is ∙ sym c.key-in-Amend-2.ensures;
+          c.requires.coded c.requires.alike k d within ∙ key ∙ sym c.key-in-Amend-2.ensures;
       spanned = c.withdraw-freed.ensures.spanned;
       behind = omega (
         arith,
@@ -52,6 +56,8 @@ returns-in-Amend g c = record {
     c.withdraw-freed.ensures.counts dimensions,
     c.add-in-Amend.ensures.counts dimensions,
     codes.read,
+    replaced_added c.args.action.now c.in-Amend.order c.in-Amend.is,
+    replaced_counts (counts_at dimensions c.args.table.now.places) c.args.action.now c.in-Amend.order c.in-Amend.is,
   );
   count = omega (arith, c.add-in-Amend.ensures.count, c.withdraw-freed.ensures.count);
   inside = λ dimensions fresh all. c.add-in-Amend.ensures.inside dimensions fresh

@@ -10,6 +10,7 @@ use Rattle.row_store.specs.Keyed.{Located, IsAt, IsWithin, lines_from}
 use Rattle.row_store.proofs.CauseLaws.{new_key}
 use Rattle.row_store.proofs.CountedLaws.{HaveKey}
 use Rattle.row_store.proofs.PlacedLaws.{located_more, located_amended, located_withdrawn}
+use Rattle.row_store.proofs.ReplacedLaws.{replaced_added, replaced_after}
 use Rattle.row_store.proofs.place.put.Goals as goal
 
 on_ok : {A E : Type 0} (r : Result A E) (P : Type 0) → IsOk r → OnOk r P → P
@@ -43,8 +44,11 @@ returns-in-Amend-clause-each c base sources lines found within each none =
     let order : List LineFields = c.in-Amend.order in
     let updates = on_ok c.insert-in-Amend.result _ (c.insert-in-Amend.ensures.succeeds c.requires)
     c.insert-in-Amend.ensures.updates in
-    let there : lines_from sources (length order) c.args.source ≡ order = rw c.in-Amend.is at found in
-    let inside : IsWithin sources (length order) c.args.source = rw c.in-Amend.is at within in
+    let adds = replaced_added c.args.action.now order c.in-Amend.is in
+    let there : lines_from sources (length order) c.args.source ≡ order =
+    subst (λ l. lines_from sources (length l) c.args.source ≡ l) adds found in
+    let inside : IsWithin sources (length order) c.args.source =
+    subst (λ l. IsWithin sources (length l) c.args.source) adds within in
     let count : length c.lines-in-Amend.result.now ≡ length order = ap length c.lines-in-Amend.ensures.lines in
     let place : OrderPlace = record { lines = length c.lines-in-Amend.result.now; source = c.args.source } in
     let at : IsAt sources place order = record {
@@ -63,7 +67,9 @@ returns-in-Amend-clause-each c base sources lines found within each none =
     λ key same alike now. subst (λ k. Located sources (get nat_eq c.insert-in-Amend.new.self)
     (lines_without k lines ++ order)) same (located_amended sources (get nat_eq c.args.orders.now)
     (get nat_eq c.insert-in-Amend.new.self) lines order key place now at alike each) in
-    λ q. rw c.in-Amend.is (amended c.key-in-Amend.result key alike updates.0 q)
+    subst (Located sources (get nat_eq c.insert-in-Amend.new.self))
+    (sym (replaced_after lines c.args.action.now order c.in-Amend.is))
+    (amended c.key-in-Amend.result key alike updates.0)
 
 pub returns-in-Withdraw-clause-each : goal.returns-in-Withdraw-clause-each
 returns-in-Withdraw-clause-each c base sources lines found within each none =

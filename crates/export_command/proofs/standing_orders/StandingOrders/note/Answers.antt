@@ -1,8 +1,10 @@
 use Rattle.std.proofs.Common.{Some, ap, ◌∙◌, subst}
+use Rattle.row_store.proofs.ReplacedLaws.{replaced_added}
 use Rattle.row_store.specs.Lines.{added_by}
 use Rattle.export_command.specs.After.{AddsOrder}
 use Rattle.export_command.proofs.ExportLaws.{on_ok}
-use Rattle.export_command.proofs.FollowLaws.{at_place, notes_add, notes_amend, notes_withdraw, own_lines}
+use Rattle.export_command.proofs.FollowLaws.{at_place, notes_add, notes_replace, notes_withdraw, own_lines}
+use Rattle.export_command.proofs.FollowLaws.{replaced_order}
 use Rattle.export_command.proofs.standing_orders.StandingOrders.note.Goals as goal
 
 pub join-requires-clause-own : goal.join-requires-clause-own
@@ -21,7 +23,8 @@ join-requires-in-Amend-clause-own c =
     let action = c.index-actions-place.result in
     own_lines actions place c.key-key.result action c.in-Amend.order
     (at_place c.actions.result.now actions place action (cc) c.requires.within c.index-actions-place.is)
-    (ap added_by c.in-Amend.is) (subst AddsOrder c.in-Amend.is c.adds_order.ensures) c.key-key.ensures
+    (replaced_added action c.in-Amend.order c.in-Amend.is)
+    (replaced_order action c.in-Amend.order c.in-Amend.is c.adds_order.ensures) c.key-key.ensures
 
 pub returns-in-Add-clause-left : goal.returns-in-Add-clause-left
 returns-in-Add-clause-left c =
@@ -40,10 +43,10 @@ returns-in_ok-leave-in-Amend-clause-left c =
     let place = c.args.place in
     let action = c.index-actions-place.result in
     on_ok _ _ c.join-in-Amend.result
-    (notes_amend actions place c.key-key.result c.in-Amend.order c.args.self.now c.leave.new.self
+    (notes_replace actions place c.key-key.result action c.in-Amend.order c.args.self.now c.leave.new.self
     c.join-in-Amend.new.self
-    (at_place c.actions.result.now actions place action (cc) c.requires.within c.index-actions-place.is
-    ∙ ap Some c.in-Amend.is) c.key-key.ensures c.in_ok-leave-in-Amend.ensures.left) c.join-in-Amend.ensures.left
+    (at_place c.actions.result.now actions place action (cc) c.requires.within c.index-actions-place.is) c.in-Amend.is
+    c.key-key.ensures c.in_ok-leave-in-Amend.ensures.left) c.join-in-Amend.ensures.left
 
 pub returns-in-Withdraw-clause-left : goal.returns-in-Withdraw-clause-left
 returns-in-Withdraw-clause-left c =

@@ -1,6 +1,6 @@
 use Rattle.std.proofs.Common.{rules, ◌≡◌, ◌-◌, List, length, refl, sym, ap, ◌∙◌, subst, arith}
 use Rattle.ssb_schema.specs.declared.line.LineFields.{LineFields}
-use Rattle.ssb_schema.specs.declared.refresh.Action.TheVariants.{Add, Amend}
+use Rattle.ssb_schema.specs.declared.refresh.Action.TheVariants.{Add, Amend, Put}
 use Rattle.ssb_schema.specs.Orders.{order_key}
 use Rattle.ssb_base.specs.Base.{Tables}
 use Rattle.row_store.specs.Lines.{lines_without, lines_after_refresh}
@@ -57,6 +57,27 @@ returns-else-count-eq0 c =
     c.count-count-in-Amend.ensures c.if-count-eq0.false) refl
     (subst (λ b. Joined c.lines_after_joining-in-Amend.result b (lines_without (order_key order) now) order) held
     (c.lines_after_joining-in-Amend.ensures (lines_without (order_key order) now) kept)))
+
+pub overflow_sub-live-in-Put : goal.overflow_sub-live-in-Put
+overflow_sub-live-in-Put c =
+    let now : List LineFields = lines_after_refresh (lines_after c.args.self.now.base c.args.self.now.log)
+    c.args.earlier.now in
+    omega (arith, length_kept c.key.result now, c.count-gone.ensures, c.requires.live)
+
+pub returns-in-Put : goal.returns-in-Put
+returns-in-Put c =
+    let base : Tables = c.args.self.now.base in
+    let now : List LineFields = lines_after_refresh (lines_after base c.args.self.now.log) c.args.earlier.now in
+    let order : List LineFields = c.in-Put.order in
+    let key : c.key.result ≡ order_key order = c.key.ensures in
+    let kept : length (lines_without (order_key order) now) ≡ c.args.live - c.count-gone.result =
+    ap (λ k. length (lines_without k now)) (sym key) ∙ omega
+    (arith, length_kept c.key.result now, c.count-gone.ensures, c.requires.live) in
+    let held : c.deref-in-Put.result.now ≡ base = search rules in
+    rw c.in-Put.is (joined base c.lines_after_joining-in-Put.result now (Put order)
+    (lines_without (order_key order) now) order refl refl
+    (subst (λ b. Joined c.lines_after_joining-in-Put.result b (lines_without (order_key order) now) order) held
+    (c.lines_after_joining-in-Put.ensures (lines_without (order_key order) now) kept)))
 
 pub returns-then-count-eq0-2 : goal.returns-then-count-eq0-2
 returns-then-count-eq0-2 c =
