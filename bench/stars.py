@@ -17,12 +17,14 @@ ODD_NUMBERS = ["0", "7", "01993", str(GREATEST), "0000000000000199401"]
 
 # The columns that a question may group by and test, each with the kind of its values in `traffic.Tables`.
 COLUMNS = {
-    "C_CITY": "city", "C_NATION": "nation", "C_REGION": "region", "S_CITY": "city", "S_NATION": "nation",
+    "C_CITY": "city", "C_NATION": "nation", "C_REGION": "region", "C_MKTSEGMENT": "segment", "S_CITY": "city", "S_NATION": "nation",
     "S_REGION": "region", "P_MFGR": "maker", "P_CATEGORY": "category", "P_BRAND1": "brand", "D_YEAR": "year",
-    "D_YEARMONTHNUM": "month", "D_YEARMONTH": "month_name", "D_WEEKNUMINYEAR": "week"}
-NUMBER_COLUMNS = {"D_YEAR", "D_YEARMONTHNUM", "D_WEEKNUMINYEAR"}
+    "D_YEARMONTHNUM": "month", "D_YEARMONTH": "month_name", "D_WEEKNUMINYEAR": "week", "D_DATEKEY": "day",
+    "D_DAYOFWEEK": "day_name", "D_MONTH": "month_word", "D_SELLINGSEASON": "season", "D_HOLIDAYFL": "holiday"}
+NUMBER_COLUMNS = {"D_DATEKEY", "D_YEAR", "D_YEARMONTHNUM", "D_WEEKNUMINYEAR"}
 LINE_COLUMNS = {"LO_QUANTITY": 50, "LO_DISCOUNT": 10}       # with the greatest value of a line
-MEASURES = ["LO_REVENUE", "LO_REVENUE-LO_SUPPLYCOST", "LO_EXTENDEDPRICE*LO_DISCOUNT", "LO_QUANTITY", "COUNT"]
+MEASURES = ["LO_REVENUE", "LO_REVENUE-LO_SUPPLYCOST", "LO_EXTENDEDPRICE*LO_DISCOUNT", "LO_QUANTITY", "LO_EXTENDEDPRICE",
+            "LO_SUPPLYCOST", "COUNT"]
 
 # By the first letter of a column: its table, the key there, and the key in a line.
 DIMENSIONS = {"C": ("customer", "c_custkey", "lo_custkey"), "S": ("supplier", "s_suppkey", "lo_suppkey"),
@@ -91,7 +93,8 @@ class Stars:
         values = [self.value(column) for _ in range(count)]
         if count > 1 and self.chance(0.2):
             values[0] = values[1]
-        return [f"{column}={value}" for value in values]
+        mark = "!=" if self.chance(0.3) else "="
+        return [f"{column}{mark}{value}" for value in values]
 
     def range_of(self, column):
         """Most ranges hold something; some are turned round, and some begin or end with no value that is there."""
@@ -134,12 +137,14 @@ class Star:
     def __init__(self, constants):
         self.measure, *rest = constants
         self.by_sum = rest[-1:] == [ORDER]
-        self.groups, self.one_of, self.ranges = [], {}, {}
+        self.groups, self.one_of, self.none_of, self.ranges = [], {}, {}, {}
         for constant in rest[:-1] if self.by_sum else rest:
             name, is_test, value = constant.partition("=")
             first, is_range, last = value.partition("..")
             if not is_test:
                 self.groups.append(name)
+            elif name.endswith("!"):
+                self.none_of.setdefault(name[:-1], []).append(value)
             elif is_range or name in LINE_COLUMNS:
                 self.ranges[name] = first, last if is_range else first
             else:
@@ -154,6 +159,9 @@ class Star:
         for name, values in self.one_of.items():
             if name[0] == kind:
                 tests.append(f"{name.lower()} IN ({', '.join(literal(name, value) for value in values)})")
+        for name, values in self.none_of.items():
+            if name[0] == kind:
+                tests.append(f"{name.lower()} NOT IN ({', '.join(literal(name, value) for value in values)})")
         for name, (first, last) in self.ranges.items():
             if name[0] == kind:
                 column = name.lower()

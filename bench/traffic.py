@@ -55,7 +55,10 @@ class Tables:
             "city": column(parties, 3), "nation": column(parties, 4), "region": column(parties, 5),
             "maker": column(parts, 2), "category": column(parts, 3), "brand": column(parts, 4),
             "year": column(dates, 4), "month": column(dates, 5), "month_name": column(dates, 6),
-            "week": column(dates, 11), "discount": [str(n) for n in range(11)], "quantity": [str(n) for n in range(51)]}
+            "week": column(dates, 11), "day": column(dates, 0), "day_name": column(dates, 2),
+            "month_word": column(dates, 3), "season": column(dates, 12), "holiday": column(dates, 15),
+            "segment": column(rows("customer"), 7), "discount": [str(n) for n in range(11)],
+            "quantity": [str(n) for n in range(51)]}
 
 
 class Order:

@@ -72,10 +72,12 @@ LINEORDER = ("LO_ORDERKEY", "LO_LINENUMBER", "LO_CUSTKEY", "LO_PARTKEY", "LO_SUP
              "LO_DISCOUNT", "LO_REVENUE", "LO_SUPPLYCOST", "LO_TAX", "LO_COMMITDATE", "LO_SHIPMODE")
 TEXTS = {"LO_ORDERPRIORITY", "LO_SHIPMODE"}
 TEXT_OR_NUMBER = "LO_SHIPPRIORITY"      # a text, which is 0 in the benchmark
-MEASURES = ("LO_REVENUE", "LO_REVENUE-LO_SUPPLYCOST", "LO_EXTENDEDPRICE*LO_DISCOUNT", "LO_QUANTITY", "COUNT")
-NUMBERS = {"D_YEAR", "D_YEARMONTHNUM", "D_WEEKNUMINYEAR", "LO_DISCOUNT", *MEASURES}
-GROUPS = ("C_CITY", "C_NATION", "C_REGION", "S_CITY", "S_NATION", "S_REGION", "P_MFGR", "P_CATEGORY", "P_BRAND1",
-          "D_YEAR", "D_YEARMONTHNUM", "D_YEARMONTH", "D_WEEKNUMINYEAR")
+MEASURES = ("LO_REVENUE", "LO_REVENUE-LO_SUPPLYCOST", "LO_EXTENDEDPRICE*LO_DISCOUNT", "LO_QUANTITY",
+            "LO_EXTENDEDPRICE", "LO_SUPPLYCOST", "COUNT")
+NUMBERS = {"D_DATEKEY", "D_YEAR", "D_YEARMONTHNUM", "D_WEEKNUMINYEAR", "LO_DISCOUNT", *MEASURES}
+GROUPS = ("C_CITY", "C_NATION", "C_REGION", "C_MKTSEGMENT", "S_CITY", "S_NATION", "S_REGION", "P_MFGR",
+          "P_CATEGORY", "P_BRAND1", "D_DATEKEY", "D_DAYOFWEEK", "D_MONTH", "D_YEAR", "D_YEARMONTHNUM", "D_YEARMONTH",
+          "D_WEEKNUMINYEAR", "D_SELLINGSEASON", "D_HOLIDAYFL")
 TESTS = ("LO_QUANTITY", "LO_DISCOUNT")      # columns of tests that are no groups
 # The columns that causes of refusals are about, and the causes 3 and 4 of a fault 73.
 KEYS = {42: "LO_CUSTKEY", 43: "LO_SUPPKEY", 44: "LO_PARTKEY", 45: "LO_ORDERDATE",
@@ -268,9 +270,11 @@ def columns_of(name, constants=()):
 
 
 def tests_of(name, constants):
-    """The columns and the values that a question looks for; of a range of star its ends, as they are sent."""
+    """The columns and the values that a question looks for; of a range of star its ends, as they are sent. What star
+    excludes is not looked for."""
     if name == "star":
-        return [tuple(it.split("=", 1)) for it in constants[1:] if "=" in it and not it.startswith(("LO_", "ORDER="))]
+        tests = [tuple(it.split("=", 1)) for it in constants[1:] if "=" in it]
+        return [(column, value) for column, value in tests if column in GROUPS]
     return [(column, value) for column, value in zip(CONSTANTS.get(name, ()), constants) if column in GROUPS]
 
 
@@ -328,17 +332,19 @@ def line_field(column, value):
 def constant_field(name, number, constant, value):
     """A value as a constant of a question, which has this name and this number among them."""
     column, place = constant.split()[0], f"{name}: constant {number}, {constant},"
-    return number_of(value, column, place, 32) if column in NUMBERS else text_of(value, column, place)
+    bits = 64 if column == "D_DATEKEY" else 32
+    return number_of(value, column, place, bits) if column in NUMBERS else text_of(value, column, place)
 
 
 def wanted_of_star(number, constant):
     """What is wanted in the place of a constant of star that is none; None where it may be one."""
-    column, is_test, _ = constant.partition("=")
+    column, is_test, value = constant.partition("=")
     if number == 1:
         return None if constant in MEASURES else f"a measure is wanted: {', '.join(MEASURES)}"
-    if column in GROUPS or is_test and column in TESTS or constant == "ORDER=SUM":
+    is_excluded = is_test and column.endswith("!") and column[:-1] in GROUPS and ".." not in value
+    if column in GROUPS or is_excluded or is_test and column in TESTS or constant == "ORDER=SUM":
         return None
-    return ("COLUMN, COLUMN=VALUE, COLUMN=FROM..TO or ORDER=SUM is wanted; a column is "
+    return ("COLUMN, COLUMN=VALUE, COLUMN!=VALUE, COLUMN=FROM..TO or ORDER=SUM is wanted; a column is "
             f"{', '.join(GROUPS)}, and of a test also {' or '.join(TESTS)}")
 
 
@@ -351,7 +357,7 @@ def star_field(number, constant):
         raise WrongValue(f"star: constant {number} is {shown(constant)}; {wanted}", None, constant)
     column, is_test, value = constant.partition("=")
     for end in value.split("..", 1) if is_test and column != "ORDER" else ():
-        constant_field("star", number, column, end)
+        constant_field("star", number, column.rstrip("!"), end)
     return constant
 
 

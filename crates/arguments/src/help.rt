@@ -21,19 +21,21 @@ macro_rules! help_with_questions {
 
 The query star is a question of your own. Its constants, at most 64, are a measure, then group columns, then tests:
 
-  LO_REVENUE, LO_REVENUE-LO_SUPPLYCOST, LO_EXTENDEDPRICE*LO_DISCOUNT, LO_QUANTITY or COUNT
-              the measure: what is summed over the lines; COUNT is the number of lines
+  LO_REVENUE, LO_REVENUE-LO_SUPPLYCOST, LO_EXTENDEDPRICE*LO_DISCOUNT, LO_QUANTITY, LO_EXTENDEDPRICE, LO_SUPPLYCOST or
+  COUNT       the measure: what is summed over the lines; COUNT is the number of lines
   COLUMN      a group column; they are printed in the order given; at most four, each once
   COLUMN=VALUE
               a test: the column has this value; given again for the column: one of these values, at most 16
+  COLUMN!=VALUE
+              a test: the column has another value; given again for the column: none of these values, at most 16
   COLUMN=FROM..TO
-              a test: from FROM to TO, both included; once for a column, and no other test of it
+              a test: from FROM to TO, both included; once for a column, and no COLUMN=VALUE of it
   LO_QUANTITY=FROM..TO, LO_DISCOUNT=FROM..TO
               a test of the line itself; also with one number; once each
   ORDER=SUM   at the end: the largest sum first; without it rows are in the order of the group columns
 
-COLUMN is C_CITY, C_NATION, C_REGION, S_CITY, S_NATION, S_REGION, P_MFGR, P_CATEGORY, P_BRAND1, D_YEAR, D_YEARMONTHNUM,
-D_YEARMONTH or D_WEEKNUMINYEAR.
+COLUMN is C_CITY, C_NATION, C_REGION, C_MKTSEGMENT, S_CITY, S_NATION, S_REGION, P_MFGR, P_CATEGORY, P_BRAND1, D_DATEKEY,
+D_DAYOFWEEK, D_MONTH, D_YEAR, D_YEARMONTHNUM, D_YEARMONTH, D_WEEKNUMINYEAR, D_SELLINGSEASON or D_HOLIDAYFL.
 ",
             $behind
         )
@@ -280,10 +282,11 @@ the largest sum is to stand first.
   star COUNT D_YEAR 'C_REGION=MIDDLE EAST' C_REGION=ASIA
                                               a value with a blank in quotes; two values: lines that have one of these
 
-The measure is LO_REVENUE, LO_REVENUE-LO_SUPPLYCOST, LO_EXTENDEDPRICE*LO_DISCOUNT, LO_QUANTITY or COUNT. The columns are
-C_CITY, C_NATION, C_REGION of customers, S_CITY, S_NATION, S_REGION of suppliers, P_MFGR, P_CATEGORY, P_BRAND1 of parts,
-and D_YEAR, D_YEARMONTHNUM, D_YEARMONTH, D_WEEKNUMINYEAR. LO_QUANTITY and LO_DISCOUNT can be tested too. To see which
-values a column has, group by it: star COUNT C_REGION.
+The measure is LO_REVENUE, LO_REVENUE-LO_SUPPLYCOST, LO_EXTENDEDPRICE*LO_DISCOUNT, LO_QUANTITY, LO_EXTENDEDPRICE,
+LO_SUPPLYCOST or COUNT. The columns are C_CITY, C_NATION, C_REGION, C_MKTSEGMENT of customers, S_CITY, S_NATION,
+S_REGION of suppliers, P_MFGR, P_CATEGORY, P_BRAND1 of parts, and D_DATEKEY, D_DAYOFWEEK, D_MONTH, D_YEAR,
+D_YEARMONTHNUM, D_YEARMONTH, D_WEEKNUMINYEAR, D_SELLINGSEASON, D_HOLIDAYFL. LO_QUANTITY and LO_DISCOUNT can be tested
+too. To see which values a column has, group by it: star COUNT C_REGION.
 ";
 
 /// What the word `schema` shows there.
@@ -293,10 +296,11 @@ The five tables. What has a * can be tested and grouped by; LO_QUANTITY and LO_D
   lineorder  LO_ORDERKEY, LO_LINENUMBER, LO_CUSTKEY, LO_PARTKEY, LO_SUPPKEY, LO_ORDERDATE, LO_ORDERPRIORITY,
              LO_SHIPPRIORITY, LO_QUANTITY, LO_EXTENDEDPRICE, LO_ORDTOTALPRICE, LO_DISCOUNT, LO_REVENUE, LO_SUPPLYCOST,
              LO_TAX, LO_COMMITDATE, LO_SHIPMODE
-  customer   C_CUSTKEY, C_NAME, C_ADDRESS, C_CITY*, C_NATION*, C_REGION*, C_PHONE, C_MKTSEGMENT
+  customer   C_CUSTKEY, C_NAME, C_ADDRESS, C_CITY*, C_NATION*, C_REGION*, C_PHONE, C_MKTSEGMENT*
   supplier   S_SUPPKEY, S_NAME, S_ADDRESS, S_CITY*, S_NATION*, S_REGION*, S_PHONE
   part       P_PARTKEY, P_NAME, P_MFGR*, P_CATEGORY*, P_BRAND1*, P_COLOR, P_TYPE, P_SIZE, P_CONTAINER
-  date       D_DATEKEY, D_YEAR*, D_YEARMONTHNUM*, D_YEARMONTH*, D_WEEKNUMINYEAR*, and twelve that no question reads
+  date       D_DATEKEY*, D_DAYOFWEEK*, D_MONTH*, D_YEAR*, D_YEARMONTHNUM*, D_YEARMONTH*, D_WEEKNUMINYEAR*,
+             D_SELLINGSEASON*, D_HOLIDAYFL*, and eight that no question reads
 
 LO_CUSTKEY, LO_SUPPKEY, LO_PARTKEY and LO_ORDERDATE of a line name its rows of the other tables, which stay as they were
 loaded: refreshes change lineorder alone. To see which values a column has, group by it: star COUNT C_REGION.

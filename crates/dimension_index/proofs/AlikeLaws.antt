@@ -2,7 +2,7 @@
 use Rattle.std.proofs.Common.{◌≡◌, ℕ, ◌+◌, ◌<◌, ◌≤◌, ◌⊎◌, inl, inr, Bool, true, false, cond, List, [], ◌∷◌, length, map}
 use Rattle.std.proofs.Common.{fold, get_or, Some, zero, suc, sym, refl, ap, ◌∙◌, arith, unwrap_or}
 use Rattle.std.specs.Prelude.{nat_eq, nat_lt, ◌&&◌, if◌then◌else◌, slice_get}
-use Rattle.std.specs.List.{position_from, range_with_len}
+use Rattle.std.specs.List.{AllByRecursion, position_from, range_with_len}
 use Rattle.std.proofs.lemmas.Bool.{ltb-false, ltb-true}
 use Rattle.std.proofs.lemmas.List.{get_or-map}
 use Rattle.std.proofs.lemmas.List.FromFn.{get_or-map-range_with_len}
@@ -24,7 +24,7 @@ use Rattle.dimension_index.specs.Classes.{are_alike, class_at, classes_by, class
 apart : {X : Type 0} → true ≡ false → X
 apart e = absurd (cc)
 
-order : (m n : ℕ) → (m < n) ⊎ (n ≤ m)
+pub order : (m n : ℕ) → (m < n) ⊎ (n ≤ m)
 order m zero = grind arith
 order zero (suc n) = grind arith
 order (suc m) (suc n) = grind (arith, order m n)
@@ -70,38 +70,22 @@ both : (a b : Bool) → (a && b) ≡ true → (a ≡ true) × (b ≡ true)
 both true b e = (refl, e)
 both false b e = absurd (cc)
 
--- rows that are alike in four columns have the same four values
-pub four_values : {R : Type 0} (value : ℕ → R → Value) (rows : List R) (k l m n p q : ℕ) (row first : R)
-    → are_alike (map (value k) rows ∷ map (value l) rows ∷ map (value m) rows ∷ map (value n) rows ∷ []) p q ≡ true
+-- rows that are alike in some columns have the same values there
+pub alike_values : {R : Type 0} (value : ℕ → R → Value) (rows : List R) (places : List ℕ) (p q : ℕ) (row first : R)
+    → are_alike (map (λ place. map (value place) rows) places) p q ≡ true
     → slice_get rows p ≡ Some row → slice_get rows q ≡ Some first
-    → (value k row ≡ value k first) × (value l row ≡ value l first) × (value m row ≡ value m first)
-    × (value n row ≡ value n first)
-four_values {R = R} value rows k l m n p q row first alike at_p at_q =
-    (same k one.0, same l two.0, same m three.0, same n last.0)
+    → AllByRecursion (λ place. value place row ≡ value place first) places
+alike_values value rows [] p q row first alike at_p at_q = tt
+alike_values {R = R} value rows (place ∷ places) p q row first alike at_p at_q =
+    let here : (is_same (get_or (map (value place) rows) p (Number 0)) (get_or (map (value place) rows) q (Number 0))
+    ≡ true) × (are_alike (map (λ own. map (value own) rows) places) p q ≡ true) = both _ _ alike in (
+      sym (at p row at_p) ∙ (value_Decides _ _).0 here.0 ∙ at q first at_q,
+      alike_values value rows places p q row first here.1 at_p at_q,
+    )
   where
-    here : ℕ → ℕ → Value
-    here place i = get_or (map (value place) rows) i (Number 0)
-
-    one : (is_same (here k p) (here k q) ≡ true) × (are_alike
-        (map (value l) rows ∷ map (value m) rows ∷ map (value n) rows ∷ []) p q ≡ true)
-    one = both _ _ alike
-
-    two : (is_same (here l p) (here l q) ≡ true) × (are_alike (map (value m) rows ∷ map (value n) rows ∷ []) p q ≡ true)
-    two = both _ _ one.1
-
-    three : (is_same (here m p) (here m q) ≡ true) × (are_alike (map (value n) rows ∷ []) p q ≡ true)
-    three = both _ _ two.1
-
-    last : (is_same (here n p) (here n q) ≡ true) × (true ≡ true)
-    last = both _ _ three.1
-
-    at : (place i : ℕ) (r : R) → slice_get rows i ≡ Some r → here place i ≡ value place r
-    at place i r there = get_or-map (value place) rows i r (Number 0) (slice_get_within rows i r there)
+    at : (i : ℕ) (r : R) → slice_get rows i ≡ Some r → get_or (map (value place) rows) i (Number 0) ≡ value place r
+    at i r there = get_or-map (value place) rows i r (Number 0) (slice_get_within rows i r there)
         ∙ ap (value place) (get_or_from_slice_get rows i r r there)
-
-    same : (place : ℕ) → is_same (here place p) (here place q) ≡ true → value place row ≡ value place first
-    same place is = sym (at place p row at_p) ∙ (value_Decides (here place p) (here place q)).0 is
-        ∙ at place q first at_q
 
 -- the rows at the positions p and q, the second the class of the first, have the same value at every place
 pub same_customers : (d : Dimensions) (p q : ℕ) (row first : CustomerFields) → slice_get d.customers p ≡ Some row
@@ -111,10 +95,10 @@ unfolding classes_of
 same_customers d p q row first at_p is at_q place =
     let columns = read_columns d table.Customer in
     let found = class_found columns (length d.customers) p (slice_get_within d.customers p row at_p) in
-    let values = four_values customer_value d.customers 4 5 6 0 p q row first (ap (are_alike columns p) is ∙ found.1)
+    let values = alike_values customer_value d.customers (4 ∷ 5 ∷ 6 ∷ 8 ∷ []) p q row first (ap (are_alike columns p) is ∙ found.1)
     at_p at_q in
-    λ i. if nat_eq place 4 then values.0 i else if nat_eq place 5 then values.1 i else if nat_eq place 6 then values.2 i
-    else Number 0
+    λ i. if nat_eq place 4 then values.0 i else if nat_eq place 5 then values.1.0 i else
+    if nat_eq place 6 then values.1.1.0 i else if nat_eq place 8 then values.1.1.1.0 i else Number 0
 
 pub same_suppliers : (d : Dimensions) (p q : ℕ) (row first : SupplierFields) → slice_get d.suppliers p ≡ Some row
     → q ≡ get_or (classes_of d table.Supplier) p 0 → slice_get d.suppliers q ≡ Some first
@@ -123,10 +107,10 @@ unfolding classes_of
 same_suppliers d p q row first at_p is at_q place =
     let columns = read_columns d table.Supplier in
     let found = class_found columns (length d.suppliers) p (slice_get_within d.suppliers p row at_p) in
-    let values = four_values supplier_value d.suppliers 4 5 6 0 p q row first (ap (are_alike columns p) is ∙ found.1)
+    let values = alike_values supplier_value d.suppliers (4 ∷ 5 ∷ 6 ∷ 0 ∷ []) p q row first (ap (are_alike columns p) is ∙ found.1)
     at_p at_q in
-    λ i. if nat_eq place 4 then values.0 i else if nat_eq place 5 then values.1 i else if nat_eq place 6 then values.2 i
-    else Number 0
+    λ i. if nat_eq place 4 then values.0 i else if nat_eq place 5 then values.1.0 i else
+    if nat_eq place 6 then values.1.1.0 i else Number 0
 
 pub same_parts : (d : Dimensions) (p q : ℕ) (row first : PartFields) → slice_get d.parts p ≡ Some row
     → q ≡ get_or (classes_of d table.Part) p 0 → slice_get d.parts q ≡ Some first
@@ -135,10 +119,10 @@ unfolding classes_of
 same_parts d p q row first at_p is at_q place =
     let columns = read_columns d table.Part in
     let found = class_found columns (length d.parts) p (slice_get_within d.parts p row at_p) in
-    let values = four_values part_value d.parts 3 4 5 0 p q row first (ap (are_alike columns p) is ∙ found.1) at_p at_q
+    let values = alike_values part_value d.parts (3 ∷ 4 ∷ 5 ∷ 0 ∷ []) p q row first (ap (are_alike columns p) is ∙ found.1) at_p at_q
     in
-    λ i. if nat_eq place 3 then values.0 i else if nat_eq place 4 then values.1 i else if nat_eq place 5 then values.2 i
-    else Number 0
+    λ i. if nat_eq place 3 then values.0 i else if nat_eq place 4 then values.1.0 i else
+    if nat_eq place 5 then values.1.1.0 i else Number 0
 
 pub same_dates : (d : Dimensions) (p q : ℕ) (row first : DateFields) → slice_get d.dates p ≡ Some row
     → q ≡ get_or (classes_of d table.Date) p 0 → slice_get d.dates q ≡ Some first
@@ -147,10 +131,13 @@ unfolding classes_of
 same_dates d p q row first at_p is at_q place =
     let columns = read_columns d table.Date in
     let found = class_found columns (length d.dates) p (slice_get_within d.dates p row at_p) in
-    let values = four_values date_value d.dates 5 6 7 12 p q row first (ap (are_alike columns p) is ∙ found.1) at_p at_q
+    let values = alike_values date_value d.dates (1 ∷ 3 ∷ 4 ∷ 5 ∷ 6 ∷ 7 ∷ 12 ∷ 13 ∷ 16 ∷ []) p q row first (ap (are_alike columns p) is ∙ found.1) at_p at_q
     in
-    λ i. if nat_eq place 5 then values.0 i else if nat_eq place 6 then values.1 i else if nat_eq place 7 then values.2 i
-    else if nat_eq place 12 then values.3 i else Number 0
+    λ i. if nat_eq place 1 then values.0 i else if nat_eq place 3 then values.1.0 i else
+    if nat_eq place 4 then values.1.1.0 i else if nat_eq place 5 then values.1.1.1.0 i else
+    if nat_eq place 6 then values.1.1.1.1.0 i else if nat_eq place 7 then values.1.1.1.1.1.0 i else
+    if nat_eq place 12 then values.1.1.1.1.1.1.0 i else if nat_eq place 13 then values.1.1.1.1.1.1.1.0 i else
+    if nat_eq place 16 then values.1.1.1.1.1.1.1.1.0 i else Number 0
 
 -- every class is below the extent
 longer_is : (most class : ℕ) → (most ≤ (if nat_lt most (class + 1) then class + 1 else most))

@@ -1,16 +1,21 @@
 -- The classes of rows, from their codes.
-use Rattle.std.proofs.Common.{◌≡◌, ℕ, ◌+◌, ◌<◌, Bool, true, false, cond, List, [], ◌∷◌, ◌++◌, length, map, get_or}
+use Rattle.std.proofs.Common.{◌≡◌, ℕ, ◌+◌, ◌<◌, ◌≤◌, inl, inr, Bool, true, false, cond, List, [], ◌∷◌, ◌++◌, length, map, get_or}
 use Rattle.std.proofs.Common.{Some, None, zero, suc, sym, refl, ap, ◌∙◌, arith, unwrap_or, take}
 use Rattle.std.specs.Prelude.{◌&&◌, if◌then◌else◌}
 use Rattle.std.specs.List.{position, position_from, range_with_len}
 use Rattle.std.specs.Option.{option_or}
+use Rattle.std.specs.Cmp.{first_so}
 use Rattle.std.proofs.lemmas.Bool.{eq-eqb}
 use Rattle.std.proofs.lemmas.List.{length-map, length-take-le, take_more}
-use Rattle.std.proofs.lemmas.List.FromFn.{length-map-range_with_len}
+use Rattle.std.proofs.lemmas.List.FromFn.{get_or-map-range_with_len, length-map-range_with_len}
 use Rattle.std.proofs.lemmas.Iterator.Adapters.{position_from-zero}
-use Rattle.ssb_base.specs.Base.{Dimensions, Tables}
+use Rattle.ssb_base.specs.Base.{Dimensions, Tables, has_key_of}
+use Rattle.ssb_schema.specs.FirstFault.{AreDistinct}
+use Rattle.ssb_schema.specs.Keys.{date_key}
+use Rattle.ssb_schema.specs.declared.date.DateFields.{DateFields}
 use Rattle.ssb_schema.specs.declared.table.Table.{Table}
 use Rattle.ssb_schema.specs.declared.table.Table.TheVariants as table
+use Rattle.ssb_questions.proofs.ValueLaws.{value_Decides}
 use Rattle.ssb_questions.specs.declared.value.Value.{Value}
 use Rattle.ssb_questions.specs.declared.value.Value.TheVariants.{Number}
 use Rattle.dimension_index.specs.Codes.{codes_of, is_same}
@@ -20,7 +25,9 @@ use Rattle.dimension_index.specs.Classes.{rows_in}
 use Rattle.dimension_index.specs.Values.{values_of}
 use Rattle.ssb_schema.specs.declared.column.Column.{Column}
 use Rattle.dimension_index.specs.Told.{RowCodes, same_told, told_at, told_rows, first_in}
+use Rattle.dimension_index.proofs.AlikeLaws.{class_found, order}
 use Rattle.dimension_index.proofs.CodeLaws.{same_codes}
+use Rattle.dimension_index.proofs.KeyLaws.{keys_apart}
 
 -- the first place in a list with one element more
 position_push : {X : Type 0} (test : X → Bool) (a : ℕ) (xs : List X) (y : X)
@@ -109,21 +116,76 @@ four_of base columns d =
     values_of base (get_or columns 0 d) ∷ values_of base (get_or columns 1 d) ∷ values_of base (get_or columns 2 d)
     ∷ values_of base (get_or columns 3 d) ∷ []
 
-classes_read : (base : Tables) (t : Table) (d : Column)
+classes_read : (base : Tables) (t : Table) (d : Column) → length (telling_columns t) ≤ 4
     → classes_by (four_of base (telling_columns t) d) (length (values_of base (get_or (telling_columns t) 0 d)))
     ≡ classes_of base.dimensions t
 unfolding classes_of
-classes_read base table.Customer d = grind (arith, length-map)
-classes_read base table.Supplier d = grind (arith, length-map)
-classes_read base table.Part d = grind (arith, length-map)
-classes_read base table.Date d = grind (arith, length-map)
-classes_read base table.Lineorder d = grind arith
+classes_read base table.Customer d few = grind (arith, length-map)
+classes_read base table.Supplier d few = grind (arith, length-map)
+classes_read base table.Part d few = grind (arith, length-map)
+classes_read base table.Date d few = absurd (omega (arith, few))
+classes_read base table.Lineorder d few = grind arith
 
--- the columns that queries read tell the classes
-pub classes_kept : (base : Tables) (t : Table) (columns : List Column) (d : Column) → columns ≡ telling_columns t
+-- the columns that queries read tell the classes, where there are four
+pub classes_kept : (base : Tables) (t : Table) (columns : List Column) (d : Column) → length (telling_columns t) ≤ 4
+    → columns ≡ telling_columns t
     → classes_by (four_of base columns d) (length (values_of base (get_or columns 0 d))) ≡ classes_of base.dimensions t
-classes_kept base t columns d is =
-    ap (λ l. classes_by (four_of base l d) (length (values_of base (get_or l 0 d)))) is ∙ classes_read base t d
+classes_kept base t columns d few is =
+    ap (λ l. classes_by (four_of base l d) (length (values_of base (get_or l 0 d)))) is
+    ∙ classes_read base t d few
+
+-- rows that have distinct keys are each of a class of its own
+map_same : (f : ℕ → ℕ) (a n : ℕ) → ((j : ℕ) → j < a + n → f j ≡ j)
+    → map (λ p. p) (range_with_len a n) ≡ map f (range_with_len a n)
+map_same f a zero same = refl
+map_same f a (suc n) same = λ i. sym (same a (omega arith)) i ∷ map_same f (a + 1) n
+    (λ j lt. same j (omega (arith, lt))) i
+
+own_class : (d : Dimensions) → AreDistinct (has_key_of date_key) d.dates → (p : ℕ) → p < length d.dates
+    → class_at (read_columns d table.Date) (length d.dates) p ≡ p
+own_class d distinct p within =
+    let columns = read_columns d table.Date in
+    let found = class_found columns (length d.dates) p within in
+    let class : ℕ = class_at columns (length d.dates) p in
+    let is : get_or (classes_by columns (length d.dates)) p 0 ≡ class =
+    get_or-map-range_with_len (class_at columns (length d.dates)) 0 (length d.dates) p p 0 within (omega arith) in
+    let not_after : class ≤ p = omega (arith, found.0, is) in
+    let alike : are_alike columns p class ≡ true = ap (are_alike columns p) (sym is) ∙ found.1 in
+    let key_values : List Value = map (λ (row : DateFields). Number row.key) d.dates in
+    let here : get_or key_values p (Number 0) ≡ get_or key_values class (Number 0) =
+    (value_Decides (get_or key_values p (Number 0)) (get_or key_values class (Number 0))).0
+    (first_so _ _ alike) in
+    let same_keys : get_or (map date_key d.dates) class 0 ≡ get_or (map date_key d.dates) p 0 =
+    sym (same_key d.dates p class within (omega (arith, within, not_after)) here) in
+    let not_before : class < p → ⊥ =
+    λ before. keys_apart date_key d.dates distinct class p before within same_keys in
+    elim (order class p) [
+      | inl before ↦ absurd (not_before before)
+      | inr after ↦ omega (arith, after, not_after)
+    ]
+  where
+    number_is : {m n : ℕ} → Number m ≡ Number n → m ≡ n
+    number_is e = cc
+
+    keyed : (rows : List DateFields) (p : ℕ) → p < length rows
+        → Number (get_or (map date_key rows) p 0) ≡ get_or (map (λ (row : DateFields). Number row.key) rows) p (Number 0)
+    keyed [] p at = absurd (omega (arith, at))
+    keyed (row ∷ rows) zero at = refl
+    keyed (row ∷ rows) (suc p) at = keyed rows p (omega (arith, at))
+
+    same_key : (rows : List DateFields) (p q : ℕ) → p < length rows → q < length rows
+        → get_or (map (λ (row : DateFields). Number row.key) rows) p (Number 0)
+        ≡ get_or (map (λ (row : DateFields). Number row.key) rows) q (Number 0)
+        → get_or (map date_key rows) p 0 ≡ get_or (map date_key rows) q 0
+    same_key rows p q at_p at_q e =
+        number_is (keyed rows p at_p ∙ e ∙ sym (keyed rows q at_q))
+
+pub dates_apart : (d : Dimensions) → AreDistinct (has_key_of date_key) d.dates
+    → map (λ p. p) (range_with_len 0 (length d.dates)) ≡ classes_of d table.Date
+unfolding classes_of
+dates_apart d distinct =
+    map_same (class_at (read_columns d table.Date) (length d.dates)) 0 (length d.dates)
+    (λ p lt. own_class d distinct p (omega (arith, lt)))
 
 -- there are as many classes as keys
 pub classes_keys : (base : Tables) (t : Table) → length (classes_of base.dimensions t) ≡ length (keys_of base t)

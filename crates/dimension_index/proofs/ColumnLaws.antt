@@ -1,5 +1,5 @@
 -- The columns that no query reads have the number 0 in every row.
-use Rattle.std.proofs.Common.{◌≡◌, ℕ, ◌<◌, Bool, false, cond, List, All, ◌+◌, ◌++◌, length, get_or, slice_get, Some}
+use Rattle.std.proofs.Common.{◌≡◌, ℕ, ◌<◌, Bool, true, false, cond, List, All, ◌+◌, ◌++◌, length, get_or, slice_get, Some}
 use Rattle.std.proofs.Common.{map, sym, ap, ◌∙◌, eqb, refl, lit<, arith}
 use Rattle.std.proofs.lemmas.Bool.{ne_eqb}
 use Rattle.std.proofs.lemmas.List.{get_or_append_left, get_or-append-add, length-append}
@@ -26,18 +26,15 @@ abbrev IsUnread : Column → Type 0
 IsUnread column = All (λ own. own ≡ column → ⊥) query_columns
 
 -- a column that is none of those has another place than the one of its table that stands there
-elsewhere : (t : Table) (place own i : ℕ) → IsUnread (column_at t place) → i < 13
+elsewhere : (t : Table) (place own i : ℕ) → IsUnread (column_at t place) → i < 19
     → column_at t own ≡ get_or query_columns i (unread t) → eqb place own ≡ false
 elsewhere t place own i absent within is = ne_eqb place own
     (λ same. absent i (unread t) within (sym is ∙ ap (column_at t) (sym same)))
 
-three : (a b c : Bool) (x y z : Value) → a ≡ false → b ≡ false → c ≡ false
-    → Number 0 ≡ cond a x (cond b y (cond c z (Number 0)))
-three a b c x y z p q r = grind arith
-
-four : (a b c d : Bool) (x y z w : Value) → a ≡ false → b ≡ false → c ≡ false → d ≡ false
-    → Number 0 ≡ cond a x (cond b y (cond c z (cond d w (Number 0))))
-four a b c d x y z w p q r s = grind (arith, three)
+-- what stands elsewhere is not what is there
+not_there : {y : Value} (a : Bool) (x : Value) → a ≡ false → Number 0 ≡ y → Number 0 ≡ cond a x y
+not_there true x e rest = absurd cc
+not_there false x e rest = rest
 
 unread_at : (base : Tables) (t : Table) (place : ℕ) → IsUnread (column_at t place)
     → values_at base t 0 ≡ values_at base t place
@@ -45,27 +42,36 @@ unread_at base table.Customer place absent =
     let city = elsewhere table.Customer place 4 0 absent (lit< tt) refl in
     let nation = elsewhere table.Customer place 5 1 absent (lit< tt) refl in
     let region = elsewhere table.Customer place 6 2 absent (lit< tt) refl in
-    λ i. map (λ (row : CustomerFields). three (eqb place 4) (eqb place 5) (eqb place 6) (Text row.city)
-    (Text row.nation) (Text row.region) city nation region i) base.dimensions.customers
+    let segment = elsewhere table.Customer place 8 3 absent (lit< tt) refl in
+    λ i. map (λ (row : CustomerFields).
+    (not_there (eqb place 4) (Text row.city) city (not_there (eqb place 5) (Text row.nation) nation (not_there (eqb place 6) (Text row.region) region (not_there (eqb place 8) (Text row.market_segment) segment refl)))) i)
+    base.dimensions.customers
 unread_at base table.Supplier place absent =
-    let city = elsewhere table.Supplier place 4 3 absent (lit< tt) refl in
-    let nation = elsewhere table.Supplier place 5 4 absent (lit< tt) refl in
-    let region = elsewhere table.Supplier place 6 5 absent (lit< tt) refl in
-    λ i. map (λ (row : SupplierFields). three (eqb place 4) (eqb place 5) (eqb place 6) (Text row.city)
-    (Text row.nation) (Text row.region) city nation region i) base.dimensions.suppliers
+    let city = elsewhere table.Supplier place 4 4 absent (lit< tt) refl in
+    let nation = elsewhere table.Supplier place 5 5 absent (lit< tt) refl in
+    let region = elsewhere table.Supplier place 6 6 absent (lit< tt) refl in
+    λ i. map (λ (row : SupplierFields).
+    (not_there (eqb place 4) (Text row.city) city (not_there (eqb place 5) (Text row.nation) nation (not_there (eqb place 6) (Text row.region) region refl))) i)
+    base.dimensions.suppliers
 unread_at base table.Part place absent =
-    let manufacturer = elsewhere table.Part place 3 6 absent (lit< tt) refl in
-    let category = elsewhere table.Part place 4 7 absent (lit< tt) refl in
-    let brand = elsewhere table.Part place 5 8 absent (lit< tt) refl in
-    λ i. map (λ (row : PartFields). three (eqb place 3) (eqb place 4) (eqb place 5) (Text row.manufacturer)
-    (Text row.category) (Text row.brand) manufacturer category brand i) base.dimensions.parts
+    let manufacturer = elsewhere table.Part place 3 7 absent (lit< tt) refl in
+    let category = elsewhere table.Part place 4 8 absent (lit< tt) refl in
+    let brand = elsewhere table.Part place 5 9 absent (lit< tt) refl in
+    λ i. map (λ (row : PartFields).
+    (not_there (eqb place 3) (Text row.manufacturer) manufacturer (not_there (eqb place 4) (Text row.category) category (not_there (eqb place 5) (Text row.brand) brand refl))) i)
+    base.dimensions.parts
 unread_at base table.Date place absent =
-    let year = elsewhere table.Date place 5 9 absent (lit< tt) refl in
-    let month = elsewhere table.Date place 6 10 absent (lit< tt) refl in
-    let name = elsewhere table.Date place 7 11 absent (lit< tt) refl in
-    let week = elsewhere table.Date place 12 12 absent (lit< tt) refl in
-    λ i. map (λ (row : DateFields). four (eqb place 5) (eqb place 6) (eqb place 7) (eqb place 12) (Number row.year)
-    (Number row.year_month_number) (Text row.year_month) (Number row.week) year month name week i)
+    let key = elsewhere table.Date place 1 10 absent (lit< tt) refl in
+    let day = elsewhere table.Date place 3 11 absent (lit< tt) refl in
+    let month = elsewhere table.Date place 4 12 absent (lit< tt) refl in
+    let year = elsewhere table.Date place 5 13 absent (lit< tt) refl in
+    let number = elsewhere table.Date place 6 14 absent (lit< tt) refl in
+    let name = elsewhere table.Date place 7 15 absent (lit< tt) refl in
+    let week = elsewhere table.Date place 12 16 absent (lit< tt) refl in
+    let season = elsewhere table.Date place 13 17 absent (lit< tt) refl in
+    let holiday = elsewhere table.Date place 16 18 absent (lit< tt) refl in
+    λ i. map (λ (row : DateFields).
+    (not_there (eqb place 1) (Number row.key) key (not_there (eqb place 3) (Text row.day_of_week) day (not_there (eqb place 4) (Text row.month) month (not_there (eqb place 5) (Number row.year) year (not_there (eqb place 6) (Number row.year_month_number) number (not_there (eqb place 7) (Text row.year_month) name (not_there (eqb place 12) (Number row.week) week (not_there (eqb place 13) (Text row.selling_season) season (not_there (eqb place 16) (Text row.holiday_flag) holiday refl))))))))) i)
     base.dimensions.dates
 unread_at base table.Lineorder place absent = refl
 
@@ -96,8 +102,8 @@ kept_read base column place there = slice_get-map (values_of base) kept_columns 
 -- any other is kept as the one at place 0 of its table
 pub kept_unread : (base : Tables) (column : Column) (place : ℕ) → IsUnread column
     → slice_get unread_columns place ≡ Some (unread column.table)
-    → slice_get (map (values_of base) kept_columns) (13 + place) ≡ Some (values_of base column)
+    → slice_get (map (values_of base) kept_columns) (19 + place) ≡ Some (values_of base column)
 kept_unread base column place absent there =
-    slice_get-map (values_of base) kept_columns (13 + place)
+    slice_get-map (values_of base) kept_columns (19 + place)
     ∙ ap (option_map (values_of base)) (in_second query_columns unread_columns place (unread column.table) there)
     ∙ ap Some (unread_alike base column absent)

@@ -50,6 +50,12 @@ keys_differ key rows d distinct i j lt within same =
     (slice_get-get_or rows i d (omega (arith, lt, within))) (slice_get-get_or rows j d within) in
     grind (arith, nat_tests, apart, one, two, same)
 
+pub keys_apart : {R : Type 0} (key : R → ℕ) (rows : List R) → AreDistinct (has_key_of key) rows → (i j : ℕ) → i < j
+    → j < length rows → get_or (map key rows) i 0 ≡ get_or (map key rows) j 0 → ⊥
+keys_apart key [] distinct i j lt within same = absurd (omega (arith, within))
+keys_apart key (row ∷ rows) distinct i j lt within same =
+    keys_differ key (row ∷ rows) row distinct i j lt within same
+
 -- the row that is found has the key
 found_has : {R : Type 0} (key : R → ℕ) (rows : List R) (k : ℕ) → has_key key rows k ≡ true → (row : R)
     × (row_with key rows k ≡ Some row) × (key row ≡ k)

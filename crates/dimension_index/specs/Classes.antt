@@ -6,8 +6,9 @@ use Rattle.ssb_schema.specs.declared.table.Table.{Table}
 use Rattle.ssb_schema.specs.declared.table.Table.TheVariants as table
 use Rattle.ssb_schema.specs.declared.column.Column.{Column}
 use Rattle.ssb_base.specs.Base.{Dimensions, Tables}
-use Rattle.ssb_schema.specs.Columns.{C_CITY, C_NATION, C_REGION, S_CITY, S_NATION, S_REGION, P_MFGR, P_CATEGORY}
-use Rattle.ssb_schema.specs.Columns.{P_BRAND1, D_YEAR, D_YEARMONTHNUM, D_YEARMONTH, D_WEEKNUMINYEAR}
+use Rattle.ssb_schema.specs.Columns.{C_CITY, C_NATION, C_REGION, C_MKTSEGMENT, S_CITY, S_NATION, S_REGION, P_MFGR}
+use Rattle.ssb_schema.specs.Columns.{P_CATEGORY, P_BRAND1, D_DATEKEY, D_DAYOFWEEK, D_MONTH, D_YEAR, D_YEARMONTHNUM}
+use Rattle.ssb_schema.specs.Columns.{D_YEARMONTH, D_WEEKNUMINYEAR, D_SELLINGSEASON, D_HOLIDAYFL}
 use Rattle.ssb_questions.specs.declared.value.Value.{Value}
 use Rattle.ssb_questions.specs.declared.value.Value.TheVariants.{Number}
 use Rattle.dimension_index.specs.Codes.{is_same}
@@ -18,10 +19,12 @@ use Rattle.dimension_index.specs.declared.first_rows.Extents.{Extents}
 -- the columns by which queries tell a dimension's rows apart; where there are three, with the one at place 0, which
 -- stands for all others and tells none apart
 abbrev pub telling_columns : Table → List Column
-telling_columns table.Customer = C_CITY ∷ C_NATION ∷ C_REGION ∷ unread table.Customer ∷ []
+telling_columns table.Customer = C_CITY ∷ C_NATION ∷ C_REGION ∷ C_MKTSEGMENT ∷ []
 telling_columns table.Supplier = S_CITY ∷ S_NATION ∷ S_REGION ∷ unread table.Supplier ∷ []
 telling_columns table.Part = P_MFGR ∷ P_CATEGORY ∷ P_BRAND1 ∷ unread table.Part ∷ []
-telling_columns table.Date = D_YEAR ∷ D_YEARMONTHNUM ∷ D_YEARMONTH ∷ D_WEEKNUMINYEAR ∷ []
+telling_columns table.Date =
+    D_DATEKEY ∷ D_DAYOFWEEK ∷ D_MONTH ∷ D_YEAR ∷ D_YEARMONTHNUM ∷ D_YEARMONTH ∷ D_WEEKNUMINYEAR ∷ D_SELLINGSEASON
+    ∷ D_HOLIDAYFL ∷ []
 telling_columns table.Lineorder =
     unread table.Lineorder ∷ unread table.Lineorder ∷ unread table.Lineorder ∷ unread table.Lineorder ∷ []
 

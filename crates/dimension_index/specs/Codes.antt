@@ -27,4 +27,4 @@ codes_of values = map (code_in (distinct values)) values
 -- what a hash reads of a value
 abbrev pub hash_input_of : Value → List (List ℕ)
 hash_input_of (Text text) = fed.str text
-hash_input_of (Number number) = fed.u32 number
+hash_input_of (Number number) = fed.u64 number

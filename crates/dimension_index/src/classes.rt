@@ -1,6 +1,7 @@
 //! The classes of rows: a row's class is the position of the first row that no query can tell from it.
 ghost use Rattle.std.specs.Prelude.{◌≡◌, ◌<◌, ◌^◌, ◌∷◌, [], map, length, slice_get, Some, IfOk, OnOk, unwrap_or};
 ghost use Rattle.std.specs.HashMap.{get};
+ghost use Rattle.std.specs.List.{range_with_len};
 ghost use Rattle.dimension_index.specs.Classes.{classes_by, extent_of};
 ghost use Rattle.dimension_index.specs.Told.{RowCodes as Codes, same_told, told_at, told_rows, first_in, noted};
 
@@ -107,6 +108,18 @@ pub fn classes_by(
         fourth.codes(),
     )?;
     first_places(alloc, &rows)
+}
+
+/// The classes of so many rows, each of its own.
+pub fn numbered(alloc: Global, count: usize) -> Result<Vec<u32>, AllocError>
+    requires { count < 2 ^ 32 }
+    ensures { IfOk result (λ classes. classes.items ≡ map (λ place. place) (range_with_len 0 count)) }
+{
+    let mut classes = Vec::with_capacity(alloc, count)?;
+    for place in 0..count {
+        classes.push(place as u32)?;
+    }
+    Ok(classes)
 }
 
 /// The number of rows up to the last that begins a class.

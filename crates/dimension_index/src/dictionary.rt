@@ -161,7 +161,7 @@ impl Dictionary {
     }
 
     /// The number of a code; 0 where it is the code of a text, or of nothing.
-    pub fn number(&self, code: u32) -> u32
+    pub fn number(&self, code: u32) -> u64
         ensures { result ≡ number_of (slice_get self.now code) }
     {
         match self.words.get_index(code as usize) {

@@ -1,7 +1,8 @@
 //! The index of the dimensions.
-ghost use Rattle.std.specs.Prelude.{◌≡◌, ◌<◌, ◌^◌, ◌++◌, IfOk, OnOk, length, map, slice_get, slice_index};
+ghost use Rattle.std.specs.Prelude.{◌≡◌, ◌<◌, ◌≤◌, ◌^◌, ◌++◌, IfOk, OnOk, length, map, slice_get, slice_index};
 ghost use Rattle.ssb_base.specs.Base.{has_key_of};
 ghost use Rattle.ssb_schema.specs.FirstFault.{AreDistinct};
+ghost use Rattle.ssb_schema.specs.declared.table.Table.TheVariants as table;
 ghost use Rattle.ssb_questions.specs.Queries.{number_of, text_of};
 ghost use Rattle.dimension_index.specs.Keys.{position_in, position_of, keys_of};
 ghost use Rattle.dimension_index.specs.Values.{values_of};
@@ -11,7 +12,7 @@ ghost use Rattle.dimension_index.specs.Classes.{classes_of, telling_columns, red
 ghost use Rattle.dimension_index.specs.Kept.{kept_columns, unread};
 
 use crate::bitmap::Bitmap;
-use crate::classes::{classes_by, extent_of};
+use crate::classes::{classes_by, extent_of, numbered};
 use crate::coded::CodedColumn;
 use crate::dictionary::Dictionary;
 use crate::first_rows::{Extents, FirstRows};
@@ -19,8 +20,8 @@ use crate::kept::{kept_at, unread_columns};
 use ssb_answers::Test;
 use ssb_base::{Base, Dimension};
 use ssb_schema::{
-    C_CITY, C_NATION, C_REGION, Column, D_WEEKNUMINYEAR, D_YEAR, D_YEARMONTH, D_YEARMONTHNUM,
-    Keyed, P_BRAND1, P_CATEGORY, P_MFGR, S_CITY, S_NATION, S_REGION, Table, query_columns,
+    C_CITY, C_MKTSEGMENT, C_NATION, C_REGION, Column, Keyed, P_BRAND1, P_CATEGORY, P_MFGR, S_CITY,
+    S_NATION, S_REGION, Table, query_columns,
 };
 use std::alloc::{AllocError, Global};
 use std::marker::Model;
@@ -112,20 +113,39 @@ fn unread(table: Table) -> Column
     Column { table, place: 0 }
 }
 
-// The columns by which queries tell a dimension's rows apart: where there are three, with one that tells none apart.
-fn telling_columns(table: Table) -> [Column; 4]
-    ensures { result ≡ telling_columns table }
+// The classes of the rows of a dimension that queries tell apart by four columns.
+fn four_classes(
+    alloc: Global,
+    base: &Base,
+    columns: &[CodedColumn],
+    table: Table,
+    told: [Column; 4],
+) -> Result<Vec<u32>, AllocError>
+    requires columns { columns.now ≡ map (values_of base.now) kept_columns }
+    requires told { told ≡ telling_columns table }
+    requires few { length (telling_columns table) ≤ 4 }
+    ensures { IfOk result (λ classes. classes.items ≡ classes_of base.now.dimensions table) }
 {
-    match table {
-        Table::Customer => [C_CITY, C_NATION, C_REGION, unread(table)],
-        Table::Supplier => [S_CITY, S_NATION, S_REGION, unread(table)],
-        Table::Part => [P_MFGR, P_CATEGORY, P_BRAND1, unread(table)],
-        Table::Date => [D_YEAR, D_YEARMONTHNUM, D_YEARMONTH, D_WEEKNUMINYEAR],
-        Table::Lineorder => [unread(table), unread(table), unread(table), unread(table)],
-    }
+    base.soundness();
+    let [first, second, third, fourth] = told;
+    classes_by(
+        alloc,
+        kept(base, columns, first),
+        kept(base, columns, second),
+        kept(base, columns, third),
+        kept(base, columns, fourth),
+    )
 }
 
-// The classes of the rows of a dimension.
+// The classes of the dates: each has a key of its own, which queries read.
+fn date_classes(alloc: Global, base: &Base) -> Result<Vec<u32>, AllocError>
+    ensures { IfOk result (λ classes. classes.items ≡ classes_of base.now.dimensions table.Date) }
+{
+    base.soundness();
+    numbered(alloc, base.dates().rows().len())
+}
+
+// The classes of the rows of a dimension; where queries tell them apart by three columns, the fourth tells none apart.
 fn table_classes(
     alloc: Global,
     base: &Base,
@@ -135,15 +155,23 @@ fn table_classes(
     requires { columns.now ≡ map (values_of base.now) kept_columns }
     ensures { IfOk result (λ classes. classes.items ≡ classes_of base.now.dimensions table) }
 {
-    base.soundness();
-    let [first, second, third, fourth] = telling_columns(table);
-    classes_by(
-        alloc,
-        kept(base, columns, first),
-        kept(base, columns, second),
-        kept(base, columns, third),
-        kept(base, columns, fourth),
-    )
+    let none = unread(table);
+    match table {
+        Table::Customer => {
+            let told = [C_CITY, C_NATION, C_REGION, C_MKTSEGMENT];
+            four_classes(alloc, base, columns, table, told)
+        }
+        Table::Supplier => {
+            let told = [S_CITY, S_NATION, S_REGION, none];
+            four_classes(alloc, base, columns, table, told)
+        }
+        Table::Part => {
+            let told = [P_MFGR, P_CATEGORY, P_BRAND1, none];
+            four_classes(alloc, base, columns, table, told)
+        }
+        Table::Date => date_classes(alloc, base),
+        Table::Lineorder => four_classes(alloc, base, columns, table, [none, none, none, none]),
+    }
 }
 
 impl Classes {
@@ -317,7 +345,7 @@ impl DimIndex {
     }
 
     /// The number of a code; 0 where it is the code of a text, or of nothing.
-    pub fn number(&self, column: Column, code: u32) -> u32
+    pub fn number(&self, column: Column, code: u32) -> u64
         ensures { result ≡ number_of (slice_get (distinct (values_of self.now column)) code) }
     {
         self.dictionary(column).number(code)

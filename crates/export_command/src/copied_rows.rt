@@ -69,8 +69,8 @@ impl CopiedFields for DateFields {
         Ok(DateFields {
             key: self.key,
             field2: copied_text(&self.field2)?,
-            field3: copied_text(&self.field3)?,
-            field4: copied_text(&self.field4)?,
+            day_of_week: copied_text(&self.day_of_week)?,
+            month: copied_text(&self.month)?,
             year: self.year,
             year_month_number: self.year_month_number,
             year_month: copied_text(&self.year_month)?,
@@ -79,10 +79,10 @@ impl CopiedFields for DateFields {
             field10: copied_text(&self.field10)?,
             field11: copied_text(&self.field11)?,
             week: self.week,
-            field13: copied_text(&self.field13)?,
+            selling_season: copied_text(&self.selling_season)?,
             field14: copied_text(&self.field14)?,
             field15: copied_text(&self.field15)?,
-            field16: copied_text(&self.field16)?,
+            holiday_flag: copied_text(&self.holiday_flag)?,
             field17: copied_text(&self.field17)?,
         })
     }

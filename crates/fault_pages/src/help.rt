@@ -96,7 +96,8 @@ impl ListsFaults for StarHelp<'static> {
             StarHelp::AfterOrder(_) => StarHelp::NoConstants,
             StarHelp::NoConstants => StarHelp::TooMany,
             StarHelp::TooMany => StarHelp::Columns,
-            StarHelp::Columns => return None,
+            StarHelp::Columns => StarHelp::DateColumns,
+            StarHelp::DateColumns => return None,
         })
     }
 }

@@ -58,8 +58,8 @@ abbrev date : ℕ → ℕ → ℕ → DateFields
 date key year month_number = record {
   key = key;
   field2 = [];
-  field3 = [];
-  field4 = [];
+  day_of_week = [];
+  month = [];
   year = year;
   year_month_number = month_number;
   year_month = [];
@@ -68,10 +68,10 @@ date key year month_number = record {
   field10 = [];
   field11 = [];
   week = 1;
-  field13 = [];
+  selling_season = [];
   field14 = [];
   field15 = [];
-  field16 = [];
+  holiday_flag = [];
   field17 = [];
 }
 

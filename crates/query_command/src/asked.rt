@@ -31,7 +31,7 @@ fn value(alloc: Global, kind: Option<&ConstantKind>, word: &str) -> Result<Value
     if let Some(ConstantKind::Number) = kind {
         if let Some(n) = number(word.as_bytes()) {
             if n <= u64::from(u32::MAX) {
-                return Ok(Value::Number(n as u32));
+                return Ok(Value::Number(n));
             }
         }
     }

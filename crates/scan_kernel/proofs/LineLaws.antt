@@ -11,13 +11,14 @@ use Rattle.ssb_schema.specs.Facts.{facts_of}
 use Rattle.ssb_schema.specs.declared.fact.Fact.{Fact}
 use Rattle.ssb_schema.specs.declared.line.LineFields.{LineFields}
 use Rattle.ssb_questions.specs.declared.plan.Measure.{Measure}
-use Rattle.ssb_questions.specs.declared.plan.Measure.TheVariants.{PriceTimesDiscount, Revenue, Profit, Quantity, Lines}
+use Rattle.ssb_questions.specs.declared.plan.Measure.TheVariants.{PriceTimesDiscount, Revenue, Profit, Quantity}
+use Rattle.ssb_questions.specs.declared.plan.Measure.TheVariants.{ExtendedPrice, SupplyCost, Lines}
 use Rattle.ssb_questions.specs.declared.plan.Plan.{Plan}
 use Rattle.ssb_answers.specs.Combination.{Combination, combinations}
 use Rattle.ssb_answers.specs.Answer.{amount}
 use Rattle.scan_kernel.specs.Combined.{combine, passes_line}
 use Rattle.scan_kernel.specs.Dense.{numbered}
-use Rattle.scan_kernel.specs.Lines.{takes, price_times_discount, revenue, cost, quantity, AreOfLines}
+use Rattle.scan_kernel.specs.Lines.{takes, price_times_discount, price, revenue, cost, quantity, AreOfLines}
 use Rattle.scan_kernel.proofs.CombinedLaws.{combines_each_line, filter_mapped}
 
 pub filter_both : {X : Type 0} (p q : X → Bool) (xs : List X) → filter q (filter p xs) ≡ filter (λ x. p x && q x) xs
@@ -63,6 +64,8 @@ of_lines blank dimensions facts = record {
   revenues = total_of_facts Revenue blank dimensions (pos 0) facts ∙ sum_of_amounts revenue 0 facts;
   profits = total_of_facts Profit blank dimensions (pos 0) facts ∙ sum_of_differences revenue cost 0 0 facts;
   quantities = total_of_facts Quantity blank dimensions (pos 0) facts ∙ sum_of_amounts quantity 0 facts;
+  prices = total_of_facts ExtendedPrice blank dimensions (pos 0) facts ∙ sum_of_amounts price 0 facts;
+  costs = total_of_facts SupplyCost blank dimensions (pos 0) facts ∙ sum_of_amounts cost 0 facts;
   lines = total_of_facts Lines blank dimensions (pos 0) facts ∙ sum_of_amounts (λ fact. 1) 0 facts
       ∙ ap pos (sum_ones facts);
 }

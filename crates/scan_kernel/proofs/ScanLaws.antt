@@ -9,7 +9,8 @@ use Rattle.ssb_schema.specs.declared.fact.Fact.{Fact}
 use Rattle.ssb_schema.specs.declared.line.LineFields.{LineFields}
 use Rattle.ssb_questions.specs.Members.{Has}
 use Rattle.ssb_questions.specs.declared.plan.Measure.{Measure}
-use Rattle.ssb_questions.specs.declared.plan.Measure.TheVariants.{PriceTimesDiscount, Revenue, Profit, Quantity, Lines}
+use Rattle.ssb_questions.specs.declared.plan.Measure.TheVariants.{PriceTimesDiscount, Revenue, Profit, Quantity}
+use Rattle.ssb_questions.specs.declared.plan.Measure.TheVariants.{ExtendedPrice, SupplyCost, Lines}
 use Rattle.ssb_questions.specs.declared.plan.Plan.{Plan}
 use Rattle.ssb_questions.specs.declared.value.Value.{Value}
 use Rattle.ssb_answers.specs.Combination.{Combination, combinations}
@@ -30,6 +31,8 @@ sum_of_lines PriceTimesDiscount found facts h = h.discounts
 sum_of_lines Revenue found facts h = h.revenues
 sum_of_lines Profit found facts h = h.profits
 sum_of_lines Quantity found facts h = h.quantities
+sum_of_lines ExtendedPrice found facts h = h.prices
+sum_of_lines SupplyCost found facts h = h.costs
 sum_of_lines Lines found facts h = h.lines
 
 pub scan_makes_totals : (blank : Combination) (plan : Plan) (base : Tables) (lines : List LineFields)

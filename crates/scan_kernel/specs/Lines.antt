@@ -5,7 +5,8 @@ use Rattle.ssb_base.specs.Base.{Dimensions, Tables, IsSound, IsKnown}
 use Rattle.ssb_schema.specs.Facts.{facts_of}
 use Rattle.ssb_schema.specs.declared.fact.Fact.{Fact}
 use Rattle.ssb_schema.specs.declared.line.LineFields.{LineFields}
-use Rattle.ssb_questions.specs.declared.plan.Measure.TheVariants.{PriceTimesDiscount, Revenue, Profit, Quantity, Lines}
+use Rattle.ssb_questions.specs.declared.plan.Measure.TheVariants.{PriceTimesDiscount, Revenue, Profit, Quantity}
+use Rattle.ssb_questions.specs.declared.plan.Measure.TheVariants.{ExtendedPrice, SupplyCost, Lines}
 use Rattle.ssb_questions.specs.declared.plan.Plan.{Plan}
 use Rattle.ssb_answers.specs.Combination.{Combination, combinations}
 use Rattle.scan_kernel.specs.Combined.{combine, passes_line}
@@ -18,6 +19,9 @@ takes plan blank dimensions number g fact =
 
 abbrev pub price_times_discount : Fact → ℕ
 price_times_discount fact = fact.price * fact.discount
+
+abbrev pub price : Fact → ℕ
+price fact = fact.price
 
 abbrev pub revenue : Fact → ℕ
 revenue fact = fact.revenue
@@ -35,6 +39,8 @@ pub record AreOfLines (found : List Combination) (facts : List Fact) : Type 0 wh
   pub revenues : total Revenue found ≡ pos (sum_by revenue facts)
   pub profits : total Profit found ≡ pos (sum_by revenue facts) -ℤ pos (sum_by cost facts)
   pub quantities : total Quantity found ≡ pos (sum_by quantity facts)
+  pub prices : total ExtendedPrice found ≡ pos (sum_by price facts)
+  pub costs : total SupplyCost found ≡ pos (sum_by cost facts)
   pub lines : total Lines found ≡ pos (length facts)
 
 abbrev pub GroupsAreOfLines : Type 0

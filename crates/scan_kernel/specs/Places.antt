@@ -5,7 +5,8 @@ use Rattle.std.specs.List.{sum_by, range_with_len}
 use Rattle.std.specs.Int.{bit_at}
 use Rattle.std.specs.Prelude.{bit_and}
 use Rattle.ssb_questions.specs.declared.plan.Measure.{Measure}
-use Rattle.ssb_questions.specs.declared.plan.Measure.TheVariants.{PriceTimesDiscount, Revenue, Profit, Quantity, Lines}
+use Rattle.ssb_questions.specs.declared.plan.Measure.TheVariants.{PriceTimesDiscount, Revenue, Profit, Quantity}
+use Rattle.ssb_questions.specs.declared.plan.Measure.TheVariants.{ExtendedPrice, SupplyCost, Lines}
 use Rattle.scan_kernel.specs.declared.columns.LineColumns.{LineColumns}
 use Rattle.scan_kernel.specs.declared.columns.GroupColumn.{GroupColumn}
 use Rattle.scan_kernel.specs.declared.masks.Masks.{Masks}
@@ -78,6 +79,8 @@ gain_at lines PriceTimesDiscount place = slice_index lines.price.now place * (sl
 gain_at lines Revenue place = slice_index lines.revenue.now place
 gain_at lines Profit place = slice_index lines.revenue.now place
 gain_at lines Quantity place = slice_index lines.terms.now place / 16
+gain_at lines ExtendedPrice place = slice_index lines.price.now place
+gain_at lines SupplyCost place = slice_index lines.cost.now place
 gain_at lines Lines place = 1
 
 -- what it takes away from the measure
@@ -86,4 +89,6 @@ loss_at lines PriceTimesDiscount place = 0
 loss_at lines Revenue place = 0
 loss_at lines Profit place = slice_index lines.cost.now place
 loss_at lines Quantity place = 0
+loss_at lines ExtendedPrice place = 0
+loss_at lines SupplyCost place = 0
 loss_at lines Lines place = 0

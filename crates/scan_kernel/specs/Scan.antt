@@ -7,7 +7,8 @@ use Rattle.ssb_schema.specs.declared.fact.Fact.{Fact}
 use Rattle.ssb_schema.specs.declared.line.LineFields.{LineFields}
 use Rattle.ssb_questions.specs.Members.{Has}
 use Rattle.ssb_questions.specs.declared.plan.Measure.{Measure}
-use Rattle.ssb_questions.specs.declared.plan.Measure.TheVariants.{PriceTimesDiscount, Revenue, Profit, Quantity, Lines}
+use Rattle.ssb_questions.specs.declared.plan.Measure.TheVariants.{PriceTimesDiscount, Revenue, Profit, Quantity}
+use Rattle.ssb_questions.specs.declared.plan.Measure.TheVariants.{ExtendedPrice, SupplyCost, Lines}
 use Rattle.ssb_questions.specs.declared.plan.Plan.{Plan}
 use Rattle.ssb_questions.specs.declared.value.Value.{Value}
 use Rattle.ssb_questions.specs.Queries.{plan_over}
@@ -16,7 +17,7 @@ use Rattle.ssb_answers.specs.Answer.{answer_of}
 use Rattle.ssb_answers.specs.declared.answer.ResultRow.{ResultRow}
 use Rattle.ssb_answers.specs.Combination.{Combination, combinations}
 use Rattle.scan_kernel.specs.Groups.{ListValues, AreApart, size_of, counts_of, group_values, group_number}
-use Rattle.scan_kernel.specs.Lines.{takes, price_times_discount, revenue, cost, quantity}
+use Rattle.scan_kernel.specs.Lines.{takes, price_times_discount, price, revenue, cost, quantity}
 use Rattle.scan_kernel.specs.Dense.{AreDenseTotals}
 
 -- what the lines sum up to
@@ -25,6 +26,8 @@ line_sum PriceTimesDiscount facts = pos (sum_by price_times_discount facts)
 line_sum Revenue facts = pos (sum_by revenue facts)
 line_sum Profit facts = pos (sum_by revenue facts) -ℤ pos (sum_by cost facts)
 line_sum Quantity facts = pos (sum_by quantity facts)
+line_sum ExtendedPrice facts = pos (sum_by price facts)
+line_sum SupplyCost facts = pos (sum_by cost facts)
 line_sum Lines facts = pos (length facts)
 
 abbrev pub taken : Combination → Plan → Tables → List LineFields → (Combination → ℕ) → ℕ → List Fact

@@ -106,6 +106,8 @@ fn add_gains(
         }
         Measure::Revenue | Measure::Profit => add_amounts(places, groups, lines.revenue, gains),
         Measure::Quantity => add_quantities(places, groups, lines.terms, gains),
+        Measure::ExtendedPrice => add_amounts(places, groups, lines.price, gains),
+        Measure::SupplyCost => add_amounts(places, groups, lines.cost, gains),
         Measure::Lines => count_places(places, groups, gains),
     }
 }
@@ -129,6 +131,8 @@ fn add_losses(
         Measure::Revenue => {}
         Measure::Profit => add_amounts(places, groups, lines.cost, losses),
         Measure::Quantity => {}
+        Measure::ExtendedPrice => {}
+        Measure::SupplyCost => {}
         Measure::Lines => {}
     }
 }

@@ -113,6 +113,8 @@ fn gain_of(lines: &LineColumns<'_>, measure: Measure, place: usize) -> u64
         }
         Measure::Revenue | Measure::Profit => u64::from(lines.revenue[place]),
         Measure::Quantity => u64::from(lines.terms[place] / 16),
+        Measure::ExtendedPrice => u64::from(lines.price[place]),
+        Measure::SupplyCost => u64::from(lines.cost[place]),
         Measure::Lines => 1,
     }
 }
@@ -125,7 +127,7 @@ fn loss_of(lines: &LineColumns<'_>, measure: Measure, place: usize) -> u64
     match measure {
         Measure::PriceTimesDiscount | Measure::Revenue => 0,
         Measure::Profit => u64::from(lines.cost[place]),
-        Measure::Quantity | Measure::Lines => 0,
+        Measure::Quantity | Measure::ExtendedPrice | Measure::SupplyCost | Measure::Lines => 0,
     }
 }
 

@@ -7,7 +7,8 @@ use Rattle.ssb_schema.specs.declared.column.Column.{Column}
 use Rattle.ssb_schema.specs.declared.table.Table.{Table}
 use Rattle.ssb_schema.specs.declared.table.Table.TheVariants as table
 use Rattle.ssb_questions.specs.declared.plan.Measure.{Measure}
-use Rattle.ssb_questions.specs.declared.plan.Measure.TheVariants.{PriceTimesDiscount, Revenue, Profit, Quantity, Lines}
+use Rattle.ssb_questions.specs.declared.plan.Measure.TheVariants.{PriceTimesDiscount, Revenue, Profit, Quantity}
+use Rattle.ssb_questions.specs.declared.plan.Measure.TheVariants.{ExtendedPrice, SupplyCost, Lines}
 use Rattle.ssb_questions.specs.declared.plan.Plan.{Plan}
 use Rattle.ssb_answers.specs.RowValues.{customer_value, supplier_value, part_value, date_value}
 use Rattle.ssb_answers.specs.Combination.{Combination, value_in, passes}
@@ -45,6 +46,8 @@ amount_alike PriceTimesDiscount c e alike = λ i. pos (alike.price i * alike.dis
 amount_alike Revenue c e alike = λ i. pos (alike.revenue i)
 amount_alike Profit c e alike = λ i. pos (alike.revenue i) -ℤ pos (alike.cost i)
 amount_alike Quantity c e alike = λ i. pos (alike.quantity i)
+amount_alike ExtendedPrice c e alike = λ i. pos (alike.price i)
+amount_alike SupplyCost c e alike = λ i. pos (alike.cost i)
 amount_alike Lines c e alike = refl
 
 -- combinations that are alike, one by one

@@ -13,7 +13,8 @@ use Rattle.ssb_schema.specs.declared.column.Column.{Column}
 use Rattle.ssb_schema.specs.declared.table.Table.{Table}
 use Rattle.ssb_schema.specs.declared.table.Table.TheVariants as table
 use Rattle.ssb_questions.specs.declared.plan.Measure.{Measure}
-use Rattle.ssb_questions.specs.declared.plan.Measure.TheVariants.{PriceTimesDiscount, Revenue, Profit, Quantity, Lines}
+use Rattle.ssb_questions.specs.declared.plan.Measure.TheVariants.{PriceTimesDiscount, Revenue, Profit, Quantity}
+use Rattle.ssb_questions.specs.declared.plan.Measure.TheVariants.{ExtendedPrice, SupplyCost, Lines}
 use Rattle.ssb_questions.specs.declared.plan.Plan.{Plan}
 use Rattle.fact_columns.specs.declared.place.Place.{Place}
 use Rattle.fact_columns.specs.declared.scanned_line.ScannedLine.{ScannedLine}
@@ -109,6 +110,8 @@ gain_same d PriceTimesDiscount place = refl
 gain_same d Revenue place = refl
 gain_same d Profit place = refl
 gain_same d Quantity place = refl
+gain_same d ExtendedPrice place = refl
+gain_same d SupplyCost place = refl
 gain_same d Lines place = refl
 
 loss_same : (d : Dimensions) (measure : Measure) (place : Place) → loss_of measure (fact_at d (classed place)) ≡ loss_in
@@ -117,6 +120,8 @@ loss_same d PriceTimesDiscount place = refl
 loss_same d Revenue place = refl
 loss_same d Profit place = refl
 loss_same d Quantity place = refl
+loss_same d ExtendedPrice place = refl
+loss_same d SupplyCost place = refl
 loss_same d Lines place = refl
 
 module _ (base : Tables) (places : List Place) (lines : LineColumns) (are : AreColumnsOf places lines) where

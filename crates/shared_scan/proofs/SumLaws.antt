@@ -9,8 +9,9 @@ use Rattle.std.proofs.lemmas.List.Elements.{All-from_get_or}
 use Rattle.std.proofs.lemmas.List.Sums.{sum_by-cons, sum_by-le}
 use Rattle.ssb_schema.specs.declared.fact.Fact.{Fact}
 use Rattle.ssb_questions.specs.declared.plan.Measure.{Measure}
-use Rattle.ssb_questions.specs.declared.plan.Measure.TheVariants.{PriceTimesDiscount, Revenue, Profit, Quantity, Lines}
-use Rattle.scan_kernel.specs.Lines.{price_times_discount, revenue, cost, quantity}
+use Rattle.ssb_questions.specs.declared.plan.Measure.TheVariants.{PriceTimesDiscount, Revenue, Profit, Quantity}
+use Rattle.ssb_questions.specs.declared.plan.Measure.TheVariants.{ExtendedPrice, SupplyCost, Lines}
+use Rattle.scan_kernel.specs.Lines.{price_times_discount, price, revenue, cost, quantity}
 use Rattle.scan_kernel.specs.Scan.{line_sum}
 use Rattle.scan_kernel.proofs.LineLaws.{sum_ones}
 
@@ -45,6 +46,8 @@ gain_of PriceTimesDiscount fact = price_times_discount fact
 gain_of Revenue fact = revenue fact
 gain_of Profit fact = revenue fact
 gain_of Quantity fact = quantity fact
+gain_of ExtendedPrice fact = price fact
+gain_of SupplyCost fact = cost fact
 gain_of Lines fact = 1
 
 abbrev pub loss_of : Measure → Fact → ℕ
@@ -52,6 +55,8 @@ loss_of PriceTimesDiscount fact = 0
 loss_of Revenue fact = 0
 loss_of Profit fact = cost fact
 loss_of Quantity fact = 0
+loss_of ExtendedPrice fact = 0
+loss_of SupplyCost fact = 0
 loss_of Lines fact = 0
 
 no_loss : (facts : List Fact) → sum_by (λ (fact : Fact). 0) facts ≡ 0
@@ -67,6 +72,8 @@ line_sum_is PriceTimesDiscount facts = minus_none _ _ (no_loss facts)
 line_sum_is Revenue facts = minus_none _ _ (no_loss facts)
 line_sum_is Profit facts = refl
 line_sum_is Quantity facts = minus_none _ _ (no_loss facts)
+line_sum_is ExtendedPrice facts = minus_none _ _ (no_loss facts)
+line_sum_is SupplyCost facts = minus_none _ _ (no_loss facts)
 line_sum_is Lines facts = minus_none _ _ (no_loss facts) ∙ ap pos (sum_ones facts)
 
 -- below 2^64 the sums are exact

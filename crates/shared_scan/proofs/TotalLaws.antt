@@ -19,7 +19,8 @@ use Rattle.ssb_schema.specs.declared.fact.Fact.{Fact}
 use Rattle.ssb_schema.specs.declared.line.LineFields.{LineFields}
 use Rattle.ssb_questions.specs.Members.{Has}
 use Rattle.ssb_questions.specs.declared.plan.Measure.{Measure}
-use Rattle.ssb_questions.specs.declared.plan.Measure.TheVariants.{PriceTimesDiscount, Revenue, Profit, Quantity, Lines}
+use Rattle.ssb_questions.specs.declared.plan.Measure.TheVariants.{PriceTimesDiscount, Revenue, Profit, Quantity}
+use Rattle.ssb_questions.specs.declared.plan.Measure.TheVariants.{ExtendedPrice, SupplyCost, Lines}
 use Rattle.ssb_questions.specs.declared.plan.Plan.{Plan}
 use Rattle.ssb_questions.specs.declared.query.Query.{Query}
 use Rattle.ssb_questions.specs.declared.value.Value.{Value}
@@ -97,8 +98,8 @@ blank = record {
   date = record {
     key = 0;
     field2 = [];
-    field3 = [];
-    field4 = [];
+    day_of_week = [];
+    month = [];
     year = 0;
     year_month_number = 0;
     year_month = [];
@@ -107,11 +108,11 @@ blank = record {
     field10 = [];
     field11 = [];
     week = 0;
-    field13 = [];
+    selling_season = [];
     field14 = [];
     field15 =
         [];
-    field16 = [];
+    holiday_flag = [];
     field17 = [];
   };
 }
@@ -137,6 +138,10 @@ gain_is dimensions places lines Quantity i are =
     let terms = ap (λ (xs : List ℕ). get_or xs i 0) are.terms_are
     ∙ get_or-map (λ (p : Place). p.terms) places i nowhere in
     λ j. terms j / 16
+gain_is dimensions places lines ExtendedPrice i are = ap (λ (xs : List ℕ). get_or xs i 0) are.prices_are
+    ∙ get_or-map (λ (p : Place). p.price) places i nowhere
+gain_is dimensions places lines SupplyCost i are = ap (λ (xs : List ℕ). get_or xs i 0) are.costs_are
+    ∙ get_or-map (λ (p : Place). p.cost) places i nowhere
 gain_is dimensions places lines Lines i are = refl
 
 pub loss_is : (dimensions : Dimensions) (places : List Place) (lines : LineColumns) (measure : Measure) (i : ℕ)
@@ -146,6 +151,8 @@ loss_is dimensions places lines Revenue i are = refl
 loss_is dimensions places lines Profit i are = ap (λ (xs : List ℕ). get_or xs i 0) are.costs_are
     ∙ get_or-map (λ (p : Place). p.cost) places i nowhere
 loss_is dimensions places lines Quantity i are = refl
+loss_is dimensions places lines ExtendedPrice i are = refl
+loss_is dimensions places lines SupplyCost i are = refl
 loss_is dimensions places lines Lines i are = refl
 
 -- the numbers of a place, and of none, are those of lines
@@ -170,6 +177,8 @@ gain_small dimensions places PriceTimesDiscount i within =
 gain_small dimensions places Revenue i within = omega (arith, (small_at dimensions places i within).revenue)
 gain_small dimensions places Profit i within = omega (arith, (small_at dimensions places i within).revenue)
 gain_small dimensions places Quantity i within = omega (arith, (small_at dimensions places i within).quantity)
+gain_small dimensions places ExtendedPrice i within = omega (arith, (small_at dimensions places i within).price)
+gain_small dimensions places SupplyCost i within = omega (arith, (small_at dimensions places i within).cost)
 gain_small dimensions places Lines i within = omega arith
 
 loss_small : (dimensions : Dimensions) (places : List Place) (measure : Measure) (i : ℕ)
@@ -178,6 +187,8 @@ loss_small dimensions places PriceTimesDiscount i within = omega arith
 loss_small dimensions places Revenue i within = omega arith
 loss_small dimensions places Profit i within = omega (arith, (small_at dimensions places i within).cost)
 loss_small dimensions places Quantity i within = omega arith
+loss_small dimensions places ExtendedPrice i within = omega arith
+loss_small dimensions places SupplyCost i within = omega arith
 loss_small dimensions places Lines i within = omega arith
 
 known_at : (dimensions : Dimensions) (place : Place) → IsWithin dimensions place

@@ -8,7 +8,8 @@ use Rattle.ssb_schema.specs.declared.column.Column.{Column}
 use Rattle.ssb_schema.specs.declared.table.Table.{Table}
 use Rattle.ssb_schema.specs.declared.table.Table.TheVariants as table
 use Rattle.ssb_questions.specs.declared.plan.Measure.{Measure}
-use Rattle.ssb_questions.specs.declared.plan.Measure.TheVariants.{PriceTimesDiscount, Revenue, Profit, Quantity, Lines}
+use Rattle.ssb_questions.specs.declared.plan.Measure.TheVariants.{PriceTimesDiscount, Revenue, Profit, Quantity}
+use Rattle.ssb_questions.specs.declared.plan.Measure.TheVariants.{ExtendedPrice, SupplyCost, Lines}
 use Rattle.dimension_index.specs.Codes.{codes_of}
 use Rattle.dimension_index.specs.Values.{values_of}
 use Rattle.fact_columns.specs.declared.scanned_line.ScannedLine.{ScannedLine}
@@ -66,6 +67,8 @@ gain_in PriceTimesDiscount line = line.price * (line.terms % 16)
 gain_in Revenue line = line.revenue
 gain_in Profit line = line.revenue
 gain_in Quantity line = line.terms / 16
+gain_in ExtendedPrice line = line.price
+gain_in SupplyCost line = line.cost
 gain_in Lines line = 1
 
 -- what it takes away from the measure
@@ -74,6 +77,8 @@ loss_in PriceTimesDiscount line = 0
 loss_in Revenue line = 0
 loss_in Profit line = line.cost
 loss_in Quantity line = 0
+loss_in ExtendedPrice line = 0
+loss_in SupplyCost line = 0
 loss_in Lines line = 0
 
 -- what a line adds to a group: its amount, if it is taken and of that group

@@ -112,6 +112,8 @@ fn gain(measure: Measure, line: &ScannedLine) -> u64
         Measure::Revenue => u64::from(line.revenue),
         Measure::Profit => u64::from(line.revenue),
         Measure::Quantity => u64::from(line.terms / 16),
+        Measure::ExtendedPrice => u64::from(line.price),
+        Measure::SupplyCost => u64::from(line.cost),
         Measure::Lines => 1,
     }
 }
@@ -125,6 +127,8 @@ fn loss(measure: Measure, line: &ScannedLine) -> u64
         Measure::Revenue => 0,
         Measure::Profit => u64::from(line.cost),
         Measure::Quantity => 0,
+        Measure::ExtendedPrice => 0,
+        Measure::SupplyCost => 0,
         Measure::Lines => 0,
     }
 }

@@ -59,7 +59,7 @@ impl Tested for LineTerms {
     ghost takes = { λ plan terms. is_within plan.quantity terms.quantity && is_within plan.discount terms.discount };
 
     fn is_taken(&self, plan: &Plan) -> bool {
-        is_within(plan.quantity, u32::from(self.quantity))
-            && is_within(plan.discount, u32::from(self.discount))
+        is_within(plan.quantity, u64::from(self.quantity))
+            && is_within(plan.discount, u64::from(self.discount))
     }
 }

@@ -8,7 +8,8 @@ use Rattle.std.proofs.lemmas.List.Sums.{sum_by-cons, sum_by-le}
 use Rattle.ssb_schema.specs.Facts.{IsFactWithinLimits}
 use Rattle.ssb_schema.specs.declared.fact.Fact.{Fact}
 use Rattle.ssb_questions.specs.declared.plan.Measure.{Measure}
-use Rattle.ssb_questions.specs.declared.plan.Measure.TheVariants.{PriceTimesDiscount, Revenue, Profit, Quantity, Lines}
+use Rattle.ssb_questions.specs.declared.plan.Measure.TheVariants.{PriceTimesDiscount, Revenue, Profit, Quantity}
+use Rattle.ssb_questions.specs.declared.plan.Measure.TheVariants.{ExtendedPrice, SupplyCost, Lines}
 use Rattle.ssb_answers.specs.Answer.{amount}
 use Rattle.ssb_answers.specs.Sums.{gain, loss, total, SumFits}
 use Rattle.ssb_base.specs.Limits.{most_lines}
@@ -19,6 +20,8 @@ amount_is PriceTimesDiscount fact = omega (arith, ints)
 amount_is Revenue fact = omega (arith, ints)
 amount_is Profit fact = refl
 amount_is Quantity fact = omega (arith, ints)
+amount_is ExtendedPrice fact = omega (arith, ints)
+amount_is SupplyCost fact = omega (arith, ints)
 amount_is Lines fact = omega (arith, ints)
 
 added : (a b g l : ℕ) (m : ℤ) → m ≡ pos g -ℤ pos l → (pos a -ℤ pos b) +ℤ m ≡ pos (a + g) -ℤ pos (b + l)
@@ -58,6 +61,8 @@ gain_most PriceTimesDiscount fact h = product fact.price fact.discount h.price h
 gain_most Revenue fact h = omega (arith, h.revenue)
 gain_most Profit fact h = omega (arith, h.revenue)
 gain_most Quantity fact h = omega (arith, h.quantity.1)
+gain_most ExtendedPrice fact h = omega (arith, h.price)
+gain_most SupplyCost fact h = omega (arith, h.cost)
 gain_most Lines fact h = omega arith
 
 loss_most : (measure : Measure) (fact : Fact) → IsFactWithinLimits fact → loss measure fact ≤ most
@@ -65,6 +70,8 @@ loss_most PriceTimesDiscount fact h = omega arith
 loss_most Revenue fact h = omega arith
 loss_most Profit fact h = omega (arith, h.cost)
 loss_most Quantity fact h = omega arith
+loss_most ExtendedPrice fact h = omega arith
+loss_most SupplyCost fact h = omega arith
 loss_most Lines fact h = omega arith
 
 few_sum : (g : Fact → ℕ) (facts : List Fact) → length facts ≤ most_lines → All (λ fact. g fact ≤ most) facts

@@ -59,8 +59,8 @@ abbrev date : ℕ → ℕ → ℕ → List ℕ → ℕ → DateFields
 date key year month_number month week = record {
   key = key;
   field2 = codes "d";
-  field3 = codes "w";
-  field4 = codes "m";
+  day_of_week = codes "w";
+  month = codes "m";
   year = year;
   year_month_number = month_number;
   year_month = month;
@@ -69,10 +69,10 @@ date key year month_number month week = record {
   field10 = codes "1";
   field11 = codes "1";
   week = week;
-  field13 = codes "s";
+  selling_season = codes "s";
   field14 = codes "0";
   field15 = codes "0";
-  field16 = codes "0";
+  holiday_flag = codes "0";
   field17 = codes "1";
 }
 

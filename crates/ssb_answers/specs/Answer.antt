@@ -14,7 +14,8 @@ use Rattle.ssb_answers.specs.Ordered.{in_order}
 use Rattle.ssb_questions.specs.declared.value.Value.{Value}
 use Rattle.ssb_answers.specs.declared.answer.ResultRow.{ResultRow}
 use Rattle.ssb_questions.specs.declared.plan.Measure.{Measure}
-use Rattle.ssb_questions.specs.declared.plan.Measure.TheVariants.{PriceTimesDiscount, Revenue, Profit, Quantity, Lines}
+use Rattle.ssb_questions.specs.declared.plan.Measure.TheVariants.{PriceTimesDiscount, Revenue, Profit, Quantity}
+use Rattle.ssb_questions.specs.declared.plan.Measure.TheVariants.{ExtendedPrice, SupplyCost, Lines}
 use Rattle.ssb_questions.specs.declared.plan.OrderKey.{OrderKey}
 use Rattle.ssb_questions.specs.declared.plan.OrderKey.TheVariants.{Group, SumDescending}
 use Rattle.ssb_questions.specs.declared.plan.Plan.{Plan}
@@ -34,6 +35,8 @@ amount PriceTimesDiscount fact = pos (fact.price * fact.discount)
 amount Revenue fact = pos fact.revenue
 amount Profit fact = pos fact.revenue -ℤ pos fact.cost
 amount Quantity fact = pos fact.quantity
+amount ExtendedPrice fact = pos fact.price
+amount SupplyCost fact = pos fact.cost
 amount Lines fact = pos 1
 
 -- the sum over the combinations, and nothing where there is none

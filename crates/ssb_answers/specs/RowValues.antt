@@ -1,8 +1,9 @@
 -- What the rows of the dimensions have in the columns that queries test or group by, and when they pass tests.
 use Rattle.std.specs.Prelude.{ℕ, Bool, true, ◌&&◌, nat_eq, nat_le, List, Option, None, Some, if◌then◌else◌}
 use Rattle.std.specs.List.{list_all}
-use Rattle.ssb_schema.specs.Columns.{C_CITY, C_NATION, C_REGION, S_CITY, S_NATION, S_REGION, P_MFGR, P_CATEGORY}
-use Rattle.ssb_schema.specs.Columns.{P_BRAND1, D_YEAR, D_YEARMONTHNUM, D_YEARMONTH, D_WEEKNUMINYEAR}
+use Rattle.ssb_schema.specs.Columns.{C_CITY, C_NATION, C_REGION, C_MKTSEGMENT, S_CITY, S_NATION, S_REGION, P_MFGR}
+use Rattle.ssb_schema.specs.Columns.{P_CATEGORY, P_BRAND1, D_DATEKEY, D_DAYOFWEEK, D_MONTH, D_YEAR, D_YEARMONTHNUM}
+use Rattle.ssb_schema.specs.Columns.{D_YEARMONTH, D_WEEKNUMINYEAR, D_SELLINGSEASON, D_HOLIDAYFL}
 use Rattle.ssb_schema.specs.declared.customer.CustomerFields.{CustomerFields}
 use Rattle.ssb_schema.specs.declared.supplier.SupplierFields.{SupplierFields}
 use Rattle.ssb_schema.specs.declared.part.PartFields.{PartFields}
@@ -19,6 +20,7 @@ customer_value place customer =
     if nat_eq place C_CITY.place then Text customer.city else
     if nat_eq place C_NATION.place then Text customer.nation else
     if nat_eq place C_REGION.place then Text customer.region else
+    if nat_eq place C_MKTSEGMENT.place then Text customer.market_segment else
     Number 0
 
 abbrev pub supplier_value : ℕ → SupplierFields → Value
@@ -37,10 +39,15 @@ part_value place part =
 
 abbrev pub date_value : ℕ → DateFields → Value
 date_value place date =
+    if nat_eq place D_DATEKEY.place then Number date.key else
+    if nat_eq place D_DAYOFWEEK.place then Text date.day_of_week else
+    if nat_eq place D_MONTH.place then Text date.month else
     if nat_eq place D_YEAR.place then Number date.year else
     if nat_eq place D_YEARMONTHNUM.place then Number date.year_month_number else
     if nat_eq place D_YEARMONTH.place then Text date.year_month else
     if nat_eq place D_WEEKNUMINYEAR.place then Number date.week else
+    if nat_eq place D_SELLINGSEASON.place then Text date.selling_season else
+    if nat_eq place D_HOLIDAYFL.place then Text date.holiday_flag else
     Number 0
 
 -- whether a row, given by its columns, passes all tests

@@ -5,7 +5,8 @@ use Rattle.std.specs.Int.{w64}
 use Rattle.ssb_schema.specs.Facts.{IsFactWithinLimits}
 use Rattle.ssb_schema.specs.declared.fact.Fact.{Fact}
 use Rattle.ssb_questions.specs.declared.plan.Measure.{Measure}
-use Rattle.ssb_questions.specs.declared.plan.Measure.TheVariants.{PriceTimesDiscount, Revenue, Profit, Quantity, Lines}
+use Rattle.ssb_questions.specs.declared.plan.Measure.TheVariants.{PriceTimesDiscount, Revenue, Profit, Quantity}
+use Rattle.ssb_questions.specs.declared.plan.Measure.TheVariants.{ExtendedPrice, SupplyCost, Lines}
 use Rattle.ssb_base.specs.Limits.{most_lines}
 use Rattle.ssb_answers.specs.Answer.{amount}
 
@@ -15,6 +16,8 @@ gain PriceTimesDiscount fact = fact.price * fact.discount
 gain Revenue fact = fact.revenue
 gain Profit fact = fact.revenue
 gain Quantity fact = fact.quantity
+gain ExtendedPrice fact = fact.price
+gain SupplyCost fact = fact.cost
 gain Lines fact = 1
 
 abbrev pub loss : Measure → Fact → ℕ
@@ -22,6 +25,8 @@ loss PriceTimesDiscount fact = 0
 loss Revenue fact = 0
 loss Profit fact = fact.cost
 loss Quantity fact = 0
+loss ExtendedPrice fact = 0
+loss SupplyCost fact = 0
 loss Lines fact = 0
 
 -- the sum of a measure over facts

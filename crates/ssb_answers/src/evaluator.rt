@@ -38,6 +38,8 @@ fn amount(measure: Measure, fact: Fact) -> i64
         Measure::Revenue => i64::from(fact.revenue),
         Measure::Profit => i64::from(fact.revenue) - i64::from(fact.cost),
         Measure::Quantity => i64::from(fact.quantity),
+        Measure::ExtendedPrice => i64::from(fact.price),
+        Measure::SupplyCost => i64::from(fact.cost),
         Measure::Lines => 1,
     }
 }

@@ -45,8 +45,8 @@ fn passing_row<'a, F: QueryFields>(
 fn is_in_ranges(plan: &Plan, fact: Fact) -> bool
     ensures { result ≡ is_in_ranges plan.now fact }
 {
-    is_within(plan.quantity, u32::from(fact.quantity))
-        && is_within(plan.discount, u32::from(fact.discount))
+    is_within(plan.quantity, u64::from(fact.quantity))
+        && is_within(plan.discount, u64::from(fact.discount))
 }
 
 /// The combination of a line with the rows that it names, where it passes the plan's tests. The

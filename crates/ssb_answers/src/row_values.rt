@@ -26,6 +26,7 @@ impl QueryFields for CustomerFields {
             4 => ColumnValue::Text(&row.fields().city),
             5 => ColumnValue::Text(&row.fields().nation),
             6 => ColumnValue::Text(&row.fields().region),
+            8 => ColumnValue::Text(&row.fields().market_segment),
             _ => ColumnValue::Number(0),
         }
     }
@@ -62,10 +63,15 @@ impl QueryFields for DateFields {
 
     fn value(row: &Row<DateFields>, place: usize) -> ColumnValue<'_> {
         match place {
-            5 => ColumnValue::Number(row.year()),
-            6 => ColumnValue::Number(row.year_month_number()),
+            1 => ColumnValue::Number(row.fields().key),
+            3 => ColumnValue::Text(&row.fields().day_of_week),
+            4 => ColumnValue::Text(&row.fields().month),
+            5 => ColumnValue::Number(row.fields().year),
+            6 => ColumnValue::Number(row.fields().year_month_number),
             7 => ColumnValue::Text(&row.fields().year_month),
-            12 => ColumnValue::Number(row.week()),
+            12 => ColumnValue::Number(row.fields().week),
+            13 => ColumnValue::Text(&row.fields().selling_season),
+            16 => ColumnValue::Text(&row.fields().holiday_flag),
             _ => ColumnValue::Number(0),
         }
     }
@@ -81,7 +87,7 @@ pub(crate) fn passes<F: QueryFields>(tests: &[Test], row: &Row<F>) -> bool
 }
 
 /// Whether a number lies in the range, both ends included; every number does where there is none.
-pub fn is_within(range: Option<NumberRange>, number: u32) -> bool
+pub fn is_within(range: Option<NumberRange>, number: u64) -> bool
     ensures { result ≡ is_within range number }
 {
     match range {

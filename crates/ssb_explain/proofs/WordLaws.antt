@@ -1,5 +1,5 @@
 -- The words of a question ask `star` what it asks.
-use Rattle.std.proofs.Common.{◌≡◌, ◌∙◌, ℕ, zero, suc, ◌+◌, ◌^◌, ◌<◌, Bool, true, false, not, List, [], ◌∷◌, length, map, take}
+use Rattle.std.proofs.Common.{◌≡◌, ◌∙◌, ℕ, zero, suc, ◌+◌, ◌^◌, ◌<◌, ◌≤◌, Bool, true, false, not, List, [], ◌∷◌, length, map, take}
 use Rattle.std.proofs.Common.{Option, Some, None, refl, sym, ap, subst, cond, arith}
 use Rattle.std.specs.Prelude.{◌==◌, ◌&&◌, ◌++◌, codes, nat_lt, nat_le, option_map, slice_get}
 use Rattle.std.specs.List.{AllByRecursion, list_all, list_any, range_with_len}
@@ -15,11 +15,12 @@ use Rattle.ssb_schema.specs.declared.kind.Kind.{Kind}
 use Rattle.ssb_schema.specs.declared.kind.Kind.TheVariants as kinds
 use Rattle.ssb_schema.specs.declared.table.Table.{Table}
 use Rattle.ssb_schema.specs.declared.table.Table.TheVariants as table
+use Rattle.ssb_questions.proofs.ColumnLaws.{at as read_at}
 use Rattle.ssb_questions.proofs.ConstantLaws.{at_place, kinds_of, looks_for_constants}
 use Rattle.ssb_questions.proofs.SomeLaws.{all_weaker}
 use Rattle.ssb_questions.proofs.SpellingLaws.{clauses_spelled}
 use Rattle.ssb_questions.proofs.StarLaws.{over_columns}
-use Rattle.ssb_questions.specs.Clause.{Clause, GroupsBy, QuantityIn, DiscountIn, BySum, kind_in, kind_where, parted}
+use Rattle.ssb_questions.specs.Clause.{Clause, GroupsBy, QuantityIn, DiscountIn, BySum, kind_in, kind_where, most_in, parted}
 use Rattle.ssb_questions.specs.Clauses.{may_stand_at, subject}
 use Rattle.ssb_questions.specs.Kind.{constant_kinds, fits}
 use Rattle.ssb_questions.specs.Laws.{IsAlone, IsFirst, IsValueOf, IsWithinBounds, StandInOrder, clause_text, dotted}
@@ -33,7 +34,7 @@ use Rattle.ssb_questions.specs.Question.{constants_fault}
 use Rattle.ssb_questions.specs.Star.{star_plan, star_plan_over}
 use Rattle.ssb_questions.specs.declared.cond.Cond.{Cond}
 use Rattle.ssb_questions.specs.declared.cond.Cond.TheVariants.{TextIs, TextFromTo, TextOneOf, NumberIs, NumberFromTo}
-use Rattle.ssb_questions.specs.declared.cond.Cond.TheVariants.{NumberOneOf}
+use Rattle.ssb_questions.specs.declared.cond.Cond.TheVariants.{NumberOneOf, TextNoneOf, NumberNoneOf}
 use Rattle.ssb_questions.specs.declared.cond.Test.{Test}
 use Rattle.ssb_questions.specs.declared.plan.NumberRange.{NumberRange}
 use Rattle.ssb_questions.specs.declared.kind.ConstantKind.{ConstantKind}
@@ -45,7 +46,8 @@ use Rattle.ssb_questions.specs.declared.value.Value.{Value}
 use Rattle.ssb_questions.specs.declared.value.Value.TheVariants.{Text, Number}
 use Rattle.ssb_explain.proofs.SameLaws.{same}
 use Rattle.ssb_explain.specs.Laws.{AsksTheSame, HasBits, WordsAskTheSame, words_of}
-use Rattle.ssb_explain.specs.Words.{has_no_point, is_by_sum, is_star, number_clause, plan_clauses, range_clauses}
+use Rattle.ssb_explain.specs.Words.{has_no_point, is_by_sum, is_star, number_clause, number_exclusion, plan_clauses}
+use Rattle.ssb_explain.specs.Words.{range_clauses, text_exclusion}
 use Rattle.ssb_explain.specs.Words.{request_fields}
 use Rattle.ssb_explain.specs.Words.{test_clauses, tests_clauses, text_clause}
 
@@ -102,9 +104,22 @@ bits_at : (asked : Query) (constants : List Value) → AllByRecursion HasBits co
     → StandsAmong (kinds_of asked) constants kind.Number (Number n) → n < 2 ^ 32
 bits_at asked constants bits n stands = at HasBits constants stands.0 (Number n) bits stands.2
 
-number : (column : Column) → kind_in column ≡ kind.Number → (n : ℕ) → n < 2 ^ 32 → Spells column (Number n)
-number column takes n small = record {
-  is = (ap (λ k. fits k (Number n)) takes, small);
+-- each column of numbers that queries read takes all of 32 bits
+abbrev TakesBits : Column → Type 0
+TakesBits column = kind_in column ≡ kind.Number → 4294967295 ≤ most_in column
+
+take_bits : AllByRecursion TakesBits query_columns
+take_bits =
+    (λ e. absurd cc, (λ e. absurd cc, (λ e. absurd cc, (λ e. absurd cc, (λ e. absurd cc, (λ e. absurd cc, (λ e. absurd cc, (λ e. absurd cc, (λ e. absurd cc, (λ e. absurd cc, (λ e. omega arith, (λ e. absurd cc, (λ e. absurd cc, (λ e. omega arith, (λ e. omega arith, (λ e. absurd cc, (λ e. omega arith, (λ e. absurd cc, (λ e. absurd cc, tt)))))))))))))))))))
+
+number : (column : Column) → Has query_columns column → kind_in column ≡ kind.Number → (n : ℕ) → n < 2 ^ 32
+    → Spells column (Number n)
+number column has takes n small = record {
+  is = (
+    takes,
+    (let most = read_at TakesBits query_columns column take_bits has takes in omega (arith, small, most)),
+    omega (arith, small),
+  );
   alone = tt;
   first = tt;
 }
@@ -132,6 +147,18 @@ numbers : (column : Column) → Has query_columns column → (ns : List ℕ)
 numbers column has [] all = tt
 numbers column has (n ∷ ns) all = ((has, all.0.is, all.0.alone), numbers column has ns all.1)
 
+texts_out : (column : Column) → Has query_columns column → (texts : List (List ℕ))
+    → AllByRecursion (λ bytes. Spells column (Text bytes)) texts
+    → AllByRecursion IsWithinBounds (map (text_exclusion column) texts)
+texts_out column has [] all = tt
+texts_out column has (bytes ∷ texts) all = ((has, all.0.is, all.0.alone), texts_out column has texts all.1)
+
+numbers_out : (column : Column) → Has query_columns column → (ns : List ℕ)
+    → AllByRecursion (λ n. Spells column (Number n)) ns
+    → AllByRecursion IsWithinBounds (map (number_exclusion column) ns)
+numbers_out column has [] all = tt
+numbers_out column has (n ∷ ns) all = ((has, all.0.is, all.0.alone), numbers_out column has ns all.1)
+
 test_within : (asked : Query) (constants : List Value) → constants_fault asked constants ≡ None
     → list_all has_no_point constants ≡ true → AllByRecursion HasBits constants → (column : Column)
     → Has query_columns column → (found : Cond)
@@ -148,14 +175,20 @@ test_within asked constants fit plain bits column has (TextOneOf texts) kind giv
     values column has texts (all_weaker _ (λ bytes. Spells column (Text bytes))
     (λ bytes stands. text asked constants fit plain column kind bytes stands) texts given)
 test_within asked constants fit plain bits column has (NumberIs n) kind given =
-    let spells = number column kind n (bits_at asked constants bits n given) in ((has, spells.is, spells.alone), tt)
+    let spells = number column has kind n (bits_at asked constants bits n given) in ((has, spells.is, spells.alone), tt)
 test_within asked constants fit plain bits column has (NumberFromTo from to) kind given =
-    let a = number column kind from (bits_at asked constants bits from given.0) in
-    let b = number column kind to (bits_at asked constants bits to given.1) in
+    let a = number column has kind from (bits_at asked constants bits from given.0) in
+    let b = number column has kind to (bits_at asked constants bits to given.1) in
     ((has, a.is, b.is, a.first), tt)
 test_within asked constants fit plain bits column has (NumberOneOf ns) kind given =
     numbers column has ns (all_weaker _ (λ n. Spells column (Number n))
-    (λ n stands. number column kind n (bits_at asked constants bits n stands)) ns given)
+    (λ n stands. number column has kind n (bits_at asked constants bits n stands)) ns given)
+test_within asked constants fit plain bits column has (TextNoneOf texts) kind given =
+    texts_out column has texts (all_weaker _ (λ bytes. Spells column (Text bytes))
+    (λ bytes stands. text asked constants fit plain column kind bytes stands) texts given)
+test_within asked constants fit plain bits column has (NumberNoneOf ns) kind given =
+    numbers_out column has ns (all_weaker _ (λ n. Spells column (Number n))
+    (λ n stands. number column has kind n (bits_at asked constants bits n stands)) ns given)
 
 both : {X : Type 0} (P : X → Type 0) (xs ys : List X) → AllByRecursion P xs → AllByRecursion P ys
     → AllByRecursion P (xs ++ ys)

@@ -5,7 +5,7 @@ use Rattle.ssb_schema.specs.declared.column.Column.{Column}
 use Rattle.ssb_questions.specs.Clause.{kind_in}
 use Rattle.ssb_questions.specs.declared.cond.Cond.{Cond}
 use Rattle.ssb_questions.specs.declared.cond.Cond.TheVariants.{TextIs, TextFromTo, TextOneOf, NumberIs, NumberFromTo}
-use Rattle.ssb_questions.specs.declared.cond.Cond.TheVariants.{NumberOneOf}
+use Rattle.ssb_questions.specs.declared.cond.Cond.TheVariants.{NumberOneOf, TextNoneOf, NumberNoneOf}
 use Rattle.ssb_questions.specs.declared.cond.Test.{Test}
 use Rattle.ssb_questions.specs.declared.kind.ConstantKind.{ConstantKind}
 use Rattle.ssb_questions.specs.declared.kind.ConstantKind.TheVariants as kind
@@ -41,8 +41,20 @@ between name from to = concat (name ∷ codes " BETWEEN " ∷ from ∷ codes " A
 abbrev pub equals : List ℕ → List ℕ → List ℕ
 equals name value = concat (name ∷ codes " = " ∷ value ∷ [])
 
+abbrev pub differs : List ℕ → List ℕ → List ℕ
+differs name value = concat (name ∷ codes " <> " ∷ value ∷ [])
+
 abbrev pub one_of : List ℕ → List (List ℕ) → List ℕ
 one_of name values = concat (name ∷ codes " IN (" ∷ commas values ∷ codes ")" ∷ [])
+
+abbrev pub not_in : List ℕ → List (List ℕ) → List ℕ
+not_in name values = concat (name ∷ codes " NOT IN (" ∷ commas values ∷ codes ")" ∷ [])
+
+-- none of the values; one alone is told without a list
+abbrev pub none_of : List ℕ → List (List ℕ) → List ℕ
+none_of name [] = not_in name []
+none_of name (value ∷ []) = differs name value
+none_of name (value ∷ other ∷ values) = not_in name (value ∷ other ∷ values)
 
 abbrev pub condition_of : System → Column → Cond → List ℕ
 condition_of system column (TextIs text) = equals (column_sql column) (literal system text)
@@ -52,6 +64,8 @@ condition_of system column (TextOneOf texts) = one_of (column_sql column) (map (
 condition_of system column (NumberIs number) = equals (column_sql column) (decimal number)
 condition_of system column (NumberFromTo from to) = between (column_sql column) (decimal from) (decimal to)
 condition_of system column (NumberOneOf numbers) = one_of (column_sql column) (map decimal numbers)
+condition_of system column (TextNoneOf texts) = none_of (column_sql column) (map (literal system) texts)
+condition_of system column (NumberNoneOf numbers) = none_of (column_sql column) (map decimal numbers)
 
 abbrev pub condition : System → Test → List ℕ
 condition system test = condition_of system test.column test.cond

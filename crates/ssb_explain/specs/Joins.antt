@@ -6,7 +6,8 @@ use Rattle.ssb_schema.specs.declared.table.Table.{Table}
 use Rattle.ssb_schema.specs.declared.table.Table.TheVariants.{Customer, Supplier, Part, Date, Lineorder}
 use Rattle.ssb_questions.specs.declared.cond.Test.{Test}
 use Rattle.ssb_questions.specs.declared.plan.Measure.{Measure}
-use Rattle.ssb_questions.specs.declared.plan.Measure.TheVariants.{Revenue, Profit, PriceTimesDiscount, Quantity, Lines}
+use Rattle.ssb_questions.specs.declared.plan.Measure.TheVariants.{Revenue, Profit, PriceTimesDiscount, Quantity}
+use Rattle.ssb_questions.specs.declared.plan.Measure.TheVariants.{ExtendedPrice, SupplyCost, Lines}
 use Rattle.ssb_questions.specs.declared.plan.Plan.{Plan}
 use Rattle.ssb_explain.specs.Conditions.{conditions, line_conditions, where_all}
 use Rattle.ssb_explain.specs.Lines.{commit_conditions, lines_table, sign_names}
@@ -81,6 +82,8 @@ measured Revenue = codes "lo_revenue" ∷ []
 measured Profit = codes "lo_revenue" ∷ codes "lo_supplycost" ∷ []
 measured PriceTimesDiscount = codes "lo_extendedprice" ∷ codes "lo_discount" ∷ []
 measured Quantity = codes "lo_quantity" ∷ []
+measured ExtendedPrice = codes "lo_extendedprice" ∷ []
+measured SupplyCost = codes "lo_supplycost" ∷ []
 measured Lines = []
 
 -- what the outer joins and the sum still need

@@ -4,7 +4,8 @@ use Rattle.std.specs.List.{concat}
 use Rattle.ssb_schema.specs.declared.column.Column.{Column}
 use Rattle.ssb_questions.specs.Query.{sum_first}
 use Rattle.ssb_questions.specs.declared.plan.Measure.{Measure}
-use Rattle.ssb_questions.specs.declared.plan.Measure.TheVariants.{Revenue, Profit, PriceTimesDiscount, Quantity, Lines}
+use Rattle.ssb_questions.specs.declared.plan.Measure.TheVariants.{Revenue, Profit, PriceTimesDiscount, Quantity}
+use Rattle.ssb_questions.specs.declared.plan.Measure.TheVariants.{ExtendedPrice, SupplyCost, Lines}
 use Rattle.ssb_questions.specs.declared.plan.OrderKey.{OrderKey}
 use Rattle.ssb_questions.specs.declared.plan.OrderKey.TheVariants.{Group, SumDescending}
 use Rattle.ssb_questions.specs.declared.plan.Plan.{Plan}
@@ -27,6 +28,8 @@ sum_sql Postgresql Profit = codes "sum(lo_revenue - lo_supplycost)"
 sum_sql Clickhouse Profit = codes "sum(toInt64(lo_revenue) - toInt64(lo_supplycost))"
 sum_sql system PriceTimesDiscount = codes "sum(lo_extendedprice * lo_discount)"
 sum_sql system Quantity = codes "sum(lo_quantity)"
+sum_sql system ExtendedPrice = codes "sum(lo_extendedprice)"
+sum_sql system SupplyCost = codes "sum(lo_supplycost)"
 sum_sql Sqlite Lines = codes "count(*)"
 sum_sql Postgresql Lines = codes "count(*)"
 sum_sql Clickhouse Lines = codes "count()"
@@ -47,6 +50,8 @@ signed_sum_sql Postgresql Profit = codes "sum(sign * (lo_revenue - lo_supplycost
 signed_sum_sql Clickhouse Profit = codes "sum(sign * (toInt64(lo_revenue) - toInt64(lo_supplycost)))"
 signed_sum_sql system PriceTimesDiscount = codes "sum(sign * lo_extendedprice * lo_discount)"
 signed_sum_sql system Quantity = codes "sum(sign * lo_quantity)"
+signed_sum_sql system ExtendedPrice = codes "sum(sign * lo_extendedprice)"
+signed_sum_sql system SupplyCost = codes "sum(sign * lo_supplycost)"
 signed_sum_sql system Lines = codes "sum(sign)"
 
 abbrev pub whole_signed_sum_sql : System → Measure → List ℕ

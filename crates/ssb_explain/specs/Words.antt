@@ -4,13 +4,14 @@ use Rattle.std.specs.Prelude.{Option, None, Some, slice_get, if◌then◌else◌
 use Rattle.std.specs.List.{concat, list_all, list_any}
 use Rattle.ssb_schema.specs.Columns.{column_name}
 use Rattle.ssb_schema.specs.declared.column.Column.{Column}
-use Rattle.ssb_questions.specs.Clause.{Clause, Sums, GroupsBy, Is, FromTo, QuantityIn, DiscountIn, BySum, measure_name}
+use Rattle.ssb_questions.specs.Clause.{Clause, Sums, GroupsBy, Is, IsNot, FromTo, QuantityIn, DiscountIn, BySum}
+use Rattle.ssb_questions.specs.Clause.{measure_name}
 use Rattle.ssb_questions.specs.Laws.{clause_text, value_text}
 use Rattle.ssb_questions.specs.Queries.{plan_over}
 use Rattle.ssb_questions.specs.Query.{name_of, sum_first}
 use Rattle.ssb_questions.specs.declared.cond.Cond.{Cond}
 use Rattle.ssb_questions.specs.declared.cond.Cond.TheVariants.{TextIs, TextFromTo, TextOneOf, NumberIs, NumberFromTo}
-use Rattle.ssb_questions.specs.declared.cond.Cond.TheVariants.{NumberOneOf}
+use Rattle.ssb_questions.specs.declared.cond.Cond.TheVariants.{NumberOneOf, TextNoneOf, NumberNoneOf}
 use Rattle.ssb_questions.specs.declared.cond.Test.{Test}
 use Rattle.ssb_questions.specs.declared.plan.NumberRange.{NumberRange}
 use Rattle.ssb_questions.specs.declared.plan.OrderKey.{OrderKey}
@@ -29,6 +30,13 @@ text_clause column text = Is column (Text text)
 abbrev pub number_clause : Column → ℕ → Clause
 number_clause column number = Is column (Number number)
 
+-- the column has not the value
+abbrev pub text_exclusion : Column → List ℕ → Clause
+text_exclusion column text = IsNot column (Text text)
+
+abbrev pub number_exclusion : Column → ℕ → Clause
+number_exclusion column number = IsNot column (Number number)
+
 -- the clauses that ask what a test asks
 abbrev pub test_clauses : Column → Cond → List Clause
 test_clauses column (TextIs text) = text_clause column text ∷ []
@@ -37,6 +45,8 @@ test_clauses column (TextOneOf texts) = map (text_clause column) texts
 test_clauses column (NumberIs number) = number_clause column number ∷ []
 test_clauses column (NumberFromTo from to) = FromTo column (Number from) (Number to) ∷ []
 test_clauses column (NumberOneOf numbers) = map (number_clause column) numbers
+test_clauses column (TextNoneOf texts) = map (text_exclusion column) texts
+test_clauses column (NumberNoneOf numbers) = map (number_exclusion column) numbers
 
 abbrev pub tests_clauses : List Test → List Clause
 tests_clauses tests = flat_map (λ test. test_clauses test.column test.cond) tests

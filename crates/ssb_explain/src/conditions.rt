@@ -43,7 +43,7 @@ fn literals(alloc: Global, system: System, texts: &[Text]) -> Result<Vec<String>
     Ok(made)
 }
 
-fn decimals(alloc: Global, numbers: &[u32]) -> Result<Vec<String>, AllocError>
+fn decimals(alloc: Global, numbers: &[u64]) -> Result<Vec<String>, AllocError>
     ensures { IfOk result (λ made. map string_bytes made.items ≡ map decimal numbers.now) }
 {
     let mut made = Vec::new(alloc);
@@ -90,6 +90,30 @@ fn one_of(alloc: Global, name: &str, values: &[String]) -> Result<String, AllocE
     [name, " IN (", values.as_str(), ")"].concat(alloc)
 }
 
+fn differs<'a>(alloc: Global, name: &'a str, value: &'a str) -> Result<String, AllocError>
+    ensures { IfOk result (λ text. string_bytes text ≡ spec.differs name.now value.now) }
+{
+    [name, " <> ", value].concat(alloc)
+}
+
+fn not_in(alloc: Global, name: &str, values: &[String]) -> Result<String, AllocError>
+    ensures { IfOk result (λ text. string_bytes text ≡ spec.not_in name.now (map string_bytes values.now)) }
+{
+    let values = commas(alloc, values)?;
+    [name, " NOT IN (", values.as_str(), ")"].concat(alloc)
+}
+
+// None of the values; one alone is told without a list.
+fn none_of(alloc: Global, name: &str, values: &[String]) -> Result<String, AllocError>
+    ensures { IfOk result (λ text. string_bytes text ≡ spec.none_of name.now (map string_bytes values.now)) }
+{
+    match values {
+        [] => not_in(alloc, name, values),
+        [value] => differs(alloc, name, value.as_str()),
+        [_, _, ..] => not_in(alloc, name, values),
+    }
+}
+
 // The column lies between two texts.
 fn between_texts(
     alloc: Global,
@@ -108,7 +132,7 @@ fn between_texts(
 }
 
 // What is named lies between two numbers.
-fn between_numbers(alloc: Global, name: &str, from: u32, to: u32) -> Result<String, AllocError>
+fn between_numbers(alloc: Global, name: &str, from: u64, to: u64) -> Result<String, AllocError>
     ensures { IfOk result (λ text. string_bytes text ≡ spec.between name.now (decimal from) (decimal to)) }
 {
     let from = from.to_string(alloc)?;
@@ -141,6 +165,14 @@ fn condition(alloc: Global, system: System, test: &Test) -> Result<String, Alloc
         Cond::NumberOneOf(numbers) => {
             let values = decimals(alloc, numbers.as_slice())?;
             one_of(alloc, name, values.as_slice())
+        }
+        Cond::TextNoneOf(texts) => {
+            let values = literals(alloc, system, texts.as_slice())?;
+            none_of(alloc, name, values.as_slice())
+        }
+        Cond::NumberNoneOf(numbers) => {
+            let values = decimals(alloc, numbers.as_slice())?;
+            none_of(alloc, name, values.as_slice())
         }
     }
 }

@@ -109,6 +109,8 @@ fn measured(measure: Measure) -> &'static [&'static str]
         Measure::Profit => &["lo_revenue", "lo_supplycost"],
         Measure::PriceTimesDiscount => &["lo_extendedprice", "lo_discount"],
         Measure::Quantity => &["lo_quantity"],
+        Measure::ExtendedPrice => &["lo_extendedprice"],
+        Measure::SupplyCost => &["lo_supplycost"],
         Measure::Lines => &[],
     }
 }

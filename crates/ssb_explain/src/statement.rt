@@ -31,6 +31,8 @@ fn sum_sql(system: System, measure: Measure) -> &'static str
         (Measure::Profit, _) => "sum(lo_revenue - lo_supplycost)",
         (Measure::PriceTimesDiscount, _) => "sum(lo_extendedprice * lo_discount)",
         (Measure::Quantity, _) => "sum(lo_quantity)",
+        (Measure::ExtendedPrice, _) => "sum(lo_extendedprice)",
+        (Measure::SupplyCost, _) => "sum(lo_supplycost)",
         (Measure::Lines, System::Clickhouse) => "count()",
         (Measure::Lines, _) => "count(*)",
     }
@@ -60,6 +62,8 @@ fn signed_sum_sql(system: System, measure: Measure) -> &'static str
         (Measure::Profit, _) => "sum(sign * (lo_revenue - lo_supplycost))",
         (Measure::PriceTimesDiscount, _) => "sum(sign * lo_extendedprice * lo_discount)",
         (Measure::Quantity, _) => "sum(sign * lo_quantity)",
+        (Measure::ExtendedPrice, _) => "sum(sign * lo_extendedprice)",
+        (Measure::SupplyCost, _) => "sum(sign * lo_supplycost)",
         (Measure::Lines, _) => "sum(sign)",
     }
 }

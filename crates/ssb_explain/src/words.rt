@@ -36,13 +36,42 @@ fn add_texts<'a>(
 fn add_numbers(
     clauses: &mut Vec<Clause<'_>>,
     column: Column,
-    numbers: &[u32],
+    numbers: &[u64],
 ) -> Result<(), AllocError>
     ensures { OnOk result (map clause_said clauses.new.items
         ≡ map clause_said clauses.old.items ++ map (spec.number_clause column) numbers.now) }
 {
     for number in numbers {
         clauses.push(Clause::Is(column, Spelled::Number(*number)))?;
+    }
+    Ok(())
+}
+
+// A clause for each text, or number, that a column has not.
+fn exclude_texts<'a>(
+    clauses: &mut Vec<Clause<'a>>,
+    column: Column,
+    texts: &'a [Text],
+) -> Result<(), AllocError>
+    ensures { OnOk result (map clause_said clauses.new.items
+        ≡ map clause_said clauses.old.items ++ map (spec.text_exclusion column) texts.now) }
+{
+    for text in texts {
+        clauses.push(Clause::IsNot(column, Spelled::Text(text.as_str())))?;
+    }
+    Ok(())
+}
+
+fn exclude_numbers(
+    clauses: &mut Vec<Clause<'_>>,
+    column: Column,
+    numbers: &[u64],
+) -> Result<(), AllocError>
+    ensures { OnOk result (map clause_said clauses.new.items
+        ≡ map clause_said clauses.old.items ++ map (spec.number_exclusion column) numbers.now) }
+{
+    for number in numbers {
+        clauses.push(Clause::IsNot(column, Spelled::Number(*number)))?;
     }
     Ok(())
 }
@@ -74,6 +103,8 @@ fn add_test<'a>(clauses: &mut Vec<Clause<'a>>, test: &'a Test) -> Result<(), All
             Ok(())
         }
         Cond::NumberOneOf(numbers) => add_numbers(clauses, column, numbers.as_slice()),
+        Cond::TextNoneOf(texts) => exclude_texts(clauses, column, texts.as_slice()),
+        Cond::NumberNoneOf(numbers) => exclude_numbers(clauses, column, numbers.as_slice()),
     }
 }
 
@@ -177,6 +208,10 @@ fn clause_text(alloc: Global, clause: Clause<'_>) -> Result<String, AllocError>
         Clause::GroupsBy(column) => return String::from_str(alloc, column.name()),
         Clause::BySum => return String::from_str(alloc, "ORDER=SUM"),
         Clause::Is(column, value) => (column.name(), spelled_text(alloc, value)?),
+        Clause::IsNot(column, value) => {
+            let value = spelled_text(alloc, value)?;
+            return three(alloc, column.name(), "!=", value.as_str());
+        }
         Clause::FromTo(column, from, to) => (column.name(), dotted(alloc, from, to)?),
         Clause::QuantityIn(range) => ("LO_QUANTITY", range_text(alloc, range)?),
         Clause::DiscountIn(range) => ("LO_DISCOUNT", range_text(alloc, range)?),

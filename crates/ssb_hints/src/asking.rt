@@ -21,7 +21,7 @@ fn value_of(alloc: Global, kind: Option<&ConstantKind>, word: &str) -> Result<Va
     if let Some(ConstantKind::Number) = kind {
         if let Some(n) = number(word.as_bytes()) {
             if n <= u64::from(u32::MAX) {
-                return Ok(Value::Number(n as u32));
+                return Ok(Value::Number(n));
             }
         }
     }

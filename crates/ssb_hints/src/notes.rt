@@ -31,8 +31,8 @@ static WITHIN: [(Column, Column); 6] = [
 ];
 
 // Whether a value is a number of this range.
-fn lies_in(value: &str, from: u32, to: u32) -> bool {
-    match value.parse::<u32>() {
+fn lies_in(value: &str, from: u64, to: u64) -> bool {
+    match value.parse::<u64>() {
         Ok(number) => from <= number && number <= to,
         Err(_) => false,
     }
@@ -97,7 +97,7 @@ fn note_value<F: Files + AllocGlobal, E: Write>(
 fn note_number<F: Files + AllocGlobal, E: Write>(
     notes: &mut Notes<'_, F>,
     column: Column,
-    number: u32,
+    number: u64,
     err: &mut E,
 ) -> io::Result<()> {
     let text = format!(in notes.values.files.alloc(); "{number}")?;
@@ -136,8 +136,8 @@ fn note_none_between<F: Files + AllocGlobal, E: Write>(
 fn note_numbers<F: Files + AllocGlobal, E: Write>(
     notes: &mut Notes<'_, F>,
     column: Column,
-    from: u32,
-    to: u32,
+    from: u64,
+    to: u64,
     err: &mut E,
 ) -> io::Result<()> {
     let holds = match notes.values.of(column) {
@@ -198,8 +198,20 @@ fn note_test<F: Files + AllocGlobal, E: Write>(
             }
             Ok(())
         }
+        Cond::TextNoneOf(texts) => {
+            for text in texts.as_slice() {
+                note_value(notes, column, text.as_str(), err)?;
+            }
+            Ok(())
+        }
         Cond::NumberIs(number) => note_number(notes, column, *number, err),
         Cond::NumberOneOf(numbers) => {
+            for number in numbers.as_slice() {
+                note_number(notes, column, *number, err)?;
+            }
+            Ok(())
+        }
+        Cond::NumberNoneOf(numbers) => {
             for number in numbers.as_slice() {
                 note_number(notes, column, *number, err)?;
             }

@@ -13,7 +13,7 @@ use std::{fmt, io};
 // The constants that a question of `star` has at most.
 const MOST_CONSTANTS: usize = 64;
 
-/// Help about the constants of `star`. Each is about one of them, but the last three.
+/// Help about the constants of `star`. Each is about one of them, but the last four.
 #[derive(Clone, Copy)]
 pub enum StarHelp<'a> {
     /// It stands where the measure does.
@@ -40,21 +40,28 @@ pub enum StarHelp<'a> {
     NoConstants,
     /// There are more than 64.
     TooMany,
-    /// The columns to group by and to test.
+    /// The columns to group by and to test, but those of a date.
     Columns,
+    /// Those of a date.
+    DateColumns,
 }
 
 // What star sums.
 const MEASURES: &str =
-    "LO_REVENUE, LO_REVENUE-LO_SUPPLYCOST, LO_EXTENDEDPRICE*LO_DISCOUNT, LO_QUANTITY or COUNT";
+    "LO_REVENUE, LO_REVENUE-LO_SUPPLYCOST, LO_EXTENDEDPRICE*LO_DISCOUNT, LO_QUANTITY, LO_EXTENDEDPRICE, LO_SUPPLYCOST \
+                        or COUNT";
 
 // What star groups by and tests.
 const COLUMNS: &str =
-    "C_CITY, C_NATION, C_REGION, S_CITY, S_NATION, S_REGION, P_MFGR, P_CATEGORY, P_BRAND1, D_YEAR, \
-                       D_YEARMONTHNUM, D_YEARMONTH and D_WEEKNUMINYEAR";
+    "C_CITY, C_NATION, C_REGION, C_MKTSEGMENT, S_CITY, S_NATION, S_REGION, P_MFGR, P_CATEGORY, P_BRAND1";
+
+const DATE_COLUMNS: &str =
+    "D_DATEKEY, D_DAYOFWEEK, D_MONTH, D_YEAR, D_YEARMONTHNUM, D_YEARMONTH, D_WEEKNUMINYEAR, D_SELLINGSEASON and \
+                            D_HOLIDAYFL";
 
 // What is tested by numbers.
-const NUMBERS: &str = "D_YEAR, D_YEARMONTHNUM, D_WEEKNUMINYEAR, LO_QUANTITY and LO_DISCOUNT";
+const NUMBERS: &str =
+    "D_DATEKEY, D_YEAR, D_YEARMONTHNUM, D_WEEKNUMINYEAR, LO_QUANTITY and LO_DISCOUNT";
 
 impl<'a> StarHelp<'a> {
     // What is said behind the constant that it is about.
@@ -62,7 +69,7 @@ impl<'a> StarHelp<'a> {
         match self {
             StarHelp::NoMeasure(_) => "is no measure; the first constant of star is",
             StarHelp::NoClause(_) =>
-                "is no column and no test; a test is COLUMN=VALUE or COLUMN=FROM..TO",
+                "is no column and no test; a test is COLUMN=VALUE, COLUMN!=VALUE or COLUMN=FROM..TO",
             StarHelp::BadValue(_) =>
                 "is a test with a value that its column cannot have; numbers are wanted for",
             StarHelp::SecondMeasure(_) => "is a second measure; star sums one",
@@ -80,6 +87,7 @@ impl<'a> StarHelp<'a> {
                 "star takes a measure, then group columns, then tests; the measure is",
             StarHelp::TooMany => "star takes at most 64 constants",
             StarHelp::Columns => "the columns are",
+            StarHelp::DateColumns => "and of a date",
         }
     }
 }
@@ -101,6 +109,7 @@ impl<'a> fmt::Display for StarHelp<'a> {
             StarHelp::NoConstants => write!(f, "{said} {MEASURES}"),
             StarHelp::TooMany => f.write_str(said),
             StarHelp::Columns => write!(f, "{said} {COLUMNS}"),
+            StarHelp::DateColumns => write!(f, "{said} {DATE_COLUMNS}"),
         }
     }
 }
@@ -109,6 +118,7 @@ impl<'a> fmt::Display for StarHelp<'a> {
 fn tests_a_column(word: &str) -> bool {
     match word.split_once('=') {
         Some((name, _)) => {
+            let name = name.strip_suffix('!').unwrap_or(name);
             name == "LO_QUANTITY"
                 || name == "LO_DISCOUNT"
                 || query_columns().iter().any(|column| column.name() == name)
@@ -166,6 +176,7 @@ fn help_behind<'a>(earlier: &[&str], word: &'a str) -> StarHelp<'a> {
         Clause::Sums(_) => StarHelp::SecondMeasure(word),
         Clause::GroupsBy(_) => group_help(earlier, word),
         Clause::Is(column, _) if !has_range(earlier, column) => StarHelp::TooManyValues(word),
+        Clause::IsNot(_, _) => StarHelp::TooManyValues(word),
         _ => StarHelp::SecondTest(word),
     }
 }
@@ -178,6 +189,12 @@ fn help_at<'a>(words: &[&'a str], place: usize) -> StarHelp<'a> {
         Some(word) if place == 0 => StarHelp::NoMeasure(word),
         Some(word) => help_behind(words.get(..place).unwrap_or(&[]), word),
     }
+}
+
+/// Says which columns there are.
+pub(crate) fn write_columns<E: Write>(err: &mut E) -> io::Result<()> {
+    write_line(err, &StarHelp::Columns)?;
+    write_line(err, &StarHelp::DateColumns)
 }
 
 // Says which columns there are, and which one may be meant.
@@ -193,7 +210,7 @@ fn help_with_columns<E: Write>(alloc: Global, word: &str, err: &mut E) -> io::Re
     if let Some(near) = nearest(alloc, name, names.as_slice(), 2)? {
         write_line(err, &QuestionHelp::DidYouMean(near))?;
     }
-    write_line(err, &StarHelp::Columns)
+    write_columns(err)
 }
 
 /// Says what is wrong with these constants of `star`, the one at this place from 1 first.

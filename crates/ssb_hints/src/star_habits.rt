@@ -37,7 +37,7 @@ impl<'a> fmt::Display for StarHabit<'a> {
                 )
             }
             StarHabit::NotEqual => f.write_str(
-                "there is no test for another value; give each value that is wanted, as COLUMN=VALUE, or a range",
+                "a test for another value is COLUMN!=VALUE, in one word; a range, LO_QUANTITY and LO_DISCOUNT have none",
             ),
             StarHabit::OneEnd => f.write_str(
                 "there is no < and no >; a range has both ends, and these are in it: COLUMN=FROM..TO",
@@ -103,7 +103,7 @@ fn stroke_in<'a>(word: &'a str) -> Option<StarHabit<'a>> {
 
 // How another system would take a word that stands behind another.
 fn habit_in<'a>(before: &'a str, word: &'a str) -> Option<StarHabit<'a>> {
-    if word.contains("!=") || word.contains("<>") || is_alike(word, "NOT") {
+    if is_alike(word, "!=") || word.contains("<>") || is_alike(word, "NOT") {
         return Some(StarHabit::NotEqual);
     }
     if word.contains('<') || word.contains('>') {

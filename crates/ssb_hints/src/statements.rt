@@ -1,7 +1,7 @@
 //! What is wrong with a statement of SQL.
 
 use crate::lines::write_line;
-use crate::star::StarHelp;
+use crate::star::write_columns;
 use ssb_sql::{SqlFault, TextPlace, statement_of, statements_of};
 use std::alloc::Global;
 use std::io::Write;
@@ -175,7 +175,7 @@ fn help_with_unsupported<E: Write>(text: &str, at: TextPlace, err: &mut E) -> io
     write_line(err, &StatementHelp::NotSupported(part_at(text, at)))?;
     write_line(err, &StatementHelp::Words)?;
     write_line(err, &StatementHelp::Sums)?;
-    write_line(err, &StarHelp::Columns)
+    write_columns(err)
 }
 
 // Says what is wrong with a statement that has this fault.

@@ -14,8 +14,9 @@ use Rattle.ssb_questions.proofs.ColumnLaws.{IsRead, clauses_read}
 use Rattle.ssb_questions.proofs.SomeLaws.{all_any, all_kept, some_and_then, some_any, some_if, some_map, some_or}
 use Rattle.ssb_questions.proofs.SomeLaws.{some_weaker, some_where}
 use Rattle.ssb_questions.proofs.StarLaws.{stands}
-use Rattle.ssb_questions.specs.Clause.{Clause, Is, FromTo, QuantityIn, DiscountIn}
-use Rattle.ssb_questions.specs.Clause.{clause_parted, column_named, column_test, kind_in}
+use Rattle.ssb_questions.specs.Clause.{Clause, Is, IsNot, FromTo, QuantityIn, DiscountIn}
+use Rattle.ssb_questions.specs.Clause.{clause_parted, column_exclusion, column_named, column_test, exclusion_clause}
+use Rattle.ssb_questions.specs.Clause.{kind_in, most_in, named_clause}
 use Rattle.ssb_questions.specs.Clause.{parted, range_spelled, spelled_as, test_clause, value_for, word_clause}
 use Rattle.ssb_questions.specs.Clauses.{clause_said, clauses_of, count_of, is_absent, may_follow, may_stand_at}
 use Rattle.ssb_questions.specs.Clauses.{same_column, same_subject, subject, subjects_of}
@@ -226,25 +227,26 @@ IsOf _ _ = ⊥
 -- what is looked for in a column is of its kind
 abbrev pub IsOfKind : Clause → Type 0
 IsOfKind (Is column v) = IsOf (kind_in column) v
+IsOfKind (IsNot column v) = IsOf (kind_in column) v
 IsOfKind (FromTo column from to) = IsOf (kind_in column) from × IsOf (kind_in column) to
 IsOfKind _ = Unit {0}
 
-spelled_of : (k : ConstantKind) (bytes : List ℕ) → IfSome (spelled_as k bytes) (IsOf k)
-spelled_of (kind.Text column) bytes = grind (arith, some_where)
-spelled_of kind.Number bytes = grind (arith, some_map, some_any)
+spelled_of : (k : ConstantKind) (most : ℕ) (bytes : List ℕ) → IfSome (spelled_as k most bytes) (IsOf k)
+spelled_of (kind.Text column) most bytes = grind (arith, some_where)
+spelled_of kind.Number most bytes = grind (arith, some_map, some_any)
 
 column_test_of : (column : Column) (bytes : List ℕ) (ends : Option (List ℕ × List ℕ))
     → IfSome (column_test column bytes ends) IsOfKind
 column_test_of column bytes None =
-    some_map IsOfKind (Is column) (value_for column bytes) (spelled_of (kind_in column) bytes)
+    some_map IsOfKind (Is column) (value_for column bytes) (spelled_of (kind_in column) (most_in column) bytes)
 column_test_of column bytes (Some ends) =
     some_and_then IsOfKind (λ from. option_map (FromTo column from) (value_for column ends.1)) (value_for column ends.0)
     (some_weaker (IsOf (kind_in column))
     (λ from. IfSome (option_map (FromTo column from) (value_for column ends.1)) IsOfKind)
     (λ from is. some_map IsOfKind (FromTo column from) (value_for column ends.1)
     (some_weaker (IsOf (kind_in column)) (λ to. IsOfKind (FromTo column from to)) (λ to also. (is, also))
-    (value_for column ends.1) (spelled_of (kind_in column) ends.1)))
-    (value_for column ends.0) (spelled_of (kind_in column) ends.0))
+    (value_for column ends.1) (spelled_of (kind_in column) (most_in column) ends.1)))
+    (value_for column ends.0) (spelled_of (kind_in column) (most_in column) ends.0))
 
 column_clause_of : (name bytes : List ℕ)
     → IfSome (option_and_then (λ column. column_test column bytes (parted (codes "..") bytes)) (column_named name))
@@ -261,12 +263,27 @@ test_of_kind name bytes =
     (some_any (λ range. IsOfKind (DiscountIn range)) (λ range. tt) (range_spelled bytes)))
     (column_clause_of name bytes))
 
+exclusion_of_column : (column : Column) (bytes : List ℕ) (ends : Option (List ℕ × List ℕ))
+    → IfSome (column_exclusion column bytes ends) IsOfKind
+exclusion_of_column column bytes None =
+    some_map IsOfKind (IsNot column) (value_for column bytes) (spelled_of (kind_in column) (most_in column) bytes)
+exclusion_of_column column bytes (Some ends) = tt
+
+exclusion_of_kind : (name bytes : List ℕ) → IfSome (exclusion_clause name bytes) IsOfKind
+exclusion_of_kind name bytes = grind (arith, some_and_then, some_any, exclusion_of_column)
+
+named_of_kind : (name bytes : List ℕ) (parts : Option (List ℕ × List ℕ))
+    → IfSome (named_clause name bytes parts) IsOfKind
+named_of_kind name bytes None = test_of_kind name bytes
+named_of_kind name bytes (Some (own, [])) = exclusion_of_kind own bytes
+named_of_kind name bytes (Some (own, b ∷ rest)) = tt
+
 word_of_kind : (word : List ℕ) → IfSome (word_clause word) IsOfKind
 word_of_kind word = grind (arith, some_or, some_map, some_any)
 
 parted_of_kind : (bytes : List ℕ) (parts : Option (List ℕ × List ℕ)) → IfSome (clause_parted bytes parts) IsOfKind
 parted_of_kind bytes None = word_of_kind bytes
-parted_of_kind bytes (Some parts) = test_of_kind parts.0 parts.1
+parted_of_kind bytes (Some parts) = named_of_kind parts.0 parts.1 (parted (codes "!") parts.0)
 
 said_of_kind : (v : Value) → IfSome (clause_said v) IsOfKind
 said_of_kind (value.Text bytes) = grind (arith, some_if, parted_of_kind)

@@ -1,5 +1,5 @@
 -- A clause of a star question is a text that a table file can hold as it is.
-use Rattle.std.proofs.Common.{◌≡◌, ◌∙◌, ℕ, suc, ◌-◌, ◌^◌, Bool, true, false, not, ◌&&◌, cond, nat_eq, nat_lt, List, []}
+use Rattle.std.proofs.Common.{◌≡◌, ◌∙◌, ℕ, suc, ◌-◌, ◌^◌, Bool, true, false, not, ◌&&◌, cond, nat_eq, nat_le, nat_lt, List, []}
 use Rattle.std.proofs.Common.{◌∷◌, ◌++◌, length, drop, Option, Some, None, refl, sym, ap, arith}
 use Rattle.std.specs.Prelude.{if◌then◌else◌, IfSome, codes, find, is_some, option_and_then, option_map, slice_get}
 use Rattle.std.specs.Char.{is_ascii_digit}
@@ -14,10 +14,11 @@ use Rattle.ssb_schema.specs.declared.column.Column.{Column}
 use Rattle.ssb_schema.specs.declared.fault.SchemaFault.{SchemaFault}
 use Rattle.ssb_questions.proofs.SomeLaws.{some_and_then, some_map, some_or, some_weaker}
 use Rattle.ssb_questions.proofs.StarLaws.{says}
-use Rattle.ssb_questions.specs.Clause.{Clause, Sums, GroupsBy, Is, FromTo, QuantityIn, DiscountIn, BySum, clause_of}
-use Rattle.ssb_questions.specs.Clause.{clause_parted, column_named, column_test, kind_in, measure_name, measure_named}
-use Rattle.ssb_questions.specs.Clause.{measures}
-use Rattle.ssb_questions.specs.Clause.{number_spelled, parted, range_of, range_spelled, spelled_as, test_clause}
+use Rattle.ssb_questions.specs.Clause.{Clause, Sums, GroupsBy, Is, IsNot, FromTo, QuantityIn, DiscountIn, BySum}
+use Rattle.ssb_questions.specs.Clause.{clause_of, clause_parted, column_exclusion, column_named, column_test}
+use Rattle.ssb_questions.specs.Clause.{exclusion_clause, kind_in, measure_name, measure_named, measures, most_in}
+use Rattle.ssb_questions.specs.Clause.{named_clause, number_spelled, number_up_to, parted, range_of, range_spelled}
+use Rattle.ssb_questions.specs.Clause.{spelled_as, test_clause}
 use Rattle.ssb_questions.specs.Clause.{value_for}
 use Rattle.ssb_questions.specs.Clause.{word_clause}
 use Rattle.ssb_questions.specs.Clauses.{clause_said}
@@ -93,6 +94,9 @@ number_plain bytes = grind (arith, if_there, nat_lt, digits_plain)
 spelled_number_plain : (bytes : List ℕ) → IfSome (number_spelled bytes) (λ _. IsPlain bytes)
 spelled_number_plain bytes = grind (arith, some_and_then, nat_lt, some_weaker, if_there, number_plain)
 
+number_up_plain : (most : ℕ) (bytes : List ℕ) → IfSome (number_up_to most bytes) (λ _. IsPlain bytes)
+number_up_plain most bytes = grind (arith, some_and_then, nat_le, some_weaker, if_there, number_plain)
+
 -- values
 text_plain : (long plain : Bool) (fault other : SchemaFault)
     → not (is_some (if long then Some fault else if not plain then Some other else None)) ≡ true → plain ≡ true
@@ -100,12 +104,12 @@ text_plain true plain fault other e = absurd cc
 text_plain false true fault other e = refl
 text_plain false false fault other e = absurd cc
 
-spelled_plain : (k : ConstantKind) (bytes : List ℕ) → IfSome (spelled_as k bytes) (λ _. IsPlain bytes)
-spelled_plain (kind.Text column) bytes =
+spelled_plain : (k : ConstantKind) (most : ℕ) (bytes : List ℕ) → IfSome (spelled_as k most bytes) (λ _. IsPlain bytes)
+spelled_plain (kind.Text column) most bytes =
     if_there (fits (kind.Text column) (value.Text bytes)) (value.Text bytes) (IsPlain bytes)
     (λ fit. text_plain (nat_lt 64 (length bytes)) (is_plain bytes) _ _ fit)
-spelled_plain kind.Number bytes =
-    some_map (λ _. IsPlain bytes) value.Number (number_spelled bytes) (spelled_number_plain bytes)
+spelled_plain kind.Number most bytes =
+    some_map (λ _. IsPlain bytes) value.Number (number_up_to most bytes) (number_up_plain most bytes)
 
 -- a text is what stands before the mark, the mark, and what stands behind it
 abbrev IsJoined : List ℕ → List ℕ → List ℕ × List ℕ → Type 0
@@ -148,11 +152,19 @@ range_plain bytes (Some ends) is =
 tested_plain : (column : Column) (bytes : List ℕ) (ends : Option (List ℕ × List ℕ))
     → IfSome ends (IsJoined (codes "..") bytes) → IfSome (column_test column bytes ends) (λ _. IsPlain bytes)
 tested_plain column bytes None is =
-    some_map (λ _. IsPlain bytes) (Is column) (value_for column bytes) (spelled_plain (kind_in column) bytes)
+    some_map (λ _. IsPlain bytes) (Is column) (value_for column bytes)
+    (spelled_plain (kind_in column) (most_in column) bytes)
 tested_plain column bytes (Some ends) is =
     both_plain (FromTo column) (value_for column ends.0) (value_for column ends.1) (IsPlain ends.0) (IsPlain ends.1)
-    (IsPlain bytes) (dotted ends.0 ends.1 bytes is) (spelled_plain (kind_in column) ends.0)
-    (spelled_plain (kind_in column) ends.1)
+    (IsPlain bytes) (dotted ends.0 ends.1 bytes is) (spelled_plain (kind_in column) (most_in column) ends.0)
+    (spelled_plain (kind_in column) (most_in column) ends.1)
+
+excluded_plain : (column : Column) (bytes : List ℕ) (ends : Option (List ℕ × List ℕ))
+    → IfSome (column_exclusion column bytes ends) (λ _. IsPlain bytes)
+excluded_plain column bytes None =
+    some_map (λ _. IsPlain bytes) (IsNot column) (value_for column bytes)
+    (spelled_plain (kind_in column) (most_in column) bytes)
+excluded_plain column bytes (Some ends) = tt
 
 -- names
 same_plain : (a b : List ℕ) → IsPlain a → text_eq a b ≡ true → IsPlain b
@@ -165,10 +177,11 @@ found_plain name word (x ∷ xs) all = grind (arith, same_plain, found_plain nam
 
 column_plain : (word : List ℕ) → IfSome (column_named word) (λ _. IsPlain word)
 column_plain word = found_plain column_name word query_columns
-    (refl, (refl, (refl, (refl, (refl, (refl, (refl, (refl, (refl, (refl, (refl, (refl, (refl, tt)))))))))))))
+    (refl, (refl, (refl, (refl, (refl, (refl, (refl, (refl, (refl, (refl, (refl, (refl, (refl, (refl, (refl, (refl, (refl, (refl, (refl, tt)))))))))))))))))))
 
 measure_plain : (word : List ℕ) → IfSome (measure_named word) (λ _. IsPlain word)
-measure_plain word = found_plain measure_name word measures (refl, (refl, (refl, (refl, (refl, tt)))))
+measure_plain word = found_plain measure_name word measures
+    (refl, (refl, (refl, (refl, (refl, (refl, (refl, tt)))))))
 
 word_plain : (word : List ℕ) → IfSome (word_clause word) (λ _. IsPlain word)
 word_plain word =
@@ -216,13 +229,32 @@ test_plain name bytes =
     (BothPlain name bytes) (range_clause_plain DiscountIn (codes "LO_DISCOUNT") name bytes refl)
     (column_clause_plain name bytes))
 
+exclusion_plain : (name bytes : List ℕ) → IfSome (exclusion_clause name bytes) (λ _. BothPlain name bytes)
+exclusion_plain name bytes =
+    let ends = parted (codes "..") bytes in
+    some_and_then (λ _. BothPlain name bytes) (λ column. column_exclusion column bytes ends) (column_named name)
+    (some_weaker (λ _. IsPlain name) (λ column. IfSome (column_exclusion column bytes ends) (λ _. BothPlain name bytes))
+    (λ column plain. some_weaker (λ _. IsPlain bytes) (λ _. BothPlain name bytes) (λ _ own. (plain, own))
+    (column_exclusion column bytes ends) (excluded_plain column bytes ends))
+    (column_named name) (column_plain name))
+
+named_plain : (name bytes : List ℕ) (parts : Option (List ℕ × List ℕ)) → IfSome parts (IsJoined (codes "!") name)
+    → IfSome (named_clause name bytes parts) (λ _. BothPlain name bytes)
+named_plain name bytes None is = test_plain name bytes
+named_plain name bytes (Some (own, [])) is =
+    some_weaker (λ _. BothPlain own bytes) (λ _. BothPlain name bytes)
+    (λ _ both. (ap is_plain is ∙ behind_text own 33 [] (bytes_of own both.0) (one_plain 33 refl refl), both.1))
+    (exclusion_clause own bytes) (exclusion_plain own bytes)
+named_plain name bytes (Some (own, b ∷ rest)) is = tt
+
 parted_plain : (bytes : List ℕ) (parts : Option (List ℕ × List ℕ))
     → IfSome parts (IsJoined (codes "=") bytes) → IfSome (clause_parted bytes parts) (λ _. IsPlain bytes)
 parted_plain bytes None is = word_plain bytes
 parted_plain bytes (Some parts) is =
     some_weaker (λ _. BothPlain parts.0 parts.1) (λ _. IsPlain bytes)
-    (λ _ both. ap is_plain is ∙ with_equals parts.0 parts.1 both.0 both.1) (test_clause parts.0 parts.1)
-    (test_plain parts.0 parts.1)
+    (λ _ both. ap is_plain is ∙ with_equals parts.0 parts.1 both.0 both.1)
+    (named_clause parts.0 parts.1 (parted (codes "!") parts.0))
+    (named_plain parts.0 parts.1 (parted (codes "!") parts.0) (joined (codes "!") parts.0))
 
 clause_plain : (bytes : List ℕ) → IfSome (clause_of bytes) (λ _. IsPlain bytes)
 clause_plain bytes =

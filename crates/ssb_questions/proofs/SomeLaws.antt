@@ -1,5 +1,5 @@
 -- What holds of a value wherever there is one.
-use Rattle.std.proofs.Common.{◌≡◌, ◌≢◌, ℕ, zero, suc, ◌+◌, ◌≤◌, ap, arith, Bool, true, false, cond, List, [], ◌∷◌}
+use Rattle.std.proofs.Common.{◌≡◌, ◌≢◌, ℕ, zero, suc, ◌+◌, ◌≤◌, ap, arith, Bool, true, false, cond, List, [], ◌∷◌, ◌++◌}
 use Rattle.std.proofs.Common.{Option, Some, None, refl}
 use Rattle.std.specs.Prelude.{IfSome, option_map, option_and_then, find, slice_get}
 use Rattle.std.specs.List.{AllByRecursion, filter_map, cons_option, range_with_len}
@@ -69,6 +69,20 @@ pub all_both : {X : Type 0} (P Q : X → Type 0) (xs : List X) → AllByRecursio
     → AllByRecursion (λ x. P x × Q x) xs
 all_both P Q [] first second = tt
 all_both P Q (x ∷ xs) first second = ((first.0, second.0), all_both P Q xs first.1 second.1)
+
+-- of lists behind each other
+pub all_append : {X : Type 0} (P : X → Type 0) (xs ys : List X) → AllByRecursion P xs → AllByRecursion P ys
+    → AllByRecursion P (xs ++ ys)
+all_append P [] ys first second = second
+all_append P (x ∷ xs) ys first second = (first.0, all_append P xs ys first.1 second)
+
+pub all_left : {X : Type 0} (P : X → Type 0) (xs ys : List X) → AllByRecursion P (xs ++ ys) → AllByRecursion P xs
+all_left P [] ys all = tt
+all_left P (x ∷ xs) ys all = (all.0, all_left P xs ys all.1)
+
+pub all_right : {X : Type 0} (P : X → Type 0) (xs ys : List X) → AllByRecursion P (xs ++ ys) → AllByRecursion P ys
+all_right P [] ys all = all
+all_right P (x ∷ xs) ys all = all_right P xs ys all.1
 
 -- what is found in a range stands before another that passes
 pub found_before : (p : ℕ → Bool) (k : ℕ) → p k ≡ true → (n a : ℕ) → a ≤ k

@@ -1,6 +1,6 @@
 -- Clauses within the bounds are spelled by constants that `star` takes.
 use Rattle.std.proofs.Common.{◌≡◌, ◌∙◌, ℕ, zero, suc, ◌+◌, ◌^◌, ◌<◌, ◌≤◌, Bool, true, false, cond}
-use Rattle.std.proofs.Common.{nat_eq, nat_lt}
+use Rattle.std.proofs.Common.{nat_eq, nat_le, nat_lt}
 use Rattle.std.proofs.Common.{List, [], ◌∷◌, length, take, drop, map, Option, Some, None, refl, sym, ap, subst}
 use Rattle.std.proofs.Common.{arith}
 use Rattle.std.proofs.Common.{rules}
@@ -18,8 +18,9 @@ use Rattle.ssb_schema.specs.Columns.{column_name, query_columns}
 use Rattle.ssb_schema.specs.Numerals.{decimal_value, number_of}
 use Rattle.ssb_schema.specs.declared.column.Column.{Column}
 use Rattle.ssb_questions.proofs.ColumnLaws.{at}
-use Rattle.ssb_questions.specs.Clause.{Clause, Sums, GroupsBy, Is, FromTo, QuantityIn, DiscountIn, BySum, clause_of}
-use Rattle.ssb_questions.specs.Clause.{column_test, kind_in, measure_name, number_spelled, parted}
+use Rattle.ssb_questions.specs.Clause.{Clause, Sums, GroupsBy, Is, IsNot, FromTo, QuantityIn, DiscountIn, BySum}
+use Rattle.ssb_questions.specs.Clause.{clause_of, column_exclusion, column_test, kind_in, measure_name, most_in}
+use Rattle.ssb_questions.specs.Clause.{number_spelled, number_up_to, parted}
 use Rattle.ssb_questions.specs.Clause.{range_spelled}
 use Rattle.ssb_questions.specs.Clause.{spelled_as, value_for}
 use Rattle.ssb_questions.specs.Clauses.{clauses_of, first_bad, may_stand, subject}
@@ -28,7 +29,7 @@ use Rattle.ssb_questions.specs.Clauses.{subjects_of}
 use Rattle.ssb_questions.specs.Kind.{fits}
 use Rattle.ssb_questions.specs.Laws.{ClausesAreSpelled, IsAlone, IsFirst, IsRange, IsValueOf, IsWithinBounds}
 use Rattle.ssb_questions.specs.Laws.{StandInOrder}
-use Rattle.ssb_questions.specs.Laws.{clause_text, dotted, named, range_text, value_text}
+use Rattle.ssb_questions.specs.Laws.{clause_text, dotted, named, range_text, unlike, value_text}
 use Rattle.ssb_questions.specs.Star.{star_plan}
 use Rattle.ssb_questions.specs.declared.kind.ConstantKind.{ConstantKind}
 use Rattle.ssb_questions.specs.declared.kind.ConstantKind.TheVariants as kind
@@ -46,6 +47,8 @@ measure_back measure.Revenue = refl
 measure_back measure.Profit = refl
 measure_back measure.PriceTimesDiscount = refl
 measure_back measure.Quantity = refl
+measure_back measure.ExtendedPrice = refl
+measure_back measure.SupplyCost = refl
 measure_back measure.Lines = refl
 
 abbrev GroupBack : Column → Type 0
@@ -54,7 +57,7 @@ GroupBack column = clause_of (column_name column) ≡ Some (GroupsBy column)
 groups_back : AllByRecursion GroupBack query_columns
 unfolding parted
 groups_back =
-    (refl, (refl, (refl, (refl, (refl, (refl, (refl, (refl, (refl, (refl, (refl, (refl, (refl, tt)))))))))))))
+    (refl, (refl, (refl, (refl, (refl, (refl, (refl, (refl, (refl, (refl, (refl, (refl, (refl, (refl, (refl, (refl, (refl, (refl, (refl, tt)))))))))))))))))))
 
 abbrev TestBack : Column → Type 0
 TestBack column =
@@ -64,6 +67,15 @@ TestBack column =
 tests_back : AllByRecursion TestBack query_columns
 unfolding parted
 tests_back = grind arith
+
+abbrev ExclusionBack : Column → Type 0
+ExclusionBack column =
+    (bytes : List ℕ)
+    → clause_of (unlike (column_name column) bytes) ≡ column_exclusion column bytes (parted (codes "..") bytes)
+
+exclusions_back : AllByRecursion ExclusionBack query_columns
+unfolding parted
+exclusions_back = grind arith
 
 quantity_back : (bytes : List ℕ)
     → clause_of (named (codes "LO_QUANTITY") bytes) ≡ option_map QuantityIn (range_spelled bytes)
@@ -82,19 +94,28 @@ order_back = refl
 digits_read : IsNumeralModel (λ ds. list_all is_ascii_digit ds ≡ true) decimal_value
 digits_read = numerals_by_weight _ (search rules) decimal_value (search rules)
 
+digits_all : (n : ℕ) → n < 2 ^ 64 → list_all is_ascii_digit (decimal n) ≡ true
+digits_all n fits64 = digits_decimal digits_read n fits64
+
 all_digits : (n : ℕ) → n < 2 ^ 32 → list_all is_ascii_digit (decimal n) ≡ true
-all_digits n small = digits_decimal digits_read n (omega (arith, small))
+all_digits n small = digits_all n (omega (arith, small))
+
+number_read : (n : ℕ) → n < 2 ^ 64 → number_of (decimal n) ≡ Some n
+number_read n fits64 =
+    let is : decimal_value (decimal n) ≡ n = digits_value-decimal digits_read n fits64 in
+    let few : length (decimal n) ≤ 20 = length-decimal-le 20 n (omega arith) (omega arith) fits64 in
+    number_of-digits (decimal n) (decimal_nonempty n fits64) few (digits_all n fits64)
+    (subst (λ m. m < 2 ^ 64) (sym is) fits64) ∙ ap Some is
 
 number_back : (n : ℕ) → n < 2 ^ 32 → number_spelled (decimal n) ≡ Some n
 number_back n small =
-    let fits64 : n < 2 ^ 64 = omega (arith, small) in
-    let is : decimal_value (decimal n) ≡ n = digits_value-decimal digits_read n fits64 in
-    let few : length (decimal n) ≤ 20 = length-decimal-le 20 n (omega arith) (omega arith) fits64 in
-    let read : number_of (decimal n) ≡ Some n =
-    number_of-digits (decimal n) (decimal_nonempty n fits64) few (all_digits n small)
-    (subst (λ m. m < 2 ^ 64) (sym is) fits64) ∙ ap Some is in
     let below : nat_lt n (2 ^ 32) ≡ true = grind (arith, small, nat_tests) in
-    rw (read, below) refl
+    rw (number_read n (omega (arith, small)), below) refl
+
+number_up_back : (most n : ℕ) → n ≤ most → n < 2 ^ 64 → number_up_to most (decimal n) ≡ Some n
+number_up_back most n within fits64 =
+    let below : nat_le n most ≡ true = grind (arith, within, nat_tests) in
+    rw (number_read n fits64, below) refl
 
 no_dot : (c : ℕ) → is_ascii_digit c ≡ true → nat_eq 46 c ≡ false
 no_dot c digit = grind (arith, nat_tests)
@@ -139,30 +160,25 @@ range_back : (range : NumberRange) → IsRange range → range_spelled (range_te
 range_back range is = grind (arith, first_dots, digits_first, all_digits, number_back)
 
 -- values are read back
-spelled_back : (k : ConstantKind) (v : Value) → fits k v ≡ true → ((n : ℕ) → v ≡ value.Number n → n < 2 ^ 32)
-    → spelled_as k (value_text v) ≡ Some v
-spelled_back (kind.Text column) (value.Text bytes) fit small = rw fit refl
-spelled_back (kind.Text column) (value.Number n) fit small = absurd cc
-spelled_back kind.Number (value.Text bytes) fit small = absurd cc
-spelled_back kind.Number (value.Number n) fit small = ap (option_map value.Number) (number_back n (small n refl))
-
-same_number : (m n : ℕ) → value.Number m ≡ value.Number n → m ≡ n
-same_number m n e = cc
+text_back : (k : ConstantKind) (most : ℕ) (bytes : List ℕ) → fits k (value.Text bytes) ≡ true
+    → spelled_as k most bytes ≡ Some (value.Text bytes)
+text_back (kind.Text column) most bytes fit = rw fit refl
+text_back kind.Number most bytes fit = absurd cc
 
 value_back : (column : Column) (v : Value) → IsValueOf column v → value_for column (value_text v) ≡ Some v
-value_back column (value.Text bytes) is = spelled_back (kind_in column) (value.Text bytes) is (λ n e. absurd cc)
+value_back column (value.Text bytes) is = text_back (kind_in column) (most_in column) bytes is
 value_back column (value.Number n) is =
-    spelled_back (kind_in column) (value.Number n) is.0
-    (λ m e. let same = same_number n m e in let small = is.1 in omega (arith, same, small))
+    ap (λ k. spelled_as k (most_in column) (decimal n)) is.0
+    ∙ ap (option_map value.Number) (number_up_back (most_in column) n is.1 is.2)
 
 alone : (column : Column) (v : Value) → IsValueOf column v → IsAlone v → parted (codes "..") (value_text v) ≡ None
 alone column (value.Text bytes) is h = h
-alone column (value.Number n) is h = digits_alone (decimal n) (all_digits n is.1)
+alone column (value.Number n) is h = digits_alone (decimal n) (digits_all n is.2)
 
 first : (column : Column) (v : Value) (to : List ℕ) → IsValueOf column v → IsFirst v
     → parted (codes "..") (dotted (value_text v) to) ≡ Some (value_text v, to)
 first column (value.Text bytes) to is h = first_dots bytes to h
-first column (value.Number n) to is h = first_dots (decimal n) to (digits_first (decimal n) (all_digits n is.1))
+first column (value.Number n) to is h = first_dots (decimal n) to (digits_first (decimal n) (digits_all n is.2))
 
 -- each clause is read back
 clause_back : (clause : Clause) → IsWithinBounds clause → clause_of (clause_text clause) ≡ Some clause
@@ -172,6 +188,10 @@ clause_back (Is column v) is =
     at TestBack query_columns column tests_back is.0 (value_text v)
     ∙ ap (column_test column (value_text v)) (alone column v is.1 is.2)
     ∙ ap (option_map (Is column)) (value_back column v is.1)
+clause_back (IsNot column v) is =
+    at ExclusionBack query_columns column exclusions_back is.0 (value_text v)
+    ∙ ap (column_exclusion column (value_text v)) (alone column v is.1 is.2)
+    ∙ ap (option_map (IsNot column)) (value_back column v is.1)
 clause_back (FromTo column from to) is =
     at TestBack query_columns column tests_back is.0 (dotted (value_text from) (value_text to))
     ∙ ap (column_test column (dotted (value_text from) (value_text to))) (first column from (value_text to) is.1 is.3)

@@ -10,7 +10,7 @@ use Rattle.std.proofs.lemmas.Bool.Decides.{nat_tests}
 use Rattle.ssb_schema.specs.Columns.{query_columns}
 use Rattle.ssb_schema.specs.declared.column.Column.{Column}
 use Rattle.ssb_questions.proofs.ColumnLaws.{customer_tests, date_tests, part_tests, star_groups_read, supplier_tests}
-use Rattle.ssb_questions.specs.Clause.{Clause, Sums, GroupsBy, Is, FromTo, QuantityIn, DiscountIn, BySum}
+use Rattle.ssb_questions.specs.Clause.{Clause, Sums, GroupsBy, Is, IsNot, FromTo, QuantityIn, DiscountIn, BySum}
 use Rattle.ssb_questions.specs.Clauses.{clause_said, clauses_of, first_bad, may_stand, may_stand_at, subject}
 use Rattle.ssb_questions.specs.Clauses.{subject_of}
 use Rattle.ssb_questions.specs.Clauses.{subjects_of}
@@ -108,6 +108,7 @@ group_place i earlier None column may e = absurd cc
 group_place i earlier (Some (GroupsBy c)) column may e = behind i _ _ may
 group_place i earlier (Some (Sums m)) column may e = absurd cc
 group_place i earlier (Some (Is c v)) column may e = absurd cc
+group_place i earlier (Some (IsNot c v)) column may e = absurd cc
 group_place i earlier (Some (FromTo c from to)) column may e = absurd cc
 group_place i earlier (Some (QuantityIn range)) column may e = absurd cc
 group_place i earlier (Some (DiscountIn range)) column may e = absurd cc

@@ -1,5 +1,6 @@
 -- The plan of the constants that `star` takes means what their clauses say.
-use Rattle.std.proofs.Common.{◌≡◌, ◌∙◌, ℕ, Bool, true, false, ◌&&◌, ◌||◌, cond, nat_eq, nat_le, List, [], ◌∷◌}
+use Rattle.std.proofs.Common.{◌≡◌, ◌≢◌, ◌∙◌, ℕ, Bool, true, false, not, ◌&&◌, ◌||◌, cond, nat_eq, nat_le, List, []}
+use Rattle.std.proofs.Common.{◌∷◌, ◌++◌}
 use Rattle.std.proofs.Common.{length, map, Option, Some, None, refl, sym, ap, subst, arith, inl, inr}
 use Rattle.std.specs.Prelude.{IfSome, option_map, slice_get, filter, ◌↔◌}
 use Rattle.std.specs.List.{AllByRecursion, filter_map, cons_option, list_any}
@@ -9,19 +10,22 @@ use Rattle.std.proofs.lemmas.Bool.Decides.{nat_tests}
 use Rattle.std.proofs.lemmas.Slice.Eq.{bytes_eq-Decides}
 use Rattle.ssb_schema.specs.Columns.{column_name, query_columns}
 use Rattle.ssb_schema.specs.declared.column.Column.{Column}
-use Rattle.ssb_questions.proofs.ColumnLaws.{IsRead, at, clauses_read, read, same_is}
+use Rattle.ssb_questions.proofs.ColumnLaws.{IsRead, at, clauses_read, customers_read, dates_read}
+use Rattle.ssb_questions.proofs.ColumnLaws.{parts_read, same_is, suppliers_read}
 use Rattle.ssb_questions.proofs.OnceLaws.{Bars, IsOf, IsOfKind, Pairs, Speaks, alone, barred, clauses_of_kind}
 use Rattle.ssb_questions.proofs.OnceLaws.{discount_discount, none_of, one_range, quantity_quantity, range_one}
 use Rattle.ssb_questions.proofs.OnceLaws.{range_range}
-use Rattle.ssb_questions.proofs.SomeLaws.{all_any, some_map}
+use Rattle.ssb_questions.proofs.SomeLaws.{all_any, all_append, all_left, all_right, some_map}
 use Rattle.ssb_questions.proofs.StarLaws.{some_clause, stands}
-use Rattle.ssb_questions.specs.Clause.{Clause, Sums, GroupsBy, Is, FromTo, QuantityIn, DiscountIn, BySum, kind_in}
+use Rattle.ssb_questions.specs.Clause.{Clause, Sums, GroupsBy, Is, IsNot, FromTo, QuantityIn, DiscountIn, BySum}
+use Rattle.ssb_questions.specs.Clause.{kind_in}
 use Rattle.ssb_questions.specs.Clauses.{clause_said, clauses_of, may_stand_at, same_column, subject}
 use Rattle.ssb_questions.specs.Cond.{holds}
 use Rattle.ssb_questions.specs.Members.{Has}
 use Rattle.ssb_questions.specs.Question.{constants_fault}
 use Rattle.ssb_questions.specs.Star.{cond_by, cond_of, customer_columns, date_columns, discount_in, first_in, group_in}
-use Rattle.ssb_questions.specs.Star.{is_order, number_cond, number_in, numbers_in}
+use Rattle.ssb_questions.specs.Star.{exclusion_by, exclusion_of, exclusion_test, is_order, none_of_numbers}
+use Rattle.ssb_questions.specs.Star.{none_of_texts, number_cond, number_in, number_out, numbers_in, text_out}
 use Rattle.ssb_questions.specs.Star.{order_of, part_columns, quantity_in, star_plan_over, sum_in, supplier_columns}
 use Rattle.ssb_questions.specs.Star.{test_of, tests_of, text_cond, text_in, texts_in}
 use Rattle.ssb_questions.specs.StarMeaning.{ClausesPass, IsInRange, LiesIn, PlanPasses, StarPlanMeans}
@@ -239,6 +243,7 @@ module _ (column : Column) (has : Has query_columns column) where
   text_is (Is own (Number n)) x is e = absurd cc
   text_is (Sums m) x is e = absurd cc
   text_is (GroupsBy c) x is e = absurd cc
+  text_is (IsNot c v) x is e = absurd cc
   text_is (FromTo c from to) x is e = absurd cc
   text_is (QuantityIn range) x is e = absurd cc
   text_is (DiscountIn range) x is e = absurd cc
@@ -252,6 +257,7 @@ module _ (column : Column) (has : Has query_columns column) where
   number_is (Is own (Text text)) x is e = absurd cc
   number_is (Sums m) x is e = absurd cc
   number_is (GroupsBy c) x is e = absurd cc
+  number_is (IsNot c v) x is e = absurd cc
   number_is (FromTo c from to) x is e = absurd cc
   number_is (QuantityIn range) x is e = absurd cc
   number_is (DiscountIn range) x is e = absurd cc
@@ -267,6 +273,7 @@ module _ (column : Column) (has : Has query_columns column) where
   texts_are (FromTo own (Text from) (Number to)) e is at_e = absurd cc
   texts_are (FromTo own (Number from) to) e is at_e = absurd cc
   texts_are (Is own v) e is at_e = absurd cc
+  texts_are (IsNot own v) e is at_e = absurd cc
   texts_are (Sums m) e is at_e = absurd cc
   texts_are (GroupsBy c) e is at_e = absurd cc
   texts_are (QuantityIn range) e is at_e = absurd cc
@@ -283,6 +290,7 @@ module _ (column : Column) (has : Has query_columns column) where
   numbers_are (FromTo own (Number from) (Text to)) e is at_e = absurd cc
   numbers_are (FromTo own (Text from) to) e is at_e = absurd cc
   numbers_are (Is own v) e is at_e = absurd cc
+  numbers_are (IsNot own v) e is at_e = absurd cc
   numbers_are (Sums m) e is at_e = absurd cc
   numbers_are (GroupsBy c) e is at_e = absurd cc
   numbers_are (QuantityIn range) e is at_e = absurd cc
@@ -291,6 +299,7 @@ module _ (column : Column) (has : Has query_columns column) where
 
   texts_apart : (c : Clause) (e : List ℕ × List ℕ) → texts_in column c ≡ Some e → text_in column c ≡ None
   texts_apart (Is own v) e at_e = absurd cc
+  texts_apart (IsNot own v) e at_e = refl
   texts_apart (FromTo own from to) e at_e = refl
   texts_apart (Sums m) e at_e = refl
   texts_apart (GroupsBy c) e at_e = refl
@@ -300,6 +309,7 @@ module _ (column : Column) (has : Has query_columns column) where
 
   numbers_apart : (c : Clause) (e : ℕ × ℕ) → numbers_in column c ≡ Some e → number_in column c ≡ None
   numbers_apart (Is own v) e at_e = absurd cc
+  numbers_apart (IsNot own v) e at_e = refl
   numbers_apart (FromTo own from to) e at_e = refl
   numbers_apart (Sums m) e at_e = refl
   numbers_apart (GroupsBy c) e at_e = refl
@@ -398,6 +408,67 @@ module _ (column : Column) (has : Has query_columns column) where
     among = numbers_among;
   }
 
+-- a column has none of the values that are excluded
+no_both : (b : Bool) → not b ≡ true → b ≡ true → ⊥
+no_both true e f = absurd cc
+no_both false e f = absurd cc
+
+not_so : (b : Bool) → (b ≡ true → ⊥) → not b ≡ true
+not_so true h = absurd (h refl)
+not_so false h = refl
+
+none_of_texts_means : (xs : List (List ℕ)) (v : Value)
+    → IfSome (none_of_texts xs) (Holds v) ↔ ((x : List ℕ) → Has xs x → v ≢ Text x)
+none_of_texts_means [] v = (λ h x has e. has, λ h. tt)
+none_of_texts_means (x ∷ xs) (Text v) = (
+  λ h y has e. let same : v ≡ y = cc in
+      no_both (list_any (λ t. text_eq t v) (x ∷ xs)) h
+      (has_any text_eq text_itself v (x ∷ xs) (subst (λ (t : List ℕ). Has (x ∷ xs) t) (sym same) has)),
+  λ h. not_so (list_any (λ t. text_eq t v) (x ∷ xs)) (λ found. h v (any_has text_eq text_tells v (x ∷ xs) found) refl),
+)
+none_of_texts_means (x ∷ xs) (Number n) = (λ h y has e. absurd cc, λ h. refl)
+
+none_of_numbers_means : (xs : List ℕ) (v : Value)
+    → IfSome (none_of_numbers xs) (Holds v) ↔ ((x : ℕ) → Has xs x → v ≢ Number x)
+none_of_numbers_means [] v = (λ h x has e. has, λ h. tt)
+none_of_numbers_means (x ∷ xs) (Number v) = (
+  λ h y has e. let same : v ≡ y = cc in
+      no_both (list_any (λ t. nat_eq t v) (x ∷ xs)) h
+      (has_any nat_eq nat_itself v (x ∷ xs) (subst (λ (t : ℕ). Has (x ∷ xs) t) (sym same) has)),
+  λ h. not_so (list_any (λ t. nat_eq t v) (x ∷ xs)) (λ found. h v (any_has nat_eq nat_tells v (x ∷ xs) found) refl),
+)
+none_of_numbers_means (x ∷ xs) (Text text) = (λ h y has e. absurd cc, λ h. refl)
+
+text_out_is : (column : Column) → Has query_columns column → (c : Clause) (x : List ℕ) → IsRead c
+    → text_out column c ≡ Some x → c ≡ IsNot column (Text x)
+text_out_is column has (IsNot own (Text text)) x is e =
+    let found = if_some (same_column own column) text x e in
+    let named : own ≡ column = same_is own column is has found.0 in
+    let same : text ≡ x = found.1 in cc
+text_out_is column has (IsNot own (Number n)) x is e = absurd cc
+text_out_is column has (Sums m) x is e = absurd cc
+text_out_is column has (GroupsBy c) x is e = absurd cc
+text_out_is column has (Is c v) x is e = absurd cc
+text_out_is column has (FromTo c from to) x is e = absurd cc
+text_out_is column has (QuantityIn range) x is e = absurd cc
+text_out_is column has (DiscountIn range) x is e = absurd cc
+text_out_is column has BySum x is e = absurd cc
+
+number_out_is : (column : Column) → Has query_columns column → (c : Clause) (x : ℕ) → IsRead c
+    → number_out column c ≡ Some x → c ≡ IsNot column (Number x)
+number_out_is column has (IsNot own (Number n)) x is e =
+    let found = if_some (same_column own column) n x e in
+    let named : own ≡ column = same_is own column is has found.0 in
+    let same : n ≡ x = found.1 in cc
+number_out_is column has (IsNot own (Text text)) x is e = absurd cc
+number_out_is column has (Sums m) x is e = absurd cc
+number_out_is column has (GroupsBy c) x is e = absurd cc
+number_out_is column has (Is c v) x is e = absurd cc
+number_out_is column has (FromTo c from to) x is e = absurd cc
+number_out_is column has (QuantityIn range) x is e = absurd cc
+number_out_is column has (DiscountIn range) x is e = absurd cc
+number_out_is column has BySum x is e = absurd cc
+
 is_text : (c : Column) (v : Value) → IsOf (kind.Text c) v → (x : List ℕ) × (v ≡ Text x)
 is_text c (Text x) of = (x, refl)
 is_text c (Number n) of = absurd of
@@ -427,6 +498,43 @@ module _ (constants : List Value) (fit : constants_fault Star constants ≡ None
       ((first.0, last.0), first.1, last.1))
       v
 
+  -- what clauses exclude of a column
+  abbrev Excludes : (Column → Value) → Column → Type 0
+  Excludes value column = (w : Value) → Has (clauses_of constants) (IsNot column w) → value column ≢ w
+
+  out_means : (X : Type 0) (column : Column) (wrap : X → Value) (out : Clause → Option X)
+      → ((x : X) → out (IsNot column (wrap x)) ≡ Some x)
+      → ((c : Clause) (x : X) → IsRead c → out c ≡ Some x → c ≡ IsNot column (wrap x))
+      → ((w : Value) → Has (clauses_of constants) (IsNot column w) → (x : X) × (w ≡ wrap x)) → (v : Value)
+      → ((x : X) → Has (filter_map out (clauses_of constants)) x → v ≢ wrap x)
+      ↔ ((w : Value) → Has (clauses_of constants) (IsNot column w) → v ≢ w)
+  out_means X column wrap out is_out out_is wrapped v = (
+    λ h w has e. let x = wrapped w has in
+        h x.0 (in_kept out (clauses_of constants) (IsNot column (wrap x.0)) x.0
+        (subst (λ (u : Value). Has (clauses_of constants) (IsNot column u)) x.1 has) (is_out x.0)) (e ∙ x.1),
+    λ h x has e. let found = kept_in out (clauses_of constants) x has in
+        h (wrap x) (subst (λ (c : Clause). Has (clauses_of constants) c)
+        (out_is found.0 x (is_read constants fit found.0 found.1) found.2) found.1) e,
+  )
+
+  exclusion_means : (column : Column) → Has query_columns column → (k : ConstantKind) → kind_in column ≡ k → (v : Value)
+      → IfSome (exclusion_by k column (clauses_of constants)) (Holds v)
+      ↔ ((w : Value) → Has (clauses_of constants) (IsNot column w) → v ≢ w)
+  exclusion_means column has (kind.Text own) e v =
+      let some = none_of_texts_means (filter_map (text_out column) (clauses_of constants)) v in
+      let said = out_means (List ℕ) column Text (text_out column)
+      (λ x. where_true (same_column column column) x (itself column)) (text_out_is column has)
+      (λ w at_w. is_text own w (subst (λ (k : ConstantKind). IsOf k w) e (of_kind constants fit (IsNot column w) at_w)))
+      v in
+      (λ h. said.0 (some.0 h), λ h. some.1 (said.1 h))
+  exclusion_means column has kind.Number e v =
+      let some = none_of_numbers_means (filter_map (number_out column) (clauses_of constants)) v in
+      let said = out_means ℕ column Number (number_out column)
+      (λ x. where_true (same_column column column) x (itself column)) (number_out_is column has)
+      (λ w at_w. is_number w (subst (λ (k : ConstantKind). IsOf k w) e (of_kind constants fit (IsNot column w) at_w)))
+      v in
+      (λ h. said.0 (some.0 h), λ h. some.1 (said.1 h))
+
   -- the tests of columns, one after another
   abbrev Passes : (Column → Value) → Column → Type 0
   Passes value column = ColumnPasses (clauses_of constants) column (value column)
@@ -442,32 +550,67 @@ module _ (constants : List Value) (fit : constants_fault Star constants ≡ None
   no_longer P None xs all = (tt, all)
   no_longer P (Some x) xs all = all
 
+  kept_one : {X : Type 0} (P : X → Type 0) (o : Option X) (xs : List X) → IfSome o P → AllByRecursion P xs
+      → AllByRecursion P (cons_option o xs)
+  kept_one P None xs some all = all
+  kept_one P (Some x) xs some all = (some, all)
+
+  abbrev HoldsOf : (Column → Value) → Test → Type 0
+  HoldsOf value test = holds test.cond (value test.column) ≡ true
+
+  test_with : (Column → Option Cond) → Column → Option Test
+  test_with asks column = option_map (λ cond. record { column = column; cond = cond }) (asks column)
+
+  hold_forth : (asks : Column → Option Cond) (value : Column → Value) (Means : Column → Type 0)
+      → ((column : Column) → Has query_columns column → IfSome (asks column) (Holds (value column)) → Means column)
+      → (columns : List Column) → AllByRecursion (Has query_columns) columns
+      → TestsHold (filter_map (test_with asks) columns) value → AllByRecursion Means columns
+  unfolding test_with
+  hold_forth asks value Means h [] has hold = tt
+  hold_forth asks value Means h (column ∷ columns) has hold =
+      let parts = no_longer (HoldsOf value) (test_with asks column) (filter_map (test_with asks) columns) hold in
+      (h column has.0 (tested column value (asks column) parts.0), hold_forth asks value Means h columns has.1 parts.1)
+
+  hold_back : (asks : Column → Option Cond) (value : Column → Value) (Means : Column → Type 0)
+      → ((column : Column) → Has query_columns column → Means column → IfSome (asks column) (Holds (value column)))
+      → (columns : List Column) → AllByRecursion (Has query_columns) columns → AllByRecursion Means columns
+      → TestsHold (filter_map (test_with asks) columns) value
+  unfolding test_with
+  hold_back asks value Means h [] has pass = tt
+  hold_back asks value Means h (column ∷ columns) has pass =
+      kept_one (HoldsOf value) (test_with asks column) (filter_map (test_with asks) columns)
+      (some_map (HoldsOf value) (λ cond. record { column = column; cond = cond }) (asks column)
+      (h column has.0 pass.0))
+      (hold_back asks value Means h columns has.1 pass.1)
+
   columns_pass : (value : Column → Value) (columns : List Column) → AllByRecursion (Has query_columns) columns
-      → TestsHold (tests_of (clauses_of constants) columns) value → AllByRecursion (Passes value) columns
-  columns_pass value [] has hold = tt
-  columns_pass value (column ∷ columns) has hold =
-      let parts = no_longer (λ (test : Test). holds test.cond (value test.column) ≡ true)
-      (test_of (clauses_of constants) column) (tests_of (clauses_of constants) columns) hold in (
-        (kind_means column has.0 (kind_in column) refl (value column)).0
-            (tested column value (cond_of (clauses_of constants) column) parts.0),
-        columns_pass value columns has.1 parts.1,
+      → TestsHold (tests_of (clauses_of constants) columns) value
+      → AllByRecursion (Passes value) columns × AllByRecursion (Excludes value) columns
+  unfolding test_with
+  columns_pass value columns has hold =
+      let asked = filter_map (test_of (clauses_of constants)) columns in
+      let excluded = filter_map (exclusion_test (clauses_of constants)) columns in (
+        hold_forth (cond_of (clauses_of constants)) value (Passes value)
+            (λ column own. (kind_means column own (kind_in column) refl (value column)).0) columns has
+            (all_left (HoldsOf value) asked excluded hold),
+        hold_forth (exclusion_of (clauses_of constants)) value (Excludes value)
+            (λ column own. (exclusion_means column own (kind_in column) refl (value column)).0) columns has
+            (all_right (HoldsOf value) asked excluded hold),
       )
 
   tests_hold : (value : Column → Value) (columns : List Column) → AllByRecursion (Has query_columns) columns
-      → AllByRecursion (Passes value) columns → TestsHold (tests_of (clauses_of constants) columns) value
-  tests_hold value [] has pass = tt
-  tests_hold value (column ∷ columns) has pass =
-      kept_one (test_of (clauses_of constants) column) (tests_of (clauses_of constants) columns)
-      (some_map (λ (test : Test). holds test.cond (value test.column) ≡ true)
-      (λ cond. record { column = column; cond = cond }) (cond_of (clauses_of constants) column)
-      ((kind_means column has.0 (kind_in column) refl (value column)).1 pass.0))
-      (tests_hold value columns has.1 pass.1)
-    where
-      kept_one : (o : Option Test) (tests : List Test)
-          → IfSome o (λ (test : Test). holds test.cond (value test.column) ≡ true) → TestsHold tests value
-          → TestsHold (cons_option o tests) value
-      kept_one None tests some all = all
-      kept_one (Some test) tests some all = (some, all)
+      → ((column : Column) → Passes value column) → ((column : Column) → Excludes value column)
+      → TestsHold (tests_of (clauses_of constants) columns) value
+  unfolding test_with
+  tests_hold value columns has pass exclude =
+      all_append (HoldsOf value) (filter_map (test_of (clauses_of constants)) columns)
+      (filter_map (exclusion_test (clauses_of constants)) columns)
+      (hold_back (cond_of (clauses_of constants)) value (Passes value)
+      (λ column own. (kind_means column own (kind_in column) refl (value column)).1) columns has
+      (all_any (Passes value) pass columns))
+      (hold_back (exclusion_of (clauses_of constants)) value (Excludes value)
+      (λ column own. (exclusion_means column own (kind_in column) refl (value column)).1) columns has
+      (all_any (Excludes value) exclude columns))
 
   -- a range of the line itself
   ranged : (finds : Clause → Option NumberRange) (says : NumberRange → Clause)
@@ -496,6 +639,7 @@ module _ (constants : List Value) (fit : constants_fault Star constants ≡ None
   quantity_is (Sums m) range e = absurd cc
   quantity_is (GroupsBy c) range e = absurd cc
   quantity_is (Is c v) range e = absurd cc
+  quantity_is (IsNot c v) range e = absurd cc
   quantity_is (FromTo c from to) range e = absurd cc
   quantity_is BySum range e = absurd cc
 
@@ -505,6 +649,7 @@ module _ (constants : List Value) (fit : constants_fault Star constants ≡ None
   discount_is (Sums m) range e = absurd cc
   discount_is (GroupsBy c) range e = absurd cc
   discount_is (Is c v) range e = absurd cc
+  discount_is (IsNot c v) range e = absurd cc
   discount_is (FromTo c from to) range e = absurd cc
   discount_is BySum range e = absurd cc
 
@@ -522,57 +667,50 @@ module _ (constants : List Value) (fit : constants_fault Star constants ≡ None
       ranged discount_in DiscountIn discount_is (λ range. refl)
       (barred discount_in discount_in Discount Discount speaks speaks discount_discount constants fit) n
 
+  -- of the columns of each dimension, hence of all
+  all_four : (P : Column → Type 0) → AllByRecursion P customer_columns → AllByRecursion P supplier_columns
+      → AllByRecursion P part_columns → AllByRecursion P date_columns → AllByRecursion P query_columns
+  all_four P customers suppliers parts dates =
+      all_append P customer_columns (supplier_columns ++ (part_columns ++ date_columns)) customers
+      (all_append P supplier_columns (part_columns ++ date_columns) suppliers
+      (all_append P part_columns date_columns parts dates))
+
   passes_means : (line : Tested) → PlanPasses (star_plan_over constants) line ↔ ClausesPass (clauses_of constants) line
-  passes_means line =
-      let suppliers = read.1.1.1 in
-      let parts = suppliers.1.1.1 in
-      let dates = parts.1.1.1 in
-      let customer_read : AllByRecursion (Has query_columns) customer_columns =
-      (read.0, (read.1.0, (read.1.1.0, tt))) in
-      let supplier_read : AllByRecursion (Has query_columns) supplier_columns =
-      (suppliers.0, (suppliers.1.0, (suppliers.1.1.0, tt))) in
-      let part_read : AllByRecursion (Has query_columns) part_columns =
-      (parts.0, (parts.1.0, (parts.1.1.0, tt))) in
-      let date_read : AllByRecursion (Has query_columns) date_columns =
-      (dates.0, (dates.1.0, (dates.1.1.0, (dates.1.1.1.0, tt)))) in (
-        λ pass.
-            let c = columns_pass line.value customer_columns customer_read pass.customers in
-            let s = columns_pass line.value supplier_columns supplier_read pass.suppliers in
-            let p = columns_pass line.value part_columns part_read pass.parts in
-            let d = columns_pass line.value date_columns date_read pass.dates in
-            let all : AllByRecursion (Passes line.value) query_columns = (
-              c.0,
-              (
-                c.1.0,
-                (
-                  c.1.1.0,
-                  (s.0, (s.1.0, (s.1.1.0, (p.0, (p.1.0, (p.1.1.0, (d.0, (d.1.0, (d.1.1.0, (d.1.1.1.0, tt)))))))))),
-                ),
-              ),
-            ) in
-            record {
-              values = λ column v has.
-                  (at (Passes line.value) query_columns column all (is_read constants fit (Is column v) has)).values v has;
-              ranges = λ column from to has.
-                  (at (Passes line.value) query_columns column all
-                  (is_read constants fit (FromTo column from to) has)).ranges from to has;
-              quantity = (quantity_means line.quantity).0 pass.quantity;
-              discount = (discount_means line.discount).0 pass.discount;
-            },
-        λ pass.
-            let one = λ (column : Column). let is : Passes line.value column = record {
-              values = λ w has. pass.values column w has;
-              ranges = λ from to has. pass.ranges column from to has;
-            } in is in
-            record {
-              customers = tests_hold line.value customer_columns customer_read (all_any (Passes line.value) one customer_columns);
-              suppliers = tests_hold line.value supplier_columns supplier_read (all_any (Passes line.value) one supplier_columns);
-              parts = tests_hold line.value part_columns part_read (all_any (Passes line.value) one part_columns);
-              dates = tests_hold line.value date_columns date_read (all_any (Passes line.value) one date_columns);
-              quantity = (quantity_means line.quantity).1 pass.quantity;
-              discount = (discount_means line.discount).1 pass.discount;
-            },
-      )
+  passes_means line = (
+    λ pass.
+        let c = columns_pass line.value customer_columns customers_read pass.customers in
+        let s = columns_pass line.value supplier_columns suppliers_read pass.suppliers in
+        let p = columns_pass line.value part_columns parts_read pass.parts in
+        let d = columns_pass line.value date_columns dates_read pass.dates in
+        let all = all_four (Passes line.value) c.0 s.0 p.0 d.0 in
+        let none = all_four (Excludes line.value) c.1 s.1 p.1 d.1 in
+        record {
+          values = λ column v has.
+              (at (Passes line.value) query_columns column all (is_read constants fit (Is column v) has)).values v has;
+          ranges = λ column from to has.
+              (at (Passes line.value) query_columns column all
+              (is_read constants fit (FromTo column from to) has)).ranges from to has;
+          exclusions = λ column v has.
+              at (Excludes line.value) query_columns column none (is_read constants fit (IsNot column v) has) v has;
+          quantity = (quantity_means line.quantity).0 pass.quantity;
+          discount = (discount_means line.discount).0 pass.discount;
+        },
+    λ pass.
+        let one = λ (column : Column). let is : Passes line.value column = record {
+          values = λ w has. pass.values column w has;
+          ranges = λ from to has. pass.ranges column from to has;
+        } in is in
+        let none = λ (column : Column). let is : Excludes line.value column =
+        λ w has. pass.exclusions column w has in is in
+        record {
+          customers = tests_hold line.value customer_columns customers_read one none;
+          suppliers = tests_hold line.value supplier_columns suppliers_read one none;
+          parts = tests_hold line.value part_columns parts_read one none;
+          dates = tests_hold line.value date_columns dates_read one none;
+          quantity = (quantity_means line.quantity).1 pass.quantity;
+          discount = (discount_means line.discount).1 pass.discount;
+        },
+  )
 
 -- the measure stands first
 sums_first : (earlier : List Subject) (o : Option Clause) (clauses : List Clause)
@@ -583,6 +721,7 @@ sums_first earlier None clauses may = absurd cc
 sums_first earlier (Some (Sums m)) clauses may = refl
 sums_first earlier (Some (GroupsBy c)) clauses may = absurd cc
 sums_first earlier (Some (Is c v)) clauses may = absurd cc
+sums_first earlier (Some (IsNot c v)) clauses may = absurd cc
 sums_first earlier (Some (FromTo c from to)) clauses may = absurd cc
 sums_first earlier (Some (QuantityIn range)) clauses may = absurd cc
 sums_first earlier (Some (DiscountIn range)) clauses may = absurd cc
@@ -599,6 +738,7 @@ groups_mean [] = refl
 groups_mean (GroupsBy column ∷ clauses) = ap (λ (cs : List Clause). GroupsBy column ∷ cs) (groups_mean clauses)
 groups_mean (Sums m ∷ clauses) = groups_mean clauses
 groups_mean (Is c v ∷ clauses) = groups_mean clauses
+groups_mean (IsNot c v ∷ clauses) = groups_mean clauses
 groups_mean (FromTo c from to ∷ clauses) = groups_mean clauses
 groups_mean (QuantityIn range ∷ clauses) = groups_mean clauses
 groups_mean (DiscountIn range ∷ clauses) = groups_mean clauses
@@ -615,6 +755,7 @@ order_has (BySum ∷ clauses) e = inl refl
 order_has (Sums m ∷ clauses) e = inr (order_has clauses e)
 order_has (GroupsBy c ∷ clauses) e = inr (order_has clauses e)
 order_has (Is c v ∷ clauses) e = inr (order_has clauses e)
+order_has (IsNot c v ∷ clauses) e = inr (order_has clauses e)
 order_has (FromTo c from to ∷ clauses) e = inr (order_has clauses e)
 order_has (QuantityIn range ∷ clauses) e = inr (order_has clauses e)
 order_has (DiscountIn range ∷ clauses) e = inr (order_has clauses e)

@@ -1,5 +1,6 @@
 -- What one constant of a star question says.
-use Rattle.std.specs.Prelude.{ℕ, ◌^◌, List, [], ◌∷◌, length, drop, codes, find, nat_eq, nat_lt, Option, None, Some}
+use Rattle.std.specs.Prelude.{ℕ, ◌^◌, List, [], ◌∷◌, length, drop, codes, find, nat_eq, nat_le, nat_lt, Option, None}
+use Rattle.std.specs.Prelude.{Some}
 use Rattle.std.specs.Prelude.{option_map, option_and_then, if◌then◌else◌}
 use Rattle.std.specs.List.{starts_with}
 use Rattle.std.specs.Option.{option_or}
@@ -18,12 +19,13 @@ use Rattle.ssb_questions.specs.declared.plan.NumberRange.{NumberRange}
 use Rattle.ssb_questions.specs.declared.value.Value.{Value}
 use Rattle.ssb_questions.specs.declared.value.Value.TheVariants as value
 
--- a measure is summed; a column is a group column; a column has a value; it lies between two values, both included;
--- the quantity, or the discount, of the line lies in a range; rows stand from the greatest sum down
+-- a measure is summed; a column is a group column; a column has a value; it has not; it lies between two values, both
+-- included; the quantity, or the discount, of the line lies in a range; rows stand from the greatest sum down
 pub data Clause : Type 0 where
   Sums : Measure → Clause
   GroupsBy : Column → Clause
   Is : Column → Value → Clause
+  IsNot : Column → Value → Clause
   FromTo : Column → Value → Value → Clause
   QuantityIn : NumberRange → Clause
   DiscountIn : NumberRange → Clause
@@ -42,10 +44,14 @@ measure_name measure.Revenue = codes "LO_REVENUE"
 measure_name measure.Profit = codes "LO_REVENUE-LO_SUPPLYCOST"
 measure_name measure.PriceTimesDiscount = codes "LO_EXTENDEDPRICE*LO_DISCOUNT"
 measure_name measure.Quantity = codes "LO_QUANTITY"
+measure_name measure.ExtendedPrice = codes "LO_EXTENDEDPRICE"
+measure_name measure.SupplyCost = codes "LO_SUPPLYCOST"
 measure_name measure.Lines = codes "COUNT"
 
 abbrev pub measures : List Measure
-measures = measure.Revenue ∷ measure.Profit ∷ measure.PriceTimesDiscount ∷ measure.Quantity ∷ measure.Lines ∷ []
+measures =
+    measure.Revenue ∷ measure.Profit ∷ measure.PriceTimesDiscount ∷ measure.Quantity ∷ measure.ExtendedPrice
+    ∷ measure.SupplyCost ∷ measure.Lines ∷ []
 
 abbrev pub measure_named : List ℕ → Option Measure
 measure_named word = find (λ m. text_eq (measure_name m) word) measures
@@ -58,6 +64,19 @@ column_named word = find (λ column. text_eq (column_name column) word) query_co
 abbrev pub number_spelled : List ℕ → Option ℕ
 number_spelled bytes = option_and_then (λ n. if nat_lt n (2 ^ 32) then Some n else None) (number_of bytes)
 
+-- the number up to a greatest one that bytes spell
+abbrev pub number_up_to : ℕ → List ℕ → Option ℕ
+number_up_to most bytes = option_and_then (λ n. if nat_le n most then Some n else None) (number_of bytes)
+
+-- the greatest number that a column takes; 0 where it takes texts
+abbrev pub most_where : Option Kind → ℕ
+most_where (Some (takes.Number least most)) = most
+most_where (Some takes.Text) = 0
+most_where None = 0
+
+abbrev pub most_in : Column → ℕ
+most_in column = most_where (column_kind column)
+
 -- what may be looked for in a column: numbers where it takes numbers, else texts that it could hold
 abbrev pub kind_where : Column → Option Kind → ConstantKind
 kind_where column (Some (takes.Number least most)) = kind.Number
@@ -67,15 +86,15 @@ kind_where column None = kind.Text column
 abbrev pub kind_in : Column → ConstantKind
 kind_in column = kind_where column (column_kind column)
 
--- the constant of a kind that bytes spell
-abbrev pub spelled_as : ConstantKind → List ℕ → Option Value
-spelled_as (kind.Text column) bytes =
+-- the value that bytes spell: a text that a column could hold, or a number up to a greatest one
+abbrev pub spelled_as : ConstantKind → ℕ → List ℕ → Option Value
+spelled_as (kind.Text column) most bytes =
     if fits (kind.Text column) (value.Text bytes) then Some (value.Text bytes) else None
-spelled_as kind.Number bytes = option_map value.Number (number_spelled bytes)
+spelled_as kind.Number most bytes = option_map value.Number (number_up_to most bytes)
 
--- the value of a column that bytes spell
+-- the value of a column that bytes spell, if the column could hold it
 abbrev pub value_for : Column → List ℕ → Option Value
-value_for column bytes = spelled_as (kind_in column) bytes
+value_for column bytes = spelled_as (kind_in column) (most_in column) bytes
 
 -- the numbers from one to another, or one number alone
 abbrev pub range_of : List ℕ → Option (List ℕ × List ℕ) → Option NumberRange
@@ -93,12 +112,31 @@ column_test column bytes None = option_map (Is column) (value_for column bytes)
 column_test column bytes (Some ends) =
     option_and_then (λ from. option_map (FromTo column from) (value_for column ends.1)) (value_for column ends.0)
 
+abbrev pub column_clause : List ℕ → List ℕ → Option Clause
+column_clause name bytes =
+    option_and_then (λ column. column_test column bytes (parted (codes "..") bytes)) (column_named name)
+
 -- NAME=VALUE
 abbrev pub test_clause : List ℕ → List ℕ → Option Clause
 test_clause name bytes =
     if text_eq name (codes "LO_QUANTITY") then option_map QuantityIn (range_spelled bytes)
     else if text_eq name (codes "LO_DISCOUNT") then option_map DiscountIn (range_spelled bytes)
-    else option_and_then (λ column. column_test column bytes (parted (codes "..") bytes)) (column_named name)
+    else column_clause name bytes
+
+-- what a column is not: a value, and no range
+abbrev pub column_exclusion : Column → List ℕ → Option (List ℕ × List ℕ) → Option Clause
+column_exclusion column bytes None = option_map (IsNot column) (value_for column bytes)
+column_exclusion column bytes (Some ends) = None
+
+abbrev pub exclusion_clause : List ℕ → List ℕ → Option Clause
+exclusion_clause name bytes =
+    option_and_then (λ column. column_exclusion column bytes (parted (codes "..") bytes)) (column_named name)
+
+-- what stands before `=` is a name, or a name with `!` behind it
+abbrev pub named_clause : List ℕ → List ℕ → Option (List ℕ × List ℕ) → Option Clause
+named_clause name bytes None = test_clause name bytes
+named_clause name bytes (Some (own, [])) = exclusion_clause own bytes
+named_clause name bytes (Some (own, b ∷ rest)) = None
 
 -- NAME
 abbrev pub word_clause : List ℕ → Option Clause
@@ -106,7 +144,7 @@ word_clause word = option_or (option_map Sums (measure_named word)) (option_map 
 
 abbrev pub clause_parted : List ℕ → Option (List ℕ × List ℕ) → Option Clause
 clause_parted bytes None = word_clause bytes
-clause_parted bytes (Some parts) = test_clause parts.0 parts.1
+clause_parted bytes (Some parts) = named_clause parts.0 parts.1 (parted (codes "!") parts.0)
 
 -- what a constant of these bytes says
 abbrev pub clause_of : List ℕ → Option Clause

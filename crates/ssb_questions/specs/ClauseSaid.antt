@@ -3,8 +3,8 @@ use Rattle.std.specs.Prelude.{ℕ, List}
 use Rattle.std.specs.Borrow.{Bor}
 use Rattle.ssb_questions.specs.Clause as spec
 use Rattle.ssb_questions.specs.declared.clause.Clause.{Clause}
-use Rattle.ssb_questions.specs.declared.clause.Clause.TheVariants.{Sums, GroupsBy, Is, FromTo, QuantityIn, DiscountIn}
-use Rattle.ssb_questions.specs.declared.clause.Clause.TheVariants.{BySum}
+use Rattle.ssb_questions.specs.declared.clause.Clause.TheVariants.{Sums, GroupsBy, Is, IsNot, FromTo, QuantityIn}
+use Rattle.ssb_questions.specs.declared.clause.Clause.TheVariants.{DiscountIn, BySum}
 use Rattle.ssb_questions.specs.declared.clause.Spelled.{Spelled}
 use Rattle.ssb_questions.specs.declared.clause.Spelled.TheVariants.{Text, Number}
 use Rattle.ssb_questions.specs.declared.value.Value.{Value}
@@ -22,6 +22,7 @@ abbrev pub said : Clause → spec.Clause
 said (Sums measure) = spec.Sums measure
 said (GroupsBy column) = spec.GroupsBy column
 said (Is column v) = spec.Is column (value_said v)
+said (IsNot column v) = spec.IsNot column (value_said v)
 said (FromTo column from to) = spec.FromTo column (value_said from) (value_said to)
 said (QuantityIn range) = spec.QuantityIn range
 said (DiscountIn range) = spec.DiscountIn range

@@ -4,11 +4,12 @@ use Rattle.std.specs.Prelude.{Option, None, Some, option_map, option_and_then, s
 use Rattle.std.specs.List.{filter_map, list_all, count_by, range_with_len}
 use Rattle.ssb_schema.specs.Columns.{column_name}
 use Rattle.ssb_schema.specs.declared.column.Column.{Column}
-use Rattle.ssb_questions.specs.Clause.{Clause, Sums, GroupsBy, Is, FromTo, QuantityIn, DiscountIn, BySum, clause_of}
+use Rattle.ssb_questions.specs.Clause.{Clause, Sums, GroupsBy, Is, IsNot, FromTo, QuantityIn, DiscountIn, BySum}
+use Rattle.ssb_questions.specs.Clause.{clause_of}
 use Rattle.ssb_questions.specs.Text.{text_eq}
 use Rattle.ssb_questions.specs.declared.clauses.Subject.{Subject}
-use Rattle.ssb_questions.specs.declared.clauses.Subject.TheVariants.{Measure, Group, OneValue, Range, Quantity}
-use Rattle.ssb_questions.specs.declared.clauses.Subject.TheVariants.{Discount, Order}
+use Rattle.ssb_questions.specs.declared.clauses.Subject.TheVariants.{Measure, Group, OneValue, Exclusion, Range}
+use Rattle.ssb_questions.specs.declared.clauses.Subject.TheVariants.{Quantity, Discount, Order}
 use Rattle.ssb_questions.specs.declared.value.Value.{Value}
 use Rattle.ssb_questions.specs.declared.value.Value.TheVariants as value
 
@@ -26,6 +27,7 @@ abbrev pub subject : Clause → Subject
 subject (Sums measure) = Measure
 subject (GroupsBy column) = Group column
 subject (Is column v) = OneValue column
+subject (IsNot column v) = Exclusion column
 subject (FromTo column from to) = Range column
 subject (QuantityIn range) = Quantity
 subject (DiscountIn range) = Discount
@@ -44,6 +46,7 @@ abbrev pub same_subject : Subject → Subject → Bool
 same_subject Measure Measure = true
 same_subject (Group a) (Group b) = same_column a b
 same_subject (OneValue a) (OneValue b) = same_column a b
+same_subject (Exclusion a) (Exclusion b) = same_column a b
 same_subject (Range a) (Range b) = same_column a b
 same_subject Quantity Quantity = true
 same_subject Discount Discount = true
@@ -63,15 +66,20 @@ is_head Measure = true
 is_head (Group column) = true
 is_head _ = false
 
+-- whether one value more may be excluded of a column after these
+abbrev pub may_exclude : List Subject → Column → Bool
+may_exclude earlier column = is_absent Order earlier && nat_lt (count_of (Exclusion column) earlier) 16
+
 -- whether a clause may stand at a place behind the first, after these: a group column behind the measure and at most
--- three others, and not twice; a test of a column behind tests of other kinds, and at most 16 values of one column; a
--- test of quantity and one of discount; nothing behind the order
+-- three others, and not twice; a test of a column behind tests of other kinds, and at most 16 values of one column, and 16
+-- that it has not; a test of quantity and one of discount; nothing behind the order
 abbrev pub may_follow : ℕ → List Subject → Subject → Bool
 may_follow place earlier Measure = false
 may_follow place earlier (Group column) =
     nat_le place 4 && list_all is_head earlier && is_absent (Group column) earlier
 may_follow place earlier (OneValue column) =
     is_absent Order earlier && is_absent (Range column) earlier && nat_lt (count_of (OneValue column) earlier) 16
+may_follow place earlier (Exclusion column) = may_exclude earlier column
 may_follow place earlier (Range column) =
     is_absent Order earlier && is_absent (Range column) earlier && is_absent (OneValue column) earlier
 may_follow place earlier Quantity = is_absent Order earlier && is_absent Quantity earlier

@@ -1,5 +1,5 @@
 -- What may stand in each place of a question's constants.
-use Rattle.std.specs.Prelude.{Bool, true, false, not, is_some, List, [], ◌∷◌, Option, Some, None}
+use Rattle.std.specs.Prelude.{◌^◌, Bool, false, not, is_some, nat_lt, List, [], ◌∷◌, Option, Some, None}
 use Rattle.ssb_schema.specs.Columns as columns
 use Rattle.ssb_schema.specs.Columns.{column_fault, C_CITY, C_NATION, C_REGION, S_CITY, S_NATION, S_REGION}
 use Rattle.ssb_schema.specs.Columns.{P_MFGR, P_CATEGORY, P_BRAND1, D_YEARMONTH}
@@ -13,10 +13,10 @@ use Rattle.ssb_questions.specs.declared.query.Query.TheVariants.{Q4_1, Q4_2, Q4_
 use Rattle.ssb_questions.specs.declared.value.Value.{Value}
 use Rattle.ssb_questions.specs.declared.value.Value.TheVariants as value
 
--- whether a constant may stand there: a number, or a text that the column could hold
+-- whether a constant may stand there: a number of 32 bits, or a text that the column could hold
 abbrev pub fits : ConstantKind → Value → Bool
 fits (Text column) (value.Text text) = not (is_some (column_fault column kind.Text (columns.Text text)))
-fits Number (value.Number number) = true
+fits Number (value.Number number) = nat_lt number (2 ^ 32)
 fits _ _ = false
 
 -- the kinds of each query's constants, in the order in which a question gives them; none of `star`, whose constants are

@@ -5,14 +5,14 @@ use Rattle.std.specs.Prelude.{slice_get}
 use Rattle.std.specs.List.{AllByRecursion}
 use Rattle.ssb_schema.specs.Columns.{column_name, is_plain, query_columns}
 use Rattle.ssb_schema.specs.declared.column.Column.{Column}
-use Rattle.ssb_questions.specs.Clause.{Clause, Sums, GroupsBy, Is, FromTo, QuantityIn, DiscountIn, BySum, kind_in}
-use Rattle.ssb_questions.specs.Clause.{measure_name}
-use Rattle.ssb_questions.specs.Clause.{parted}
+use Rattle.ssb_questions.specs.Clause.{Clause, Sums, GroupsBy, Is, IsNot, FromTo, QuantityIn, DiscountIn, BySum}
+use Rattle.ssb_questions.specs.Clause.{kind_in, measure_name, most_in, parted}
 use Rattle.ssb_questions.specs.Clauses.{may_stand_at, subject}
 use Rattle.ssb_questions.specs.Kind.{fits}
 use Rattle.ssb_questions.specs.Members.{Has}
 use Rattle.ssb_questions.specs.Question.{constants_fault}
 use Rattle.ssb_questions.specs.Star.{star_plan, star_plan_over}
+use Rattle.ssb_questions.specs.declared.kind.ConstantKind.TheVariants as kind
 use Rattle.ssb_questions.specs.declared.plan.NumberRange.{NumberRange}
 use Rattle.ssb_questions.specs.declared.query.Query.TheVariants.{Star}
 use Rattle.ssb_questions.specs.declared.value.Value.{Value}
@@ -37,6 +37,9 @@ dotted from to = from ++ (codes ".." ++ to)
 abbrev pub named : List ℕ → List ℕ → List ℕ
 named name bytes = name ++ (codes "=" ++ bytes)
 
+abbrev pub unlike : List ℕ → List ℕ → List ℕ
+unlike name bytes = name ++ (codes "!=" ++ bytes)
+
 abbrev pub range_text : NumberRange → List ℕ
 range_text range = dotted (decimal range.from) (decimal range.to)
 
@@ -44,6 +47,7 @@ abbrev pub clause_text : Clause → List ℕ
 clause_text (Sums m) = measure_name m
 clause_text (GroupsBy column) = column_name column
 clause_text (Is column v) = named (column_name column) (value_text v)
+clause_text (IsNot column v) = unlike (column_name column) (value_text v)
 clause_text (FromTo column from to) = named (column_name column) (dotted (value_text from) (value_text to))
 clause_text (QuantityIn range) = named (codes "LO_QUANTITY") (range_text range)
 clause_text (DiscountIn range) = named (codes "LO_DISCOUNT") (range_text range)
@@ -52,7 +56,7 @@ clause_text BySum = codes "ORDER=SUM"
 -- a value that the column could hold
 abbrev pub IsValueOf : Column → Value → Type 0
 IsValueOf column (Text bytes) = fits (kind_in column) (Text bytes) ≡ true
-IsValueOf column (Number n) = (fits (kind_in column) (Number n) ≡ true) × (n < 2 ^ 32)
+IsValueOf column (Number n) = (kind_in column ≡ kind.Number) × (n ≤ most_in column) × (n < 2 ^ 64)
 
 -- a text in which `..` stands nowhere; one behind which it stands, and not before
 abbrev pub IsAlone : Value → Type 0
@@ -71,6 +75,7 @@ abbrev pub IsWithinBounds : Clause → Type 0
 IsWithinBounds (Sums m) = Unit {0}
 IsWithinBounds (GroupsBy column) = Has query_columns column
 IsWithinBounds (Is column v) = Has query_columns column × IsValueOf column v × IsAlone v
+IsWithinBounds (IsNot column v) = Has query_columns column × IsValueOf column v × IsAlone v
 IsWithinBounds (FromTo column from to) =
     Has query_columns column × IsValueOf column from × IsValueOf column to × IsFirst from
 IsWithinBounds (QuantityIn range) = IsRange range

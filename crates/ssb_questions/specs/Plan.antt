@@ -8,13 +8,13 @@ use Rattle.ssb_schema.specs.declared.kind.Kind.{Kind}
 use Rattle.ssb_schema.specs.declared.kind.Kind.TheVariants as takes
 use Rattle.ssb_schema.specs.declared.table.Table.{Table}
 use Rattle.ssb_schema.specs.declared.table.Table.TheVariants as table
-use Rattle.ssb_questions.specs.Clause.{Clause, Is, FromTo, QuantityIn, DiscountIn}
+use Rattle.ssb_questions.specs.Clause.{Clause, Is, IsNot, FromTo, QuantityIn, DiscountIn}
 use Rattle.ssb_questions.specs.Clauses.{clauses_of}
 use Rattle.ssb_questions.specs.Kind.{constant_kinds}
 use Rattle.ssb_questions.specs.Members.{Has}
 use Rattle.ssb_questions.specs.declared.cond.Cond.{Cond}
 use Rattle.ssb_questions.specs.declared.cond.Cond.TheVariants.{TextIs, TextFromTo, TextOneOf, NumberIs, NumberFromTo}
-use Rattle.ssb_questions.specs.declared.cond.Cond.TheVariants.{NumberOneOf}
+use Rattle.ssb_questions.specs.declared.cond.Cond.TheVariants.{NumberOneOf, TextNoneOf, NumberNoneOf}
 use Rattle.ssb_questions.specs.declared.cond.Test.{Test}
 use Rattle.ssb_questions.specs.declared.kind.ConstantKind.{ConstantKind}
 use Rattle.ssb_questions.specs.declared.kind.ConstantKind.TheVariants as kind
@@ -48,6 +48,8 @@ is_on_texts (TextOneOf texts) = true
 is_on_texts (NumberIs number) = false
 is_on_texts (NumberFromTo from to) = false
 is_on_texts (NumberOneOf numbers) = false
+is_on_texts (TextNoneOf texts) = true
+is_on_texts (NumberNoneOf numbers) = false
 
 -- a test looks at a column of the table, one that queries read, for what the column takes
 pub record IsTestOf (t : Table) (test : Test) : Type 0 where
@@ -76,6 +78,7 @@ IsConstant kinds constants column (value.Number n) = StandsAmong kinds constants
 -- a clause looks for the value in the column
 abbrev pub LooksFor : Column → Value → Clause → Type 0
 LooksFor column wanted (Is own v) = (own ≡ column) × (v ≡ wanted)
+LooksFor column wanted (IsNot own v) = (own ≡ column) × (v ≡ wanted)
 LooksFor column wanted (FromTo own from to) = (own ≡ column) × ((from ≡ wanted) ⊎ (to ≡ wanted))
 LooksFor column wanted _ = ⊥
 
@@ -98,6 +101,8 @@ AreValues IsSo (TextOneOf texts) = AllByRecursion (λ text. IsSo (value.Text tex
 AreValues IsSo (NumberIs number) = IsSo (value.Number number)
 AreValues IsSo (NumberFromTo from to) = IsSo (value.Number from) × IsSo (value.Number to)
 AreValues IsSo (NumberOneOf numbers) = AllByRecursion (λ number. IsSo (value.Number number)) numbers
+AreValues IsSo (TextNoneOf texts) = AllByRecursion (λ text. IsSo (value.Text text)) texts
+AreValues IsSo (NumberNoneOf numbers) = AllByRecursion (λ number. IsSo (value.Number number)) numbers
 
 -- what a test looks for is given for its column
 abbrev pub IsTestOfConstants : Option (List ConstantKind) → List Value → Test → Type 0

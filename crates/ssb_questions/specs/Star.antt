@@ -1,15 +1,17 @@
 -- The plan that the clauses of a star question spell.
-use Rattle.std.specs.Prelude.{ℕ, Bool, true, false, List, [], ◌∷◌, length, map, Option, None, Some, option_map}
+use Rattle.std.specs.Prelude.{ℕ, Bool, true, false, List, [], ◌∷◌, ◌++◌, length, map, Option, None, Some, option_map}
 use Rattle.std.specs.Prelude.{unwrap_or, slice_get, if◌then◌else◌}
 use Rattle.std.specs.List.{filter_map, list_any, range_with_len}
-use Rattle.ssb_schema.specs.Columns.{C_CITY, C_NATION, C_REGION, S_CITY, S_NATION, S_REGION, P_MFGR, P_CATEGORY}
-use Rattle.ssb_schema.specs.Columns.{P_BRAND1, D_YEAR, D_YEARMONTHNUM, D_YEARMONTH, D_WEEKNUMINYEAR}
+use Rattle.ssb_schema.specs.Columns.{C_CITY, C_NATION, C_REGION, C_MKTSEGMENT, S_CITY, S_NATION, S_REGION, P_MFGR}
+use Rattle.ssb_schema.specs.Columns.{P_CATEGORY, P_BRAND1, D_DATEKEY, D_DAYOFWEEK, D_MONTH, D_YEAR, D_YEARMONTHNUM}
+use Rattle.ssb_schema.specs.Columns.{D_YEARMONTH, D_WEEKNUMINYEAR, D_SELLINGSEASON, D_HOLIDAYFL}
 use Rattle.ssb_schema.specs.declared.column.Column.{Column}
-use Rattle.ssb_questions.specs.Clause.{Clause, Sums, GroupsBy, Is, FromTo, QuantityIn, DiscountIn, BySum, kind_in}
+use Rattle.ssb_questions.specs.Clause.{Clause, Sums, GroupsBy, Is, IsNot, FromTo, QuantityIn, DiscountIn, BySum}
+use Rattle.ssb_questions.specs.Clause.{kind_in}
 use Rattle.ssb_questions.specs.Clauses.{same_column, clauses_of}
 use Rattle.ssb_questions.specs.declared.cond.Cond.{Cond}
 use Rattle.ssb_questions.specs.declared.cond.Cond.TheVariants.{TextIs, TextFromTo, TextOneOf, NumberIs, NumberFromTo}
-use Rattle.ssb_questions.specs.declared.cond.Cond.TheVariants.{NumberOneOf}
+use Rattle.ssb_questions.specs.declared.cond.Cond.TheVariants.{NumberOneOf, TextNoneOf, NumberNoneOf}
 use Rattle.ssb_questions.specs.declared.cond.Test.{Test}
 use Rattle.ssb_questions.specs.declared.kind.ConstantKind.{ConstantKind}
 use Rattle.ssb_questions.specs.declared.kind.ConstantKind.TheVariants as kind
@@ -52,6 +54,15 @@ abbrev pub number_in : Column → Clause → Option ℕ
 number_in column (Is own (Number number)) = if same_column own column then Some number else None
 number_in column _ = None
 
+-- the text, or the number, that a clause excludes
+abbrev pub text_out : Column → Clause → Option (List ℕ)
+text_out column (IsNot own (Text text)) = if same_column own column then Some text else None
+text_out column _ = None
+
+abbrev pub number_out : Column → Clause → Option ℕ
+number_out column (IsNot own (Number number)) = if same_column own column then Some number else None
+number_out column _ = None
+
 abbrev pub texts_in : Column → Clause → Option (List ℕ × List ℕ)
 texts_in column (FromTo own (Text from) (Text to)) = if same_column own column then Some (from, to) else None
 texts_in column _ = None
@@ -75,6 +86,15 @@ one_of_numbers [] = None
 one_of_numbers (number ∷ []) = Some (NumberIs number)
 one_of_numbers (number ∷ other ∷ numbers) = Some (NumberOneOf (number ∷ other ∷ numbers))
 
+-- none of these, where there are some
+abbrev pub none_of_texts : List (List ℕ) → Option Cond
+none_of_texts [] = None
+none_of_texts (text ∷ texts) = Some (TextNoneOf (text ∷ texts))
+
+abbrev pub none_of_numbers : List ℕ → Option Cond
+none_of_numbers [] = None
+none_of_numbers (number ∷ numbers) = Some (NumberNoneOf (number ∷ numbers))
+
 -- from one value to another, else one of the values
 abbrev pub text_cond : Option (List ℕ × List ℕ) → List (List ℕ) → Option Cond
 text_cond (Some ends) texts = Some (TextFromTo ends.0 ends.1)
@@ -94,12 +114,25 @@ cond_by kind.Number column clauses =
 abbrev pub cond_of : List Clause → Column → Option Cond
 cond_of clauses column = cond_by (kind_in column) column clauses
 
--- the test of a column, if the clauses ask anything of it
+-- what the clauses exclude of a column, by what is looked for there
+abbrev pub exclusion_by : ConstantKind → Column → List Clause → Option Cond
+exclusion_by (kind.Text own) column clauses = none_of_texts (filter_map (text_out column) clauses)
+exclusion_by kind.Number column clauses = none_of_numbers (filter_map (number_out column) clauses)
+
+abbrev pub exclusion_of : List Clause → Column → Option Cond
+exclusion_of clauses column = exclusion_by (kind_in column) column clauses
+
+-- the tests of a column, if the clauses ask anything of it, or exclude something
 abbrev pub test_of : List Clause → Column → Option Test
 test_of clauses column = option_map (λ cond. record { column = column; cond = cond }) (cond_of clauses column)
 
+abbrev pub exclusion_test : List Clause → Column → Option Test
+exclusion_test clauses column =
+    option_map (λ cond. record { column = column; cond = cond }) (exclusion_of clauses column)
+
+-- what is asked of columns, and then what is excluded
 abbrev pub tests_of : List Clause → List Column → List Test
-tests_of clauses columns = filter_map (test_of clauses) columns
+tests_of clauses columns = filter_map (test_of clauses) columns ++ filter_map (exclusion_test clauses) columns
 
 -- by the sum, if a clause says so, and then by the group columns
 abbrev pub order_of : Bool → ℕ → List OrderKey
@@ -108,7 +141,7 @@ order_of false groups = map Group (range_with_len 0 groups)
 
 -- the columns of each dimension, in the order in which they are tested
 abbrev pub customer_columns : List Column
-customer_columns = C_CITY ∷ C_NATION ∷ C_REGION ∷ []
+customer_columns = C_CITY ∷ C_NATION ∷ C_REGION ∷ C_MKTSEGMENT ∷ []
 
 abbrev pub supplier_columns : List Column
 supplier_columns = S_CITY ∷ S_NATION ∷ S_REGION ∷ []
@@ -117,7 +150,9 @@ abbrev pub part_columns : List Column
 part_columns = P_MFGR ∷ P_CATEGORY ∷ P_BRAND1 ∷ []
 
 abbrev pub date_columns : List Column
-date_columns = D_YEAR ∷ D_YEARMONTHNUM ∷ D_YEARMONTH ∷ D_WEEKNUMINYEAR ∷ []
+date_columns =
+    D_DATEKEY ∷ D_DAYOFWEEK ∷ D_MONTH ∷ D_YEAR ∷ D_YEARMONTHNUM ∷ D_YEARMONTH ∷ D_WEEKNUMINYEAR ∷ D_SELLINGSEASON
+    ∷ D_HOLIDAYFL ∷ []
 
 -- the measure, the group columns in their order, the tests of each column, and the order of the rows; the number of
 -- the lines where no measure is said

@@ -1,9 +1,9 @@
 -- What the plan of a star question means, in the words of the table of its constants.
-use Rattle.std.specs.Prelude.{◌≡◌, ℕ, ◌≤◌, Bool, true, false, List, ◌∷◌, length, map, filter, IfSome, Some, None}
+use Rattle.std.specs.Prelude.{◌≡◌, ◌≢◌, ℕ, ◌≤◌, Bool, true, false, List, ◌∷◌, length, map, filter, IfSome, Some, None}
 use Rattle.std.specs.Prelude.{slice_get, ◌↔◌}
 use Rattle.std.specs.List.{AllByRecursion, range_with_len}
 use Rattle.ssb_schema.specs.declared.column.Column.{Column}
-use Rattle.ssb_questions.specs.Clause.{Clause, Sums, GroupsBy, Is, FromTo, QuantityIn, DiscountIn, BySum}
+use Rattle.ssb_questions.specs.Clause.{Clause, Sums, GroupsBy, Is, IsNot, FromTo, QuantityIn, DiscountIn, BySum}
 use Rattle.ssb_questions.specs.Clauses.{clauses_of}
 use Rattle.ssb_questions.specs.Cond.{holds}
 use Rattle.ssb_questions.specs.Members.{Has}
@@ -34,11 +34,13 @@ LiesIn _ _ _ = ⊥
 abbrev pub IsInRange : NumberRange → ℕ → Type 0
 IsInRange range n = (range.from ≤ n) × (n ≤ range.to)
 
--- the clauses let a line pass: of each column with values, one is the line's, and each range holds
+-- the clauses let a line pass: of each column with values, one is the line's, each range holds, and no column has a
+-- value that a clause excludes
 pub record ClausesPass (clauses : List Clause) (line : Tested) : Type 0 where
   pub values : (column : Column) (v : Value) → Has clauses (Is column v) → Has clauses (Is column (line.value column))
   pub ranges : (column : Column) (from to : Value) → Has clauses (FromTo column from to)
       → LiesIn from to (line.value column)
+  pub exclusions : (column : Column) (v : Value) → Has clauses (IsNot column v) → line.value column ≢ v
   pub quantity : (range : NumberRange) → Has clauses (QuantityIn range) → IsInRange range line.quantity
   pub discount : (range : NumberRange) → Has clauses (DiscountIn range) → IsInRange range line.discount
 

@@ -13,7 +13,7 @@ pub enum Spelled<'a> {
     /// A text.
     Text(&'a str),
     /// A number.
-    Number(u32),
+    Number(u64),
 }
 
 /// What one constant of a star question says.
@@ -25,6 +25,8 @@ pub enum Clause<'a> {
     GroupsBy(Column),
     /// The column has this value, or that of another such clause.
     Is(Column, Spelled<'a>),
+    /// The column has not this value.
+    IsNot(Column, Spelled<'a>),
     /// The column lies between these values, both included.
     FromTo(Column, Spelled<'a>, Spelled<'a>),
     /// LO_QUANTITY lies in it.
@@ -35,11 +37,13 @@ pub enum Clause<'a> {
     BySum,
 }
 
-static MEASURES: [Measure; 5] = [
+static MEASURES: [Measure; 7] = [
     Measure::Revenue,
     Measure::Profit,
     Measure::PriceTimesDiscount,
     Measure::Quantity,
+    Measure::ExtendedPrice,
+    Measure::SupplyCost,
     Measure::Lines,
 ];
 
@@ -53,6 +57,8 @@ impl Measure {
             Measure::Profit => "LO_REVENUE-LO_SUPPLYCOST",
             Measure::PriceTimesDiscount => "LO_EXTENDEDPRICE*LO_DISCOUNT",
             Measure::Quantity => "LO_QUANTITY",
+            Measure::ExtendedPrice => "LO_EXTENDEDPRICE",
+            Measure::SupplyCost => "LO_SUPPLYCOST",
             Measure::Lines => "COUNT",
         }
     }
@@ -85,11 +91,21 @@ fn parted<'a>(mark: &str, text: &'a str) -> Option<(&'a str, &'a str)>
 }
 
 // The number of 32 bits that a text spells.
-fn number_spelled(text: &str) -> Option<u32>
+fn number_spelled(text: &str) -> Option<u64>
     ensures { result ≡ spec.number_spelled text.now }
 {
     match number(text.as_bytes()) {
-        Some(n) if n < 4_294_967_296 => Some(n as u32),
+        Some(n) if n < 4_294_967_296 => Some(n),
+        _ => None,
+    }
+}
+
+// The number up to a greatest one that a text spells.
+fn number_up_to(most: u64, text: &str) -> Option<u64>
+    ensures { result ≡ spec.number_up_to most text.now }
+{
+    match number(text.as_bytes()) {
+        Some(n) if n <= most => Some(n),
         _ => None,
     }
 }
@@ -122,6 +138,16 @@ pub fn kind_in(column: Column) -> ConstantKind
     }
 }
 
+// The greatest number that a column takes; 0 where it takes texts.
+fn most_in(column: Column) -> u64
+    ensures { result ≡ spec.most_in column }
+{
+    match column.kind() {
+        Some(Kind::Number { most, .. }) => most,
+        Some(Kind::Text) | None => 0,
+    }
+}
+
 fn value_for(column: Column, text: &str) -> Option<Spelled<'_>>
     ensures { option_map value_said result ≡ spec.value_for column text.now }
 {
@@ -133,7 +159,7 @@ fn value_for(column: Column, text: &str) -> Option<Spelled<'_>>
                 None
             }
         }
-        ConstantKind::Number => match number_spelled(text) {
+        ConstantKind::Number => match number_up_to(most_in(column), text) {
             Some(number) => Some(Spelled::Number(number)),
             None => None,
         },
@@ -153,13 +179,41 @@ fn column_test(column: Column, text: &str) -> Option<Clause<'_>>
     }
 }
 
+fn column_clause<'a>(name: &str, text: &'a str) -> Option<Clause<'a>>
+    ensures { option_map said result ≡ spec.column_clause name.now text.now }
+{
+    column_test(column_named(name)?, text)
+}
+
 fn test_clause<'a>(name: &str, text: &'a str) -> Option<Clause<'a>>
     ensures { option_map said result ≡ spec.test_clause name.now text.now }
 {
     match name {
         "LO_QUANTITY" => Some(Clause::QuantityIn(range_spelled(text)?)),
         "LO_DISCOUNT" => Some(Clause::DiscountIn(range_spelled(text)?)),
-        _ => column_test(column_named(name)?, text),
+        _ => column_clause(name, text),
+    }
+}
+
+// What a column is not; a range is no value.
+fn exclusion_clause<'a>(name: &str, text: &'a str) -> Option<Clause<'a>>
+    ensures { option_map said result ≡ spec.exclusion_clause name.now text.now }
+{
+    let column = column_named(name)?;
+    match parted("..", text) {
+        Some(_) => None,
+        None => Some(Clause::IsNot(column, value_for(column, text)?)),
+    }
+}
+
+// What stands before `=` is a name, or a name with `!` behind it.
+fn named_clause<'a>(name: &str, text: &'a str) -> Option<Clause<'a>>
+    ensures { option_map said result ≡ spec.named_clause name.now text.now (spec.parted (codes "!") name.now) }
+{
+    match parted("!", name) {
+        None => test_clause(name, text),
+        Some((own, "")) => exclusion_clause(own, text),
+        Some(_) => None,
     }
 }
 
@@ -180,7 +234,7 @@ pub fn clause_of(constant: &str) -> Option<Clause<'_>>
         return Some(Clause::BySum);
     }
     match parted("=", constant) {
-        Some((name, text)) => test_clause(name, text),
+        Some((name, text)) => named_clause(name, text),
         None => word_clause(constant),
     }
 }

@@ -10,7 +10,7 @@ use ssb_schema::Column;
 /// The most constants of a star question.
 pub const MOST_CONSTANTS: usize = 64;
 
-/// The most values of one column that a star question looks for.
+/// The most values of one column that a star question looks for, and the most that it excludes.
 pub const MOST_VALUES: usize = 16;
 
 /// The most group columns of a star question.
@@ -25,6 +25,8 @@ pub enum Subject {
     Group(Column),
     /// One value of a column.
     OneValue(Column),
+    /// A value that a column has not.
+    Exclusion(Column),
     /// All values of a column between two.
     Range(Column),
     /// LO_QUANTITY.
@@ -54,6 +56,7 @@ impl Subject {
             | (Subject::Order, Subject::Order) => true,
             (Subject::Group(a), Subject::Group(b))
             | (Subject::OneValue(a), Subject::OneValue(b))
+            | (Subject::Exclusion(a), Subject::Exclusion(b))
             | (Subject::Range(a), Subject::Range(b)) => same_column(a, b),
             _ => false,
         }
@@ -77,6 +80,7 @@ fn subject_of(constant: &Value) -> Option<Subject>
         Clause::Sums(_) => Some(Subject::Measure),
         Clause::GroupsBy(column) => Some(Subject::Group(column)),
         Clause::Is(column, _) => Some(Subject::OneValue(column)),
+        Clause::IsNot(column, _) => Some(Subject::Exclusion(column)),
         Clause::FromTo(column, _, _) => Some(Subject::Range(column)),
         Clause::QuantityIn(_) => Some(Subject::Quantity),
         Clause::DiscountIn(_) => Some(Subject::Discount),
@@ -111,6 +115,14 @@ fn are_heads(constants: &[Value]) -> bool
         .all(|subject| subject.is_head())
 }
 
+// Whether one value more may be excluded of a column behind these constants.
+fn may_exclude(earlier: &[Value], column: Column) -> bool
+    ensures { result ≡ spec.may_exclude (spec.subjects_of earlier.now) column }
+{
+    is_absent(Subject::Order, earlier)
+        && count_of(Subject::Exclusion(column), earlier) < MOST_VALUES
+}
+
 // Whether a clause of the subject may stand behind these constants, which are so many or more.
 fn may_follow(place: usize, earlier: &[Value], subject: Subject) -> bool
     ensures { result ≡ spec.may_follow place (spec.subjects_of earlier.now) subject }
@@ -125,6 +137,7 @@ fn may_follow(place: usize, earlier: &[Value], subject: Subject) -> bool
                 && is_absent(Subject::Range(column), earlier)
                 && count_of(subject, earlier) < MOST_VALUES
         }
+        Subject::Exclusion(column) => may_exclude(earlier, column),
         Subject::Range(column) => {
             is_absent(Subject::Order, earlier)
                 && is_absent(subject, earlier)

@@ -16,11 +16,15 @@ pub enum Cond {
     /// It is one of these texts.
     TextOneOf(Items<Text>),
     /// It is this number.
-    NumberIs(u32),
+    NumberIs(u64),
     /// It lies between these numbers, both included.
-    NumberFromTo(u32, u32),
+    NumberFromTo(u64, u64),
     /// It is one of these numbers.
-    NumberOneOf(Items<u32>),
+    NumberOneOf(Items<u64>),
+    /// It is none of these texts.
+    TextNoneOf(Items<Text>),
+    /// It is none of these numbers.
+    NumberNoneOf(Items<u64>),
 }
 
 /// A test of a column of a dimension.
@@ -36,11 +40,12 @@ pub enum ColumnValue<'a> {
     /// A text.
     Text(&'a Text),
     /// A number.
-    Number(u32),
+    Number(u64),
 }
 
 impl Cond {
-    /// Whether the value passes; a test of texts holds of no number, and a test of numbers of no text.
+    /// Whether the value passes; a number is none of any texts, else a test of texts holds of no number; so it is of
+    /// numbers.
     pub fn holds(&self, value: ColumnValue<'_>) -> bool
         ensures { result ≡ holds self.now (column_value value.entry) }
     {
@@ -55,6 +60,14 @@ impl Cond {
             (Cond::NumberOneOf(numbers), ColumnValue::Number(value)) => {
                 numbers.as_slice().contains(&value)
             }
+            (Cond::TextNoneOf(texts), ColumnValue::Text(value)) => !texts
+                .as_slice()
+                .contains(value),
+            (Cond::NumberNoneOf(numbers), ColumnValue::Number(value)) => {
+                !numbers.as_slice().contains(&value)
+            }
+            (Cond::TextNoneOf(_), ColumnValue::Number(_))
+            | (Cond::NumberNoneOf(_), ColumnValue::Text(_)) => true,
             _ => false,
         }
     }

@@ -12,7 +12,7 @@ use ssb_schema::{Items, Text};
 use std::alloc::{AllocError, Global};
 
 /// The number at a place; 0 where there is none.
-pub fn number_at(constants: &[Value], place: usize) -> u32
+pub fn number_at(constants: &[Value], place: usize) -> u64
     ensures { result ≡ number_at constants.now place }
 {
     match constants.get(place) {
@@ -35,7 +35,7 @@ pub fn text_at(alloc: Global, constants: &[Value], place: usize) -> Result<Text,
 #[derive(Clone, Copy)]
 enum Constant {
     Text(&'static str),
-    Number(u32),
+    Number(u64),
 }
 
 use Constant::{Number, Text as Name};

@@ -10,7 +10,7 @@ use ssb_schema::{Column, text_fault};
 pub enum ConstantKind {
     /// A text that the column could hold: at most 64 bytes, without `|`, CR or LF, and not ending in a space.
     Text(Column),
-    /// Any number.
+    /// A number of 32 bits.
     Number,
 }
 
@@ -23,7 +23,7 @@ impl ConstantKind {
             (ConstantKind::Text(column), Value::Text(text)) => {
                 text_fault(column, text.as_str()).is_none()
             }
-            (ConstantKind::Number, Value::Number(_)) => true,
+            (ConstantKind::Number, Value::Number(number)) => *number < 4_294_967_296,
             _ => false,
         }
     }

@@ -13,6 +13,10 @@ pub enum Measure {
     Profit,
     /// LO_QUANTITY
     Quantity,
+    /// LO_EXTENDEDPRICE
+    ExtendedPrice,
+    /// LO_SUPPLYCOST
+    SupplyCost,
     /// 1, so that the sum is the number of the lines.
     Lines,
 }
@@ -20,8 +24,8 @@ pub enum Measure {
 /// Numbers from the first to the last, both included; none where `from` is greater than `to`.
 #[derive(Clone, Copy, Debug, PartialEq, Eq)]
 pub struct NumberRange {
-    pub from: u32,
-    pub to: u32,
+    pub from: u64,
+    pub to: u64,
 }
 
 /// What rows are ordered by: a group column, by its place from 0 in `Plan::groups`, ascending, or the

@@ -12,18 +12,29 @@ use crate::kind::ConstantKind;
 use crate::plan::{Measure, NumberRange, OrderKey, Plan};
 use crate::value::Value;
 use ssb_schema::{
-    C_CITY, C_NATION, C_REGION, Column, D_WEEKNUMINYEAR, D_YEAR, D_YEARMONTH, D_YEARMONTHNUM,
-    Items, P_BRAND1, P_CATEGORY, P_MFGR, S_CITY, S_NATION, S_REGION, Text,
+    C_CITY, C_MKTSEGMENT, C_NATION, C_REGION, Column, D_DATEKEY, D_DAYOFWEEK, D_HOLIDAYFL, D_MONTH,
+    D_SELLINGSEASON, D_WEEKNUMINYEAR, D_YEAR, D_YEARMONTH, D_YEARMONTHNUM, Items, P_BRAND1,
+    P_CATEGORY, P_MFGR, S_CITY, S_NATION, S_REGION, Text,
 };
 use std::alloc::{AllocError, Global};
 
-static CUSTOMER_COLUMNS: [Column; 3] = [C_CITY, C_NATION, C_REGION];
+static CUSTOMER_COLUMNS: [Column; 4] = [C_CITY, C_NATION, C_REGION, C_MKTSEGMENT];
 
 static SUPPLIER_COLUMNS: [Column; 3] = [S_CITY, S_NATION, S_REGION];
 
 static PART_COLUMNS: [Column; 3] = [P_MFGR, P_CATEGORY, P_BRAND1];
 
-static DATE_COLUMNS: [Column; 4] = [D_YEAR, D_YEARMONTHNUM, D_YEARMONTH, D_WEEKNUMINYEAR];
+static DATE_COLUMNS: [Column; 9] = [
+    D_DATEKEY,
+    D_DAYOFWEEK,
+    D_MONTH,
+    D_YEAR,
+    D_YEARMONTHNUM,
+    D_YEARMONTH,
+    D_WEEKNUMINYEAR,
+    D_SELLINGSEASON,
+    D_HOLIDAYFL,
+];
 
 // What a constant says.
 fn said_by(constant: &Value) -> Option<Clause<'_>>
@@ -121,11 +132,30 @@ fn text_in<'a>(column: Column, clause: &Clause<'a>) -> Option<&'a str>
     }
 }
 
-fn number_in(column: Column, clause: &Clause<'_>) -> Option<u32>
+fn number_in(column: Column, clause: &Clause<'_>) -> Option<u64>
     ensures { result ≡ spec.number_in column (said clause.now) }
 {
     match clause {
         Clause::Is(own, Spelled::Number(number)) if same_column(*own, column) => Some(*number),
+        _ => None,
+    }
+}
+
+// The text that a clause excludes of a column.
+fn text_out<'a>(column: Column, clause: &Clause<'a>) -> Option<&'a str>
+    ensures { option_map (λ text. text.now) result ≡ spec.text_out column (said clause.now) }
+{
+    match clause {
+        Clause::IsNot(own, Spelled::Text(text)) if same_column(*own, column) => Some(text),
+        _ => None,
+    }
+}
+
+fn number_out(column: Column, clause: &Clause<'_>) -> Option<u64>
+    ensures { result ≡ spec.number_out column (said clause.now) }
+{
+    match clause {
+        Clause::IsNot(own, Spelled::Number(number)) if same_column(*own, column) => Some(*number),
         _ => None,
     }
 }
@@ -140,7 +170,7 @@ fn texts_in<'a>(column: Column, clause: &Clause<'a>) -> Option<(&'a str, &'a str
     }
 }
 
-fn numbers_in(column: Column, clause: &Clause<'_>) -> Option<(u32, u32)>
+fn numbers_in(column: Column, clause: &Clause<'_>) -> Option<(u64, u64)>
     ensures { result ≡ spec.numbers_in column (said clause.now) }
 {
     match clause {
@@ -163,7 +193,7 @@ fn text_ends<'a>(column: Column, clauses: &[Clause<'a>]) -> Option<(&'a str, &'a
     }
 }
 
-fn number_ends(column: Column, clauses: &[Clause<'_>]) -> Option<(u32, u32)>
+fn number_ends(column: Column, clauses: &[Clause<'_>]) -> Option<(u64, u64)>
     ensures { result ≡ spec.first_in (spec.numbers_in column) (map said clauses.now) }
 {
     match clauses {
@@ -187,12 +217,41 @@ fn texts(alloc: Global, column: Column, clauses: &[Clause<'_>]) -> Result<Vec<Te
     Ok(texts)
 }
 
-fn numbers(alloc: Global, column: Column, clauses: &[Clause<'_>]) -> Result<Vec<u32>, AllocError>
+fn numbers(alloc: Global, column: Column, clauses: &[Clause<'_>]) -> Result<Vec<u64>, AllocError>
     ensures { IfOk result (λ numbers. numbers.items ≡ filter_map (spec.number_in column) (map said clauses.now)) }
 {
     let mut numbers = Vec::new(alloc);
     for clause in clauses {
         if let Some(number) = number_in(column, clause) {
+            numbers.push(number)?;
+        }
+    }
+    Ok(numbers)
+}
+
+// The texts that the clauses exclude of a column.
+fn texts_out(alloc: Global, column: Column, clauses: &[Clause<'_>]) -> Result<Vec<Text>, AllocError>
+    ensures { IfOk result (λ texts. texts.items ≡ filter_map (spec.text_out column) (map said clauses.now)) }
+{
+    let mut texts = Vec::new(alloc);
+    for clause in clauses {
+        if let Some(text) = text_out(column, clause) {
+            texts.push(Text::from_str(alloc, text)?)?;
+        }
+    }
+    Ok(texts)
+}
+
+fn numbers_out(
+    alloc: Global,
+    column: Column,
+    clauses: &[Clause<'_>],
+) -> Result<Vec<u64>, AllocError>
+    ensures { IfOk result (λ numbers. numbers.items ≡ filter_map (spec.number_out column) (map said clauses.now)) }
+{
+    let mut numbers = Vec::new(alloc);
+    for clause in clauses {
+        if let Some(number) = number_out(column, clause) {
             numbers.push(number)?;
         }
     }
@@ -209,7 +268,7 @@ fn one_of_texts(mut texts: Vec<Text>) -> Option<Cond>
     }
 }
 
-fn one_of_numbers(mut numbers: Vec<u32>) -> Option<Cond>
+fn one_of_numbers(mut numbers: Vec<u64>) -> Option<Cond>
     ensures { result ≡ spec.one_of_numbers numbers.items }
 {
     match numbers.len() {
@@ -238,6 +297,38 @@ fn cond(alloc: Global, clauses: &[Clause<'_>], column: Column) -> Result<Option<
     }
 }
 
+fn none_of_texts(texts: Vec<Text>) -> Option<Cond>
+    ensures { result ≡ spec.none_of_texts texts.items }
+{
+    match texts.len() {
+        0 => None,
+        _ => Some(Cond::TextNoneOf(Items::from_vec(texts))),
+    }
+}
+
+fn none_of_numbers(numbers: Vec<u64>) -> Option<Cond>
+    ensures { result ≡ spec.none_of_numbers numbers.items }
+{
+    match numbers.len() {
+        0 => None,
+        _ => Some(Cond::NumberNoneOf(Items::from_vec(numbers))),
+    }
+}
+
+// What the clauses exclude of a column.
+fn exclusion(
+    alloc: Global,
+    clauses: &[Clause<'_>],
+    column: Column,
+) -> Result<Option<Cond>, AllocError>
+    ensures { IfOk result (λ cond. cond ≡ spec.exclusion_of (map said clauses.now) column) }
+{
+    match kind_in(column) {
+        ConstantKind::Text(_) => Ok(none_of_texts(texts_out(alloc, column, clauses)?)),
+        ConstantKind::Number => Ok(none_of_numbers(numbers_out(alloc, column, clauses)?)),
+    }
+}
+
 // The test of a column, if the clauses ask anything of it.
 fn test(alloc: Global, clauses: &[Clause<'_>], column: Column) -> Result<Option<Test>, AllocError>
     ensures { IfOk result (λ test. test ≡ spec.test_of (map said clauses.now) column) }
@@ -248,6 +339,51 @@ fn test(alloc: Global, clauses: &[Clause<'_>], column: Column) -> Result<Option<
     }
 }
 
+// The test of a column, if the clauses exclude something of it.
+fn exclusion_test(
+    alloc: Global,
+    clauses: &[Clause<'_>],
+    column: Column,
+) -> Result<Option<Test>, AllocError>
+    ensures { IfOk result (λ test. test ≡ spec.exclusion_test (map said clauses.now) column) }
+{
+    match exclusion(alloc, clauses, column)? {
+        Some(cond) => Ok(Some(Test { column, cond })),
+        None => Ok(None),
+    }
+}
+
+// The tests of what the clauses ask of these columns.
+fn asked(alloc: Global, clauses: &[Clause<'_>], columns: &[Column]) -> Result<Vec<Test>, AllocError>
+    ensures { IfOk result (λ tests. tests.items ≡ filter_map (spec.test_of (map said clauses.now)) columns.now) }
+{
+    let mut tests = Vec::new(alloc);
+    for column in columns {
+        if let Some(test) = test(alloc, clauses, *column)? {
+            tests.push(test)?;
+        }
+    }
+    Ok(tests)
+}
+
+// The tests of what the clauses exclude of these columns.
+fn excluded(
+    alloc: Global,
+    clauses: &[Clause<'_>],
+    columns: &[Column],
+) -> Result<Vec<Test>, AllocError>
+    ensures { IfOk result (λ tests. tests.items
+        ≡ filter_map (spec.exclusion_test (map said clauses.now)) columns.now) }
+{
+    let mut tests = Vec::new(alloc);
+    for column in columns {
+        if let Some(test) = exclusion_test(alloc, clauses, *column)? {
+            tests.push(test)?;
+        }
+    }
+    Ok(tests)
+}
+
 // The tests of these columns.
 fn tests(
     alloc: Global,
@@ -256,11 +392,10 @@ fn tests(
 ) -> Result<Items<Test>, AllocError>
     ensures { IfOk result (λ tests. tests ≡ spec.tests_of (map said clauses.now) columns.now) }
 {
-    let mut tests = Vec::new(alloc);
-    for column in columns {
-        if let Some(test) = test(alloc, clauses, *column)? {
-            tests.push(test)?;
-        }
+    let mut tests = asked(alloc, clauses, columns)?;
+    let mut excluded = excluded(alloc, clauses, columns)?;
+    if tests.append(&mut excluded).is_err() {
+        return Err(AllocError);
     }
     Ok(Items::from_vec(tests))
 }

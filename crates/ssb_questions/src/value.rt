@@ -12,7 +12,7 @@ pub enum Value {
     /// A text.
     Text(Text),
     /// A number.
-    Number(u32),
+    Number(u64),
 }
 
 impl Drop for Value {

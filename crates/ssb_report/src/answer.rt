@@ -17,7 +17,7 @@ pub(crate) fn piece_of(value: &Value) -> Piece<'_>
 {
     match value {
         Value::Text(text) => Piece::Text(text.as_str()),
-        Value::Number(number) => Piece::Number(u64::from(*number)),
+        Value::Number(number) => Piece::Number(*number),
     }
 }
 

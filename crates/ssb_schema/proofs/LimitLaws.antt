@@ -11,9 +11,8 @@ use Rattle.ssb_schema.specs.declared.column.Column.{Column}
 use Rattle.ssb_schema.specs.declared.fault.SchemaFault.{SchemaFault}
 use Rattle.ssb_schema.specs.Columns.{Value, Number, column_fault, first_fault, kinds_of, row_fault, or_else}
 use Rattle.ssb_schema.specs.declared.line.LineFields.{LineFields}
-use Rattle.ssb_schema.specs.declared.date.DateFields.{DateFields}
 use Rattle.ssb_schema.specs.Facts.{fact_of, IsFactWithinLimits}
-use Rattle.ssb_schema.specs.Rows.{date_values, line_values, IsWithinLimits}
+use Rattle.ssb_schema.specs.Rows.{line_values, IsWithinLimits}
 
 -- neither answer is there where the first of them is not
 or_else_none : (a b : Option SchemaFault) → or_else a b ≡ None → (a ≡ None) × (b ≡ None)
@@ -70,22 +69,3 @@ line_within r e =
 -- so are those of its fact
 pub fact_within : (r : LineFields) → IsWithinLimits r → IsFactWithinLimits (fact_of r)
 fact_within r h = grind arith
-
--- the numbers of a date are within their columns' ranges
-pub record IsDateWithinLimits (row : DateFields) : Type 0 where
-  pub year : row.year < 2 ^ 32
-  pub year_month_number : row.year_month_number < 2 ^ 32
-  pub week : row.week < 2 ^ 32
-
--- a date without a fault is within the limits
-pub date_within : (row : DateFields) → row_fault table.Date (date_values row) ≡ None → IsDateWithinLimits row
-date_within row e =
-    let at : (i n : ℕ) → slice_get (kinds_of table.Date) i ≡ Some (kind.Number 0 4294967295)
-    → slice_get (date_values row) i ≡ Some (Number n) → n ≤ 4294967295
-    = λ i n at_k at_v.
-    (number_within table.Date 1 i 0 4294967295 n (kinds_of table.Date) (date_values row) e at_k at_v).1 in
-    record {
-      year = omega (arith, at 4 row.year refl refl);
-      year_month_number = omega (arith, at 5 row.year_month_number refl refl);
-      week = omega (arith, at 11 row.week refl refl);
-    }

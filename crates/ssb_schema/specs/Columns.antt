@@ -83,8 +83,8 @@ columns_of table.Part =
 columns_of table.Date =
     column 1 (codes "D_DATEKEY") key
     ∷ column 2 (codes "D_FIELD2") text
-    ∷ column 3 (codes "D_FIELD3") text
-    ∷ column 4 (codes "D_FIELD4") text
+    ∷ column 3 (codes "D_DAYOFWEEK") text
+    ∷ column 4 (codes "D_MONTH") text
     ∷ column 5 (codes "D_YEAR") amount
     ∷ column 6 (codes "D_YEARMONTHNUM") amount
     ∷ column 7 (codes "D_YEARMONTH") text
@@ -93,10 +93,10 @@ columns_of table.Date =
     ∷ column 10 (codes "D_FIELD10") text
     ∷ column 11 (codes "D_FIELD11") text
     ∷ column 12 (codes "D_WEEKNUMINYEAR") amount
-    ∷ column 13 (codes "D_FIELD13") text
+    ∷ column 13 (codes "D_SELLINGSEASON") text
     ∷ column 14 (codes "D_FIELD14") text
     ∷ column 15 (codes "D_FIELD15") text
-    ∷ column 16 (codes "D_FIELD16") text
+    ∷ column 16 (codes "D_HOLIDAYFL") text
     ∷ column 17 (codes "D_FIELD17") text ∷ []
 columns_of table.Lineorder =
     column 1 (codes "LO_ORDERKEY") key
@@ -147,6 +147,9 @@ C_NATION = record { table = table.Customer; place = 5 }
 abbrev pub C_REGION : Column
 C_REGION = record { table = table.Customer; place = 6 }
 
+abbrev pub C_MKTSEGMENT : Column
+C_MKTSEGMENT = record { table = table.Customer; place = 8 }
+
 abbrev pub S_CITY : Column
 S_CITY = record { table = table.Supplier; place = 4 }
 
@@ -165,6 +168,15 @@ P_CATEGORY = record { table = table.Part; place = 4 }
 abbrev pub P_BRAND1 : Column
 P_BRAND1 = record { table = table.Part; place = 5 }
 
+abbrev pub D_DATEKEY : Column
+D_DATEKEY = record { table = table.Date; place = 1 }
+
+abbrev pub D_DAYOFWEEK : Column
+D_DAYOFWEEK = record { table = table.Date; place = 3 }
+
+abbrev pub D_MONTH : Column
+D_MONTH = record { table = table.Date; place = 4 }
+
 abbrev pub D_YEAR : Column
 D_YEAR = record { table = table.Date; place = 5 }
 
@@ -177,21 +189,33 @@ D_YEARMONTH = record { table = table.Date; place = 7 }
 abbrev pub D_WEEKNUMINYEAR : Column
 D_WEEKNUMINYEAR = record { table = table.Date; place = 12 }
 
+abbrev pub D_SELLINGSEASON : Column
+D_SELLINGSEASON = record { table = table.Date; place = 13 }
+
+abbrev pub D_HOLIDAYFL : Column
+D_HOLIDAYFL = record { table = table.Date; place = 16 }
+
 abbrev pub query_columns : List Column
 query_columns =
     C_CITY
     ∷ C_NATION
     ∷ C_REGION
+    ∷ C_MKTSEGMENT
     ∷ S_CITY
     ∷ S_NATION
     ∷ S_REGION
     ∷ P_MFGR
     ∷ P_CATEGORY
     ∷ P_BRAND1
+    ∷ D_DATEKEY
+    ∷ D_DAYOFWEEK
+    ∷ D_MONTH
     ∷ D_YEAR
     ∷ D_YEARMONTHNUM
     ∷ D_YEARMONTH
-    ∷ D_WEEKNUMINYEAR ∷ []
+    ∷ D_WEEKNUMINYEAR
+    ∷ D_SELLINGSEASON
+    ∷ D_HOLIDAYFL ∷ []
 
 -- their names, one by one
 abbrev pub query_names : List (List ℕ)
@@ -199,16 +223,22 @@ query_names =
     codes "C_CITY"
     ∷ codes "C_NATION"
     ∷ codes "C_REGION"
+    ∷ codes "C_MKTSEGMENT"
     ∷ codes "S_CITY"
     ∷ codes "S_NATION"
     ∷ codes "S_REGION"
     ∷ codes "P_MFGR"
     ∷ codes "P_CATEGORY"
     ∷ codes "P_BRAND1"
+    ∷ codes "D_DATEKEY"
+    ∷ codes "D_DAYOFWEEK"
+    ∷ codes "D_MONTH"
     ∷ codes "D_YEAR"
     ∷ codes "D_YEARMONTHNUM"
     ∷ codes "D_YEARMONTH"
-    ∷ codes "D_WEEKNUMINYEAR" ∷ []
+    ∷ codes "D_WEEKNUMINYEAR"
+    ∷ codes "D_SELLINGSEASON"
+    ∷ codes "D_HOLIDAYFL" ∷ []
 
 -- a byte that may stand in a text: not the delimiter, CR or LF
 abbrev pub is_plain_byte : ℕ → Bool

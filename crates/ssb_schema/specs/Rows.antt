@@ -24,9 +24,9 @@ part_values row =
 
 abbrev pub date_values : DateFields → List Value
 date_values row =
-    Number row.key ∷ Text row.field2 ∷ Text row.field3 ∷ Text row.field4 ∷ Number row.year
+    Number row.key ∷ Text row.field2 ∷ Text row.day_of_week ∷ Text row.month ∷ Number row.year
     ∷ Number row.year_month_number ∷ Text row.year_month ∷ Text row.field8 ∷ Text row.field9 ∷ Text row.field10
-    ∷ Text row.field11 ∷ Number row.week ∷ Text row.field13 ∷ Text row.field14 ∷ Text row.field15 ∷ Text row.field16
+    ∷ Text row.field11 ∷ Number row.week ∷ Text row.selling_season ∷ Text row.field14 ∷ Text row.field15 ∷ Text row.holiday_flag
     ∷ Text row.field17 ∷ []
 
 abbrev pub line_values : LineFields → List Value

@@ -33,6 +33,12 @@ pub const C_REGION: Column = Column {
     place: 6,
 };
 
+/// The market segment of a customer.
+pub const C_MKTSEGMENT: Column = Column {
+    table: Table::Customer,
+    place: 8,
+};
+
 /// The city of a supplier.
 pub const S_CITY: Column = Column {
     table: Table::Supplier,
@@ -69,6 +75,24 @@ pub const P_BRAND1: Column = Column {
     place: 5,
 };
 
+/// The key of a date, as 19940115: the day.
+pub const D_DATEKEY: Column = Column {
+    table: Table::Date,
+    place: 1,
+};
+
+/// The day of the week of a date, as `Sunday`.
+pub const D_DAYOFWEEK: Column = Column {
+    table: Table::Date,
+    place: 3,
+};
+
+/// The month of a date, as `January`.
+pub const D_MONTH: Column = Column {
+    table: Table::Date,
+    place: 4,
+};
+
 /// The year of a date.
 pub const D_YEAR: Column = Column {
     table: Table::Date,
@@ -93,20 +117,38 @@ pub const D_WEEKNUMINYEAR: Column = Column {
     place: 12,
 };
 
-static QUERY_COLUMNS: [Column; 13] = [
+/// The selling season of a date, as `Christmas`.
+pub const D_SELLINGSEASON: Column = Column {
+    table: Table::Date,
+    place: 13,
+};
+
+/// Whether a date is a holiday: `1` where it is, else `0`.
+pub const D_HOLIDAYFL: Column = Column {
+    table: Table::Date,
+    place: 16,
+};
+
+static QUERY_COLUMNS: [Column; 19] = [
     C_CITY,
     C_NATION,
     C_REGION,
+    C_MKTSEGMENT,
     S_CITY,
     S_NATION,
     S_REGION,
     P_MFGR,
     P_CATEGORY,
     P_BRAND1,
+    D_DATEKEY,
+    D_DAYOFWEEK,
+    D_MONTH,
     D_YEAR,
     D_YEARMONTHNUM,
     D_YEARMONTH,
     D_WEEKNUMINYEAR,
+    D_SELLINGSEASON,
+    D_HOLIDAYFL,
 ];
 
 static CUSTOMER: [&str; 8] = [
@@ -145,8 +187,8 @@ static PART: [&str; 9] = [
 static DATE: [&str; 17] = [
     "D_DATEKEY",
     "D_FIELD2",
-    "D_FIELD3",
-    "D_FIELD4",
+    "D_DAYOFWEEK",
+    "D_MONTH",
     "D_YEAR",
     "D_YEARMONTHNUM",
     "D_YEARMONTH",
@@ -155,10 +197,10 @@ static DATE: [&str; 17] = [
     "D_FIELD10",
     "D_FIELD11",
     "D_WEEKNUMINYEAR",
-    "D_FIELD13",
+    "D_SELLINGSEASON",
     "D_FIELD14",
     "D_FIELD15",
-    "D_FIELD16",
+    "D_HOLIDAYFL",
     "D_FIELD17",
 ];
 

@@ -1,6 +1,5 @@
 //! Date rows.
 
-ghost use Rattle.std.specs.Prelude.{◌≡◌};
 ghost use Rattle.ssb_schema.specs.declared.table.Table.TheVariants as table;
 ghost use Rattle.ssb_schema.specs.Keys.{date_key};
 ghost use Rattle.ssb_schema.specs.Rows.{date_values};
@@ -18,10 +17,10 @@ pub struct DateFields {
     pub key: u64,
     /// D_FIELD2.
     pub field2: Text,
-    /// D_FIELD3.
-    pub field3: Text,
-    /// D_FIELD4.
-    pub field4: Text,
+    /// D_DAYOFWEEK.
+    pub day_of_week: Text,
+    /// D_MONTH.
+    pub month: Text,
     /// D_YEAR.
     pub year: u64,
     /// D_YEARMONTHNUM.
@@ -38,14 +37,14 @@ pub struct DateFields {
     pub field11: Text,
     /// D_WEEKNUMINYEAR.
     pub week: u64,
-    /// D_FIELD13.
-    pub field13: Text,
+    /// D_SELLINGSEASON.
+    pub selling_season: Text,
     /// D_FIELD14.
     pub field14: Text,
     /// D_FIELD15.
     pub field15: Text,
-    /// D_FIELD16.
-    pub field16: Text,
+    /// D_HOLIDAYFL.
+    pub holiday_flag: Text,
     /// D_FIELD17.
     pub field17: Text,
 }
@@ -66,8 +65,8 @@ impl Fields for DateFields {
         Cells::of(&[
             Cell::Number(self.key),
             Cell::Text(self.field2.as_str()),
-            Cell::Text(self.field3.as_str()),
-            Cell::Text(self.field4.as_str()),
+            Cell::Text(self.day_of_week.as_str()),
+            Cell::Text(self.month.as_str()),
             Cell::Number(self.year),
             Cell::Number(self.year_month_number),
             Cell::Text(self.year_month.as_str()),
@@ -76,10 +75,10 @@ impl Fields for DateFields {
             Cell::Text(self.field10.as_str()),
             Cell::Text(self.field11.as_str()),
             Cell::Number(self.week),
-            Cell::Text(self.field13.as_str()),
+            Cell::Text(self.selling_season.as_str()),
             Cell::Text(self.field14.as_str()),
             Cell::Text(self.field15.as_str()),
-            Cell::Text(self.field16.as_str()),
+            Cell::Text(self.holiday_flag.as_str()),
             Cell::Text(self.field17.as_str()),
         ])
     }
@@ -90,28 +89,5 @@ impl Keyed for DateFields {
 
     fn key(&self) -> u64 {
         self.key
-    }
-}
-
-impl DateRow {
-    /// D_YEAR.
-    pub fn year(&self) -> u32
-        ensures { result ≡ self.now.year }
-    {
-        self.fields().year as u32
-    }
-
-    /// D_YEARMONTHNUM.
-    pub fn year_month_number(&self) -> u32
-        ensures { result ≡ self.now.year_month_number }
-    {
-        self.fields().year_month_number as u32
-    }
-
-    /// D_WEEKNUMINYEAR.
-    pub fn week(&self) -> u32
-        ensures { result ≡ self.now.week }
-    {
-        self.fields().week as u32
     }
 }

@@ -34,8 +34,9 @@ mod texts;
 
 pub use cells::Cells;
 pub use column::{
-    C_CITY, C_NATION, C_REGION, Column, D_WEEKNUMINYEAR, D_YEAR, D_YEARMONTH, D_YEARMONTHNUM,
-    P_BRAND1, P_CATEGORY, P_MFGR, S_CITY, S_NATION, S_REGION, query_columns,
+    C_CITY, C_MKTSEGMENT, C_NATION, C_REGION, Column, D_DATEKEY, D_DAYOFWEEK, D_HOLIDAYFL, D_MONTH,
+    D_SELLINGSEASON, D_WEEKNUMINYEAR, D_YEAR, D_YEARMONTH, D_YEARMONTHNUM, P_BRAND1, P_CATEGORY,
+    P_MFGR, S_CITY, S_NATION, S_REGION, query_columns,
 };
 pub use customer::{Customer, CustomerFields};
 pub use date::{DateFields, DateRow};

@@ -1,5 +1,5 @@
 -- What one record of a script spells.
-use Rattle.std.specs.Prelude.{ℕ, ◌+◌, ◌^◌, ◌++◌, Bool, true, false, List, [], ◌∷◌, length, get_or, drop, find, codes}
+use Rattle.std.specs.Prelude.{ℕ, ◌+◌, ◌++◌, Bool, true, false, List, [], ◌∷◌, length, get_or, drop, find, codes}
 use Rattle.std.specs.Prelude.{flat_map, Option}
 use Rattle.std.specs.Prelude.{Some, None, is_none, option_map, Result, Ok, Err, nat_eq, nat_lt, if◌then◌else◌}
 use Rattle.std.specs.Option.{option_and_then}
@@ -82,11 +82,10 @@ word_of fields = word_spelled (field fields 0)
 abbrev pub query_named : List ℕ → Option Named
 query_named name = find (λ query. pointwise nat_eq (name_of query) name) queries_and_star
 
--- the constant of a kind that bytes spell: a text, or a number of 32 bits
+-- the constant of a kind that bytes spell: a text, or a number of 64 bits
 abbrev pub constant_spelled : ConstantKind → List ℕ → Option Value
 constant_spelled (kind.Text column) bytes = option_map value.Text (text_of bytes)
-constant_spelled kind.Number bytes = option_and_then (λ n. if nat_lt n (2 ^ 32) then Some (value.Number n) else None)
-    (number_of bytes)
+constant_spelled kind.Number bytes = option_map value.Number (number_of bytes)
 
 -- the constants of these kinds that the fields from a place on spell, where each spells one
 unfoldable pub constants_from : ℕ → List ConstantKind → List (List ℕ) → Option (List Value)

@@ -34,8 +34,8 @@ fn constant_of(alloc: Global, kind: ConstantKind, bytes: &[u8]) -> Result<Option
             None => Ok(None),
         },
         ConstantKind::Number => match number(bytes) {
-            Some(n) if n <= u32::MAX as u64 => Ok(Some(Value::Number(n as u32))),
-            _ => Ok(None),
+            Some(n) => Ok(Some(Value::Number(n))),
+            None => Ok(None),
         },
     }
 }

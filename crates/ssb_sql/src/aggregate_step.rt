@@ -141,7 +141,7 @@ fn null_if<'a>(purpose: Purpose, next: InNullIf) -> Option<SqlStep<'a>>
 }
 
 // The 0 of NULLIF comes.
-fn on_zero<'a>(purpose: Purpose, number: u32) -> Option<SqlStep<'a>>
+fn on_zero<'a>(purpose: Purpose, number: u64) -> Option<SqlStep<'a>>
     ensures { result ≡ spec.on_zero purpose number }
 {
     if number == 0 {

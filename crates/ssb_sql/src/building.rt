@@ -86,6 +86,8 @@ fn own_head(aggregate: Aggregate) -> &'static str {
         Aggregate::Average(Measure::Profit) => "AVG(LO_REVENUE-LO_SUPPLYCOST)",
         Aggregate::Average(Measure::PriceTimesDiscount) => "AVG(LO_EXTENDEDPRICE*LO_DISCOUNT)",
         Aggregate::Average(Measure::Quantity) => "AVG(LO_QUANTITY)",
+        Aggregate::Average(Measure::ExtendedPrice) => "AVG(LO_EXTENDEDPRICE)",
+        Aggregate::Average(Measure::SupplyCost) => "AVG(LO_SUPPLYCOST)",
         Aggregate::Average(Measure::Lines) => "AVG(COUNT)",
     }
 }
@@ -167,7 +169,7 @@ impl Printed {
     }
 
     // What is printed at this place, from 1.
-    fn printed_at(&self, place: u32, number: usize) -> Result<Shown, PieceFault> {
+    fn printed_at(&self, place: u64, number: usize) -> Result<Shown, PieceFault> {
         let place = (place as usize).checked_sub(1);
         match place.and_then(|place| self.shown.get(place)) {
             Some(shown) => Ok(*shown),
@@ -236,7 +238,7 @@ impl Printed {
 }
 
 // How many rows are printed at most, where a piece says so.
-fn most_in(piece: SqlPiece<'_>) -> Option<u32>
+fn most_in(piece: SqlPiece<'_>) -> Option<u64>
     ensures { result ≡ most_said piece.entry }
 {
     match piece {
@@ -247,7 +249,7 @@ fn most_in(piece: SqlPiece<'_>) -> Option<u32>
 
 /// How many rows are printed at most, where the pieces say so.
 #[tactic(auto, using(crate::proofs::SaidLaws::nothing_more))]
-pub(crate) fn limit_in(pieces: &[SqlPiece<'_>]) -> Option<u32>
+pub(crate) fn limit_in(pieces: &[SqlPiece<'_>]) -> Option<u64>
     ensures { result ≡ limit_said pieces.now }
 {
     match pieces {

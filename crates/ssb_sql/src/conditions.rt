@@ -76,7 +76,7 @@ fn value_of(
 }
 
 // All numbers below one.
-fn below(number: u32) -> Demand {
+fn below(number: u64) -> Demand {
     match number.checked_sub(1) {
         Some(last) => Demand::Within(None, Some(Value::Number(last))),
         None => nothing(),
@@ -84,7 +84,7 @@ fn below(number: u32) -> Demand {
 }
 
 // All numbers above one.
-fn above(number: u32) -> Demand {
+fn above(number: u64) -> Demand {
     match number.checked_add(1) {
         Some(first) => Demand::Within(Some(Value::Number(first)), None),
         None => nothing(),

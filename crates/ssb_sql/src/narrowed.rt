@@ -135,7 +135,7 @@ fn range_of(ends: RangeEnds<'_>) -> Result<Narrowed, PieceFault> {
         (Some(from), Some(to)) => Ok(Narrowed::Range(from.clone()?, to.clone()?)),
         (Some(Value::Number(from)), None) => Ok(Narrowed::Range(
             Value::Number(*from),
-            Value::Number(u32::MAX),
+            Value::Number(4_294_967_295),
         )),
         (None, Some(Value::Number(to))) => {
             Ok(Narrowed::Range(Value::Number(0), Value::Number(*to)))
@@ -155,7 +155,7 @@ fn exception_in(condition: &Condition, operand: Operand) -> Option<(&Value, usiz
 }
 
 // Whether a condition leaves a number out of an operand.
-fn is_left_out(conditions: &[Condition], operand: Operand, number: u32) -> bool {
+fn is_left_out(conditions: &[Condition], operand: Operand, number: u64) -> bool {
     conditions
         .iter()
         .any(|condition| matches!(exception_in(condition, operand),
@@ -163,11 +163,11 @@ fn is_left_out(conditions: &[Condition], operand: Operand, number: u32) -> bool 
 }
 
 // The least and the greatest number between the ends; where an end is not there, those that the operand can have.
-fn bounds_of(operand: Operand, ends: RangeEnds<'_>) -> (u32, u32) {
+fn bounds_of(operand: Operand, ends: RangeEnds<'_>) -> (u64, u64) {
     let (least, greatest) = match operand {
         Operand::Quantity => (1, 50),
         Operand::Discount => (0, 10),
-        Operand::Dimension(_) => (0, u32::MAX),
+        Operand::Dimension(_) => (0, 4_294_967_295),
     };
     let from = match ends.from {
         Some(Value::Number(from)) => *from,
@@ -181,7 +181,7 @@ fn bounds_of(operand: Operand, ends: RangeEnds<'_>) -> (u32, u32) {
 }
 
 // The numbers between bounds, less those at the bounds that conditions leave out. 1 to 0 has none.
-fn shrunk(conditions: &[Condition], operand: Operand, bounds: (u32, u32)) -> (u32, u32) {
+fn shrunk(conditions: &[Condition], operand: Operand, bounds: (u64, u64)) -> (u64, u64) {
     let (mut from, mut to) = bounds;
     for _ in conditions {
         if from > to {

@@ -41,9 +41,7 @@ fn number_part<'a>(digits: &'a str, rest: &'a str) -> Result<Part<'a>, NoPart>
     ensures { spec.part_read result ≡ option_map (spec.plain digits.now rest.now) (spec.number_token digits.now) }
 {
     match number(digits.as_bytes()) {
-        Some(n) if n < 4_294_967_296 => {
-            plain(digits, rest, SqlToken::Value(Spelled::Number(n as u32)))
-        }
+        Some(n) if n < 4_294_967_296 => { plain(digits, rest, SqlToken::Value(Spelled::Number(n))) }
         Some(n) => plain(digits, rest, SqlToken::Large(n)),
         None => Err(NoPart::Bad),
     }

@@ -69,11 +69,11 @@ pub enum SqlPiece<'a> {
     /// Rows stand by what has this name.
     OrdersByName(&'a str),
     /// Rows stand by what is printed at this place, from 1.
-    OrdersByPlace(u32),
+    OrdersByPlace(u64),
     /// Rows stand by the aggregate.
     OrdersByAggregate(Aggregate),
     /// From the greatest down, by what is before it.
     Descending,
     /// So many rows at most.
-    Limit(u32),
+    Limit(u64),
 }

@@ -55,5 +55,5 @@ pub struct Statement {
     /// What rows stand by, the first key first; rows that these do not tell apart stand by the group columns.
     pub order: Vec<SortKey>,
     /// How many rows are printed at most.
-    pub limit: Option<u32>,
+    pub limit: Option<u64>,
 }

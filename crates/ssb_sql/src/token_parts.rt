@@ -140,7 +140,7 @@ pub(crate) fn value_in<'a>(token: SqlToken<'a>) -> Option<Spelled<'a>>
     }
 }
 
-pub(crate) fn number_in<'a>(token: SqlToken<'a>) -> Option<u32>
+pub(crate) fn number_in<'a>(token: SqlToken<'a>) -> Option<u64>
     ensures { result ≡ spec.number_in token.entry }
 {
     match token {
@@ -154,7 +154,7 @@ pub(crate) fn amount_in<'a>(token: SqlToken<'a>) -> Option<u64>
     ensures { result ≡ spec.amount_in token.entry }
 {
     match token {
-        SqlToken::Value(Spelled::Number(number)) => Some(u64::from(number)),
+        SqlToken::Value(Spelled::Number(number)) => Some(number),
         SqlToken::Large(number) => Some(number),
         _ => None,
     }

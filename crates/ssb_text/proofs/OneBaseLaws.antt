@@ -94,8 +94,8 @@ abbrev date-of : List Value → DateFields
 date-of v = record {
   key = number-in v 0;
   field2 = text-in v 1;
-  field3 = text-in v 2;
-  field4 = text-in v 3;
+  day_of_week = text-in v 2;
+  month = text-in v 3;
   year = number-in v 4;
   year_month_number = number-in v 5;
   year_month = text-in v 6;
@@ -104,10 +104,10 @@ date-of v = record {
   field10 = text-in v 9;
   field11 = text-in v 10;
   week = number-in v 11;
-  field13 = text-in v 12;
+  selling_season = text-in v 12;
   field14 = text-in v 13;
   field15 = text-in v 14;
-  field16 = text-in v 15;
+  holiday_flag = text-in v 15;
   field17 = text-in v 16;
 }
 

@@ -16,8 +16,8 @@ use std::alloc::Global;
 struct FirstColumns {
     key: u64,
     field2: Text,
-    field3: Text,
-    field4: Text,
+    day_of_week: Text,
+    month: Text,
     year: u64,
     year_month_number: u64,
     year_month: Text,
@@ -31,10 +31,10 @@ struct LastColumns {
     field10: Text,
     field11: Text,
     week: u64,
-    field13: Text,
+    selling_season: Text,
     field14: Text,
     field15: Text,
-    field16: Text,
+    holiday_flag: Text,
     field17: Text,
 }
 
@@ -49,8 +49,8 @@ impl FirstColumns {
         Ok(FirstColumns {
             key: read_number(record, Column { table, place: 1 })?,
             field2: read_text(alloc, record, Column { table, place: 2 })?,
-            field3: read_text(alloc, record, Column { table, place: 3 })?,
-            field4: read_text(alloc, record, Column { table, place: 4 })?,
+            day_of_week: read_text(alloc, record, Column { table, place: 3 })?,
+            month: read_text(alloc, record, Column { table, place: 4 })?,
             year: read_number(record, Column { table, place: 5 })?,
             year_month_number: read_number(record, Column { table, place: 6 })?,
             year_month: read_text(alloc, record, Column { table, place: 7 })?,
@@ -72,10 +72,10 @@ impl LastColumns {
             field10: read_text(alloc, record, Column { table, place: 10 })?,
             field11: read_text(alloc, record, Column { table, place: 11 })?,
             week: read_number(record, Column { table, place: 12 })?,
-            field13: read_text(alloc, record, Column { table, place: 13 })?,
+            selling_season: read_text(alloc, record, Column { table, place: 13 })?,
             field14: read_text(alloc, record, Column { table, place: 14 })?,
             field15: read_text(alloc, record, Column { table, place: 15 })?,
-            field16: read_text(alloc, record, Column { table, place: 16 })?,
+            holiday_flag: read_text(alloc, record, Column { table, place: 16 })?,
             field17: read_text(alloc, record, Column { table, place: 17 })?,
         })
     }
@@ -88,8 +88,8 @@ impl RecordFields for DateFields {
         Ok(DateFields {
             key: first.key,
             field2: first.field2,
-            field3: first.field3,
-            field4: first.field4,
+            day_of_week: first.day_of_week,
+            month: first.month,
             year: first.year,
             year_month_number: first.year_month_number,
             year_month: first.year_month,
@@ -98,10 +98,10 @@ impl RecordFields for DateFields {
             field10: last.field10,
             field11: last.field11,
             week: last.week,
-            field13: last.field13,
+            selling_season: last.selling_season,
             field14: last.field14,
             field15: last.field15,
-            field16: last.field16,
+            holiday_flag: last.holiday_flag,
             field17: last.field17,
         })
     }

@@ -7,6 +7,7 @@ use Rattle.std.specs.Ordering.{is_eq}
 use Rattle.std.specs.Prelude.{nat_eq}
 use Rattle.std.proofs.lemmas.Cmp.{tied_itself}
 use Rattle.std.proofs.lemmas.Option.{none-some}
+use Rattle.ssb_questions.proofs.ColumnLaws.{at}
 use Rattle.ssb_questions.proofs.StarLaws.{groups_read}
 use Rattle.ssb_questions.specs.Members.{Has}
 use Rattle.ssb_questions.specs.Clause.{kind_in}
@@ -23,8 +24,9 @@ use Rattle.ssb_answers.specs.Answer.{group_of, groups_among, groups_cmp, in_grou
 use Rattle.ssb_answers.specs.Combination.{Combination, combinations, joined, joined_with, passes, value_at}
 use Rattle.ssb_answers.specs.declared.answer.ResultRow.{ResultRow}
 use Rattle.ssb_base.specs.Base.{Dimensions}
-use Rattle.ssb_schema.specs.Columns.{query_columns, C_CITY, C_NATION, C_REGION, S_CITY, S_NATION, S_REGION, P_MFGR}
-use Rattle.ssb_schema.specs.Columns.{P_CATEGORY, P_BRAND1, D_YEAR, D_YEARMONTHNUM, D_YEARMONTH, D_WEEKNUMINYEAR}
+use Rattle.ssb_schema.specs.Columns.{query_columns, C_CITY, C_NATION, C_REGION, C_MKTSEGMENT, S_CITY, S_NATION}
+use Rattle.ssb_schema.specs.Columns.{S_REGION, P_MFGR, P_CATEGORY, P_BRAND1, D_DATEKEY, D_DAYOFWEEK, D_MONTH, D_YEAR}
+use Rattle.ssb_schema.specs.Columns.{D_YEARMONTHNUM, D_YEARMONTH, D_WEEKNUMINYEAR, D_SELLINGSEASON, D_HOLIDAYFL}
 use Rattle.ssb_schema.specs.Rows.{customer_values, date_values, part_values, supplier_values}
 use Rattle.ssb_schema.specs.declared.column.Column.{Column}
 use Rattle.ssb_schema.specs.declared.fact.Fact.{Fact}
@@ -99,6 +101,9 @@ in-customer-nation c taken = (customer_fits c.customer taken.customer).1.1.1.1.0
 in-customer-region : (c : Combination) → IsTaken c → IsIn c C_REGION
 in-customer-region c taken = (customer_fits c.customer taken.customer).1.1.1.1.1.0
 
+in-segment : (c : Combination) → IsTaken c → IsIn c C_MKTSEGMENT
+in-segment c taken = (customer_fits c.customer taken.customer).1.1.1.1.1.1.1.0
+
 in-supplier-city : (c : Combination) → IsTaken c → IsIn c S_CITY
 in-supplier-city c taken = (supplier_fits c.supplier taken.supplier).1.1.1.0
 
@@ -117,6 +122,15 @@ in-category c taken = (part_fits c.part taken.part).1.1.1.0
 in-brand : (c : Combination) → IsTaken c → IsIn c P_BRAND1
 in-brand c taken = (part_fits c.part taken.part).1.1.1.1.0
 
+in-day : (c : Combination) → IsTaken c → IsIn c D_DATEKEY
+in-day c taken = let within = (date_fits c.date taken.date).0.0 in omega (arith, within)
+
+in-day-of-week : (c : Combination) → IsTaken c → IsIn c D_DAYOFWEEK
+in-day-of-week c taken = (date_fits c.date taken.date).1.1.0
+
+in-month-name : (c : Combination) → IsTaken c → IsIn c D_MONTH
+in-month-name c taken = (date_fits c.date taken.date).1.1.1.0
+
 in-year : (c : Combination) → IsTaken c → IsIn c D_YEAR
 in-year c taken = let within = (date_fits c.date taken.date).1.1.1.1.0.0 in omega (arith, within)
 
@@ -129,25 +143,19 @@ in-month c taken = (date_fits c.date taken.date).1.1.1.1.1.1.0
 in-week : (c : Combination) → IsTaken c → IsIn c D_WEEKNUMINYEAR
 in-week c taken = let within = (date_fits c.date taken.date).1.1.1.1.1.1.1.1.1.1.1.0.0 in omega (arith, within)
 
-so : (c : Combination) (column is : Column) → column ≡ is → IsIn c is → IsIn c column
-so c column is e fit = subst (IsIn c) (sym e) fit
+in-season : (c : Combination) → IsTaken c → IsIn c D_SELLINGSEASON
+in-season c taken = (date_fits c.date taken.date).1.1.1.1.1.1.1.1.1.1.1.1.0
+
+in-holiday : (c : Combination) → IsTaken c → IsIn c D_HOLIDAYFL
+in-holiday c taken = (date_fits c.date taken.date).1.1.1.1.1.1.1.1.1.1.1.1.1.1.1.0
+
+all-fit-in : (c : Combination) → IsTaken c → AllByRecursion (IsIn c) query_columns
+all-fit-in c taken =
+    (in-customer-city c taken, (in-customer-nation c taken, (in-customer-region c taken, (in-segment c taken, (in-supplier-city c taken, (in-supplier-nation c taken, (in-supplier-region c taken, (in-manufacturer c taken, (in-category c taken, (in-brand c taken, (in-day c taken, (in-day-of-week c taken, (in-month-name c taken, (in-year c taken, (in-month-number c taken, (in-month c taken, (in-week c taken, (in-season c taken, (in-holiday c taken, tt)))))))))))))))))))
 
 -- a combination has in each column that queries read what it holds
 each-fits : (c : Combination) → IsTaken c → (column : Column) → Has query_columns column → IsIn c column
-each-fits c taken column (inl e) = grind (arith, so, in-customer-city)
-each-fits c taken column (inr (inl e)) = grind (arith, so, in-customer-nation)
-each-fits c taken column (inr (inr (inl e))) = grind (arith, so, in-customer-region)
-each-fits c taken column (inr (inr (inr (inl e)))) = grind (arith, so, in-supplier-city)
-each-fits c taken column (inr (inr (inr (inr (inl e))))) = grind (arith, so, in-supplier-nation)
-each-fits c taken column (inr (inr (inr (inr (inr (inl e)))))) = grind (arith, so, in-supplier-region)
-each-fits c taken column (inr (inr (inr (inr (inr (inr (inl e))))))) = grind (arith, so, in-manufacturer)
-each-fits c taken column (inr (inr (inr (inr (inr (inr (inr (inl e)))))))) = grind (arith, so, in-category)
-each-fits c taken column (inr (inr (inr (inr (inr (inr (inr (inr (inl e))))))))) = grind (arith, so, in-brand)
-each-fits c taken column (inr (inr (inr (inr (inr (inr (inr (inr (inr (inl e)))))))))) = grind (arith, so, in-year)
-each-fits c taken column (inr (inr (inr (inr (inr (inr (inr (inr (inr (inr (inl e))))))))))) = grind (arith, so, in-month-number)
-each-fits c taken column (inr (inr (inr (inr (inr (inr (inr (inr (inr (inr (inr (inl e)))))))))))) = grind (arith, so, in-month)
-each-fits c taken column (inr (inr (inr (inr (inr (inr (inr (inr (inr (inr (inr (inr (inl e))))))))))))) = grind (arith, so, in-week)
-each-fits c taken column (inr (inr (inr (inr (inr (inr (inr (inr (inr (inr (inr (inr (inr none))))))))))))) = grind arith
+each-fits c taken column has = at (IsIn c) query_columns column (all-fit-in c taken) has
 
 -- and so it has in the group columns of a question
 columns-fit : (c : Combination) → IsTaken c → (columns : List Column) → AllByRecursion (Has query_columns) columns

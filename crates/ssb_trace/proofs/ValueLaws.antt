@@ -1,5 +1,5 @@
 -- The constants of a question and the group columns of a row are read back.
-use Rattle.std.proofs.Common.{suc, ltb-false, lt-ltb, eqb-true, ◌≡◌, ℕ, ◌+◌, ◌^◌, ◌≤◌, Bool, true, false, not, nat_eq}
+use Rattle.std.proofs.Common.{suc, ltb-false, eqb-true, ◌≡◌, ℕ, ◌+◌, ◌≤◌, Bool, true, false, not, nat_eq}
 use Rattle.std.proofs.Common.{nat_lt, List, [], ◌∷◌, ◌++◌, length, map, zip, position, Option, Some, None, option_map}
 use Rattle.std.proofs.Common.{refl, sym, ap, ◌∙◌, append_assoc, length-append, arith, inl, inr}
 use Rattle.std.specs.List.{AllByRecursion, AllZip, position_or_len}
@@ -24,13 +24,13 @@ use Rattle.ssb_text.proofs.RecordTextLaws.{IsPlainField}
 -- one value
 value-kept : (k : ConstantKind) (v : Value) → IsGroup k v → IsKept (value_text v)
 value-kept (kind.Text column) (value.Text bytes) fit = text_kept bytes fit.0
-value-kept kind.Number (value.Number n) fit = number_kept n (omega (arith, fit))
+value-kept kind.Number (value.Number n) fit = number_kept n fit
 value-kept (kind.Text column) (value.Number n) fit = absurd fit
 value-kept kind.Number (value.Text bytes) fit = absurd fit
 
 value-read : (k : ConstantKind) (v : Value) → IsGroup k v → constant_spelled k (value_text v) ≡ Some v
 value-read (kind.Text column) (value.Text bytes) fit = ap (option_map value.Text) (text_read bytes fit.1)
-value-read kind.Number (value.Number n) fit = rw (number_read n (omega (arith, fit)), lt-ltb n (2 ^ 32) fit) refl
+value-read kind.Number (value.Number n) fit = ap (option_map value.Number) (number_read n fit)
 value-read (kind.Text column) (value.Number n) fit = absurd fit
 value-read kind.Number (value.Text bytes) fit = absurd fit
 

@@ -47,20 +47,20 @@ pub record IsAllowedCommit (commit : CommitRecord) : Type 0 where
   pub whole : IsWholeRequest (Refresh commit.actions)
   pub actions : AllByRecursion IsAllowedAction commit.actions
 
--- a text is UTF-8, and a number has 32 bits
+-- a text is UTF-8, and a number has 64 bits
 abbrev pub IsAllowedValue : Value → Type 0
 IsAllowedValue (value.Text text) = IsUtf8 text
-IsAllowedValue (value.Number number) = number < 2 ^ 32
+IsAllowedValue (value.Number number) = number < 2 ^ 64
 
 -- a question whose constants its query takes
 pub record IsAllowedQuestion (question : Query × List Value) : Type 0 where
   pub taken : constants_fault question.0 question.1 ≡ None
   pub constants : AllByRecursion IsAllowedValue question.1
 
--- what a group column may hold: a text that a table file can hold as it is, or a number of 32 bits
+-- what a group column may hold: a text that a table file can hold as it is, or a number of 64 bits
 abbrev pub IsGroup : ConstantKind → Value → Type 0
 IsGroup (constant.Text column) (value.Text text) = (is_plain text ≡ true) × IsUtf8 text
-IsGroup constant.Number (value.Number number) = number < 2 ^ 32
+IsGroup constant.Number (value.Number number) = number < 2 ^ 64
 IsGroup (constant.Text column) (value.Number number) = ⊥
 IsGroup constant.Number (value.Text text) = ⊥
 

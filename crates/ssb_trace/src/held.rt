@@ -14,7 +14,7 @@ use ssb_audit::{Told, Trace};
 use ssb_base::Base;
 use ssb_questions::{Question, Value};
 
-// A constant of a question: its text is UTF-8, its number has 32 bits.
+// A constant of a question: its text is UTF-8, its number has 64 bits.
 fn value_is_allowed(constant: &Value)
     ensures { IsAllowedValue constant.now }
 {

@@ -17,7 +17,7 @@ offset_bounds-columns-kept_at c =
     let base = c.args.base.now in
     let within = slice_get_within (map (values_of base) kept_columns) c.kept_at.result (values_of base c.args.column)
     (c.kept_at.ensures base) in
-    let below : c.kept_at.result < 18 = within in
+    let below : c.kept_at.result < 24 = within in
     omega (arith, below)
 
 pub returns : goal.returns

@@ -2,8 +2,8 @@ use Rattle.std.proofs.Common.{◌∙◌, map, sym}
 use Rattle.ssb_questions.proofs.ClauseLaws.{gives_of, gives_none_of}
 use Rattle.ssb_questions.specs.ClauseSaid.{said}
 use Rattle.ssb_questions.specs.Star as spec
-use Rattle.ssb_questions.proofs.star.tests.Goals as goal
-use Rattle.ssb_questions.proofs.star.tests.Goals.{in-Some+in_ok-push, in_default}
+use Rattle.ssb_questions.proofs.star.asked.Goals as goal
+use Rattle.ssb_questions.proofs.star.asked.Goals.{in-Some+in_ok-push, in_default}
 
 pub loop-column-preserved : goal.loop-column-preserved
 loop-column-preserved c =
