@@ -9,8 +9,8 @@ import re
 
 from stars import COLUMNS, DIMENSIONS, GREATEST, LINE_COLUMNS, NUMBER_COLUMNS, Stars
 
-ADDED = [["lo_revenue"], ["lo_quantity"], ["lo_revenue", "-", "lo_supplycost"], ["lo_extendedprice", "*", "lo_discount"],
-         ["lo_discount", "*", "lo_extendedprice"]]
+ADDED = [["lo_revenue"], ["lo_quantity"], ["lo_extendedprice"], ["lo_supplycost"], ["lo_revenue", "-", "lo_supplycost"],
+         ["lo_extendedprice", "*", "lo_discount"], ["lo_discount", "*", "lo_extendedprice"]]
 COUNT = ["count", "(", "*", ")"]
 AGGREGATES = [[word, "(", *added, ")"] for word in ("sum", "sum", "avg") for added in ADDED]
 AGGREGATES += [COUNT, COUNT, COUNT, ["nullif", "(", *COUNT, ",", "0", ")"]]
@@ -205,12 +205,12 @@ class Statements:
         if name in LINE_COLUMNS:
             tests = [self.line_values(name)] if self.chance(0.4) else self.ends(name)
             if self.chance(0.1):
-                return [[*self.tested(name), self.random.choice(["<>", "!="]), self.least(name)]]
+                return [self.other_than(name, [self.least(name)])]
         else:
             tests = [self.values(name)] if self.chance(0.6) else self.ends(name)
-            if self.chance(0.15):
-                value = self.literal(name, self.value(name))
-                return [self.values(name), [*self.tested(name), self.random.choice(["<>", "!="]), value]]
+            if self.chance(0.3):
+                kept = tests if self.chance(0.5) else []
+                return kept + [self.left_out(name) for _ in range(self.random.choice([1, 1, 2]))]
         if self.chance(0.25):
             tests += self.ends(name) if self.chance(0.5) or name in LINE_COLUMNS else [self.values(name)]
         return tests
@@ -246,6 +246,16 @@ class Statements:
     def values(self, name):
         values = [self.value(name) for _ in range(self.random.choice([1, 1, 2, 2, 3, 5, 12]))]
         return self.one_of(name, values)
+
+    def other_than(self, name, literals):
+        """Each of these is left out."""
+        if len(literals) == 1 and self.chance(0.6):
+            return [*self.tested(name), self.random.choice(["<>", "!="]), literals[0]]
+        return [*self.tested(name), "not", "in", "(", *parted([[literal] for literal in literals], ","), ")"]
+
+    def left_out(self, name):
+        values = [self.value(name) for _ in range(self.random.choice([1, 1, 2, 3, 6]))]
+        return self.other_than(name, [self.literal(name, value) for value in values])
 
     def line_values(self, name):
         """Numbers with no other between them: those of a line are tested by a range."""

@@ -43,12 +43,11 @@ impl<'a> StatementHelp<'a> {
     fn said(&self) -> &'static str {
         match self {
             StatementHelp::BadToken(_) => {
-                "there is no such word, text or number; texts stand between ', and numbers are whole, at most 4294967295, or \
-                 18446744073709551615 behind HAVING"
+                "there is no such word, text or number; texts stand between ', and numbers are whole, at most \
+                 18446744073709551615, or 4294967295 behind LIMIT"
             }
             StatementHelp::NotEqual =>
-                "<> and != stand where values of the column, or all numbers of one range, are left; take these by IN, or by \
-                 BETWEEN",
+                "<>, != and NOT IN of a number of a line stand where all numbers of one range are left; take these by BETWEEN",
             StatementHelp::Unexpected(_) => {
                 "this may not stand there; the order is SELECT, FROM, WHERE, GROUP BY, HAVING, ORDER BY, LIMIT"
             }
@@ -57,11 +56,12 @@ impl<'a> StatementHelp<'a> {
             StatementHelp::NotSupported(_) =>
                 "this is not in the SQL that is read here, or not there",
             StatementHelp::Words => {
-                "a statement has SELECT, SUM, AVG, COUNT(*), FROM, JOIN, ON, WHERE, AND, OR of one column, IN, BETWEEN, = \
-                 <> < <= > >=, GROUP BY, HAVING, ORDER BY, LIMIT; for others, export writes the tables"
+                "a statement has SELECT, SUM, AVG, COUNT(*), FROM, JOIN, ON, WHERE, AND, OR of one column, [NOT] IN, BETWEEN, = \
+                 <> < <= > >=, GROUP BY, HAVING, ORDER BY, LIMIT; else export writes the tables"
             }
             StatementHelp::Sums => {
-                "sums and averages are of LO_REVENUE, LO_QUANTITY, LO_REVENUE - LO_SUPPLYCOST and LO_EXTENDEDPRICE * LO_DISCOUNT"
+                "sums and averages are of LO_REVENUE, LO_QUANTITY, LO_EXTENDEDPRICE, LO_SUPPLYCOST, LO_REVENUE - LO_SUPPLYCOST \
+                 and LO_EXTENDEDPRICE * LO_DISCOUNT"
             }
             StatementHelp::UnknownName(_) => {
                 "nothing there has this name; behind ORDER BY stands what is printed, its name or its place, before a \

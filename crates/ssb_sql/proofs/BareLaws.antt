@@ -33,6 +33,8 @@ use Rattle.ssb_sql.specs.declared.state.InTests.{InTests}
 use Rattle.ssb_sql.specs.declared.state.InTests.TheVariants as c
 use Rattle.ssb_sql.specs.declared.state.InValues.{InValues}
 use Rattle.ssb_sql.specs.declared.state.InValues.TheVariants as vs
+use Rattle.ssb_sql.specs.declared.state.Listing.{Listing}
+use Rattle.ssb_sql.specs.declared.state.Listing.TheVariants as listing
 use Rattle.ssb_sql.specs.declared.state.Purpose.{Purpose}
 use Rattle.ssb_sql.specs.declared.state.Purpose.TheVariants.{Printing, Keeping, Ordering}
 use Rattle.ssb_sql.specs.declared.state.State.{State}
@@ -74,6 +76,7 @@ on_word _ word taken same = refl
 on_key : (token : SqlToken) (own : Table) (taken : Option SqlStep) → Taken taken ≡ taken
     → spec.on_key (bare_token token) own taken ≡ Taken (spec.on_key token own taken)
 on_key (k.Key other) own taken same = if_taken (spec.same_table own other) taken same
+on_key (k.Column column) own taken same = if_taken (spec.is_key_of own column) taken same
 on_key _ own taken same = refl
 
 on_line_key : (token : SqlToken) (own : Table) (taken : Option SqlStep) → Taken taken ≡ taken
@@ -84,6 +87,7 @@ on_line_key _ own taken same = refl
 and_value : (f g : Spelled → Option SqlStep) → ((v : Spelled) → g (bare_value v) ≡ Taken (f v)) → (token : SqlToken)
     → option_and_then g (spec.value_in (bare_token token)) ≡ Taken (option_and_then f (spec.value_in token))
 and_value f g same (k.Value v) = same v
+and_value f g same (k.Large n) = same (spelled.Number n)
 and_value f g same _ = refl
 
 and_name : (f : Bor (List ℕ) → Option SqlStep) → ((name : Bor (List ℕ)) → f (bare name) ≡ Taken (f name))
@@ -163,15 +167,23 @@ behind_revenue purpose adding m.Close = closed purpose (spec.computed adding mea
 behind_revenue purpose adding m.Minus = refl
 behind_revenue purpose adding _ = refl
 
+behind_price : (purpose : Purpose) (adding : Adding) (mark : Mark)
+    → Taken (spec.behind_price purpose adding mark) ≡ spec.behind_price purpose adding mark
+behind_price purpose adding m.Close = closed purpose (spec.computed adding measure.ExtendedPrice)
+behind_price purpose adding m.Star = refl
+behind_price purpose adding _ = refl
+
 behind_added : (purpose : Purpose) (adding : Adding) (column : LineColumn) (token : SqlToken)
     → spec.behind_added purpose adding column (bare_token token) ≡ Taken (spec.behind_added purpose adding column token)
 behind_added purpose adding Revenue token =
     and_mark (spec.behind_revenue purpose adding) (behind_revenue purpose adding) token
 behind_added purpose adding Quantity token =
     on_mark token m.Close _ (closed purpose (spec.computed adding measure.Quantity))
-behind_added purpose adding ExtendedPrice token = on_mark token m.Star _ refl
+behind_added purpose adding ExtendedPrice token =
+    and_mark (spec.behind_price purpose adding) (behind_price purpose adding) token
+behind_added purpose adding SupplyCost token =
+    on_mark token m.Close _ (closed purpose (spec.computed adding measure.SupplyCost))
 behind_added purpose adding Discount token = on_mark token m.Star _ refl
-behind_added purpose adding _ token = refl
 
 behind_minus : (purpose : Purpose) (adding : Adding) (column : LineColumn)
     → Taken (spec.behind_minus purpose adding column) ≡ spec.behind_minus purpose adding column
@@ -280,6 +292,7 @@ behind_table _ = refl
 join_key : (token : SqlToken) → spec.join_key (bare_token token) ≡ Taken (spec.join_key token)
 join_key (k.Key own) = refl
 join_key (k.LineKey own) = refl
+join_key (k.Column column) = if_taken (eqb column.place 1) (spec.tables (t.EqualKey column.table)) refl
 join_key _ = refl
 
 in_tables : (at : InTables) (token : SqlToken) → spec.in_tables at (bare_token token) ≡ Taken (spec.in_tables at token)
@@ -312,6 +325,7 @@ behind_tested o (k.Mark m.Greater) = refl
 behind_tested o (k.Mark m.GreaterOrEqual) = refl
 behind_tested o (k.Word w.Between) = refl
 behind_tested o (k.Word w.In) = refl
+behind_tested o (k.Word w.Not) = refl
 behind_tested o (k.Word w.ByBytes) = refl
 behind_tested o _ = refl
 
@@ -324,27 +338,39 @@ behind_test (k.Word w.Limit) = refl
 behind_test (k.Mark m.Semicolon) = refl
 behind_test _ = refl
 
-behind_value : (o : Operand) (token : SqlToken)
-    → spec.behind_value o (bare_token token) ≡ Taken (spec.behind_value o token)
-behind_value o (k.Mark m.Comma) = refl
-behind_value o (k.Mark m.Close) = refl
-behind_value o _ = refl
+behind_value : (o : Operand) (how : Listing) (token : SqlToken)
+    → spec.behind_value o how (bare_token token) ≡ Taken (spec.behind_value o how token)
+behind_value o how (k.Mark m.Comma) = refl
+behind_value o how (k.Mark m.Close) = refl
+behind_value o how _ = refl
 
 behind_choice : (token : SqlToken) → spec.behind_choice (bare_token token) ≡ Taken (spec.behind_choice token)
 behind_choice (k.Word w.Or) = refl
 behind_choice (k.Mark m.Close) = refl
 behind_choice _ = refl
 
-in_values : (o : Operand) (at : InValues) (token : SqlToken)
-    → spec.in_values o at (bare_token token) ≡ Taken (spec.in_values o at token)
-in_values o vs.Open token = on_mark token m.Open _ refl
-in_values o vs.First token =
-    and_value (λ x. spec.tests_say (c.Values o vs.Listed) (piece.Is o x))
-    (λ x. spec.tests_say (c.Values o vs.Listed) (piece.Is o x)) (λ v. refl) token
-in_values o vs.Listed token = behind_value o token
-in_values o vs.Next token =
-    and_value (λ x. spec.tests_say (c.Values o vs.Listed) (piece.OrIs o x))
-    (λ x. spec.tests_say (c.Values o vs.Listed) (piece.OrIs o x)) (λ v. refl) token
+first_said : (how : Listing) (o : Operand) (v : Spelled)
+    → spec.first_said how o (bare_value v) ≡ bare_piece (spec.first_said how o v)
+first_said listing.OneOf o v = refl
+first_said listing.NoneOf o v = refl
+
+next_said : (how : Listing) (o : Operand) (v : Spelled)
+    → spec.next_said how o (bare_value v) ≡ bare_piece (spec.next_said how o v)
+next_said listing.OneOf o v = refl
+next_said listing.NoneOf o v = refl
+
+in_values : (o : Operand) (how : Listing) (at : InValues) (token : SqlToken)
+    → spec.in_values o how at (bare_token token) ≡ Taken (spec.in_values o how at token)
+in_values o how vs.Open token = on_mark token m.Open _ refl
+in_values o how vs.First token =
+    and_value (λ x. spec.tests_say (c.Values o how vs.Listed) (spec.first_said how o x))
+    (λ x. spec.tests_say (c.Values o how vs.Listed) (spec.first_said how o x))
+    (λ v. ap (spec.tests_say (c.Values o how vs.Listed)) (first_said how o v)) token
+in_values o how vs.Listed token = behind_value o how token
+in_values o how vs.Next token =
+    and_value (λ x. spec.tests_say (c.Values o how vs.Listed) (spec.next_said how o x))
+    (λ x. spec.tests_say (c.Values o how vs.Listed) (spec.next_said how o x))
+    (λ v. ap (spec.tests_say (c.Values o how vs.Listed)) (next_said how o v)) token
 
 in_choice : (at : InChoice) (token : SqlToken) → spec.in_choice at (bare_token token) ≡ Taken (spec.in_choice at token)
 in_choice ch.Open token = and_tested (λ o. spec.choice (ch.Tested o)) (λ o. refl) token
@@ -370,6 +396,12 @@ to_comes : (o : Operand) (from : Spelled) (token : SqlToken)
 to_comes o from (k.Word own) = either (eqb (spec.word_code own) (spec.word_code w.And)) o from
 to_comes o from _ = refl
 
+equal : (o : Operand) (token : SqlToken) → spec.equal o (bare_token token) ≡ Taken (spec.equal o token)
+equal o (k.LineKey own) = if_taken (spec.is_key own o) (spec.tested_by (piece.Joined own)) refl
+equal o (k.Value v) = refl
+equal o (k.Large n) = refl
+equal o _ = refl
+
 in_tests : (at : InTests) (token : SqlToken)
     → spec.in_tests (bare_tests at) (bare_token token) ≡ Taken (spec.in_tests at token)
 in_tests c.Test token = test token
@@ -379,8 +411,7 @@ in_tests (c.EqualLineKey own) token = on_mark token m.Equal _ refl
 in_tests (c.Key own) token = on_key token own _ refl
 in_tests (c.LineKey own) token = on_line_key token own _ refl
 in_tests (c.Tested o) token = behind_tested o token
-in_tests (c.Equal o) token =
-    and_value (λ x. spec.tested_by (piece.Is o x)) (λ x. spec.tested_by (piece.Is o x)) (λ v. refl) token
+in_tests (c.Equal o) token = equal o token
 in_tests (c.Stands o how) token =
     and_value (λ x. spec.tested_by (piece.Stands o how x)) (λ x. spec.tested_by (piece.Stands o how x)) (λ v. refl)
     token
@@ -390,7 +421,8 @@ in_tests (c.And o from) token = to_comes o from token
 in_tests (c.To o from) token =
     and_value (λ to. spec.tested_by (piece.Between o from to))
     (λ to. spec.tested_by (piece.Between o (bare_value from) to)) (λ v. refl) token
-in_tests (c.Values o at) token = in_values o at token
+in_tests (c.Not o) token = on_word token w.In _ refl
+in_tests (c.Values o how at) token = in_values o how at token
 in_tests (c.Choice at) token = in_choice at token
 
 behind_group : (token : SqlToken) → spec.behind_group (bare_token token) ≡ Taken (spec.behind_group token)

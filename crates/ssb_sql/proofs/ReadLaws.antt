@@ -8,10 +8,11 @@ use Rattle.ssb_questions.specs.declared.clause.Spelled.TheVariants as spelled
 use Rattle.ssb_sql.specs.Laws.{StatementsAreRead}
 use Rattle.ssb_sql.specs.Reading.{Outcome, run, say}
 use Rattle.ssb_sql.specs.Select.{Added, Revenue, RevenueLessCost, PriceTimesDiscount, DiscountTimesPrice, Quantity}
+use Rattle.ssb_sql.specs.Select.{ExtendedPrice, SupplyCost, key_token, excluded_say}
 use Rattle.ssb_sql.specs.Select.{Computed, SumOf, AverageOf, CountOfLines, CountOrNull}
 use Rattle.ssb_sql.specs.Select.{Item, Plain, PlainNamed, PlainNamedAs, Total, Named, NamedAs, Name}
 use Rattle.ssb_sql.specs.Select.{Source, Beside, JoinedOn, JoinedOnTurned}
-use Rattle.ssb_sql.specs.Select.{Condition, Joins, JoinsTurned, Compares, LiesBetween, OneOf, Choice}
+use Rattle.ssb_sql.specs.Select.{Condition, Joins, JoinsTurned, Compares, LiesBetween, OneOf, NoneOf, Choice}
 use Rattle.ssb_sql.specs.Select.{Amount, Small, Great, Having}
 use Rattle.ssb_sql.specs.Select.{By, ByColumn, ByName, ByPlace, ByAggregate, Direction, Unsaid, Upwards, Downwards, Key}
 use Rattle.ssb_sql.specs.Select.{added_then, computed_then, item_then, items_then, sources_then, operand_token}
@@ -40,6 +41,7 @@ use Rattle.ssb_sql.specs.declared.state.InList.TheVariants as l
 use Rattle.ssb_sql.specs.declared.state.InTables.TheVariants as t
 use Rattle.ssb_sql.specs.declared.state.InTests.TheVariants as c
 use Rattle.ssb_sql.specs.declared.state.InValues.TheVariants as vs
+use Rattle.ssb_sql.specs.declared.state.Listing.TheVariants as listing
 use Rattle.ssb_sql.specs.declared.state.Purpose.{Purpose}
 use Rattle.ssb_sql.specs.declared.state.Purpose.TheVariants.{Printing, Keeping, Ordering}
 use Rattle.ssb_sql.specs.declared.state.State.{State}
@@ -65,16 +67,22 @@ added_read Printing adds RevenueLessCost rest = refl
 added_read Printing adds PriceTimesDiscount rest = refl
 added_read Printing adds DiscountTimesPrice rest = refl
 added_read Printing adds Quantity rest = refl
+added_read Printing adds ExtendedPrice rest = refl
+added_read Printing adds SupplyCost rest = refl
 added_read Keeping adds Revenue rest = refl
 added_read Keeping adds RevenueLessCost rest = refl
 added_read Keeping adds PriceTimesDiscount rest = refl
 added_read Keeping adds DiscountTimesPrice rest = refl
 added_read Keeping adds Quantity rest = refl
+added_read Keeping adds ExtendedPrice rest = refl
+added_read Keeping adds SupplyCost rest = refl
 added_read Ordering adds Revenue rest = refl
 added_read Ordering adds RevenueLessCost rest = refl
 added_read Ordering adds PriceTimesDiscount rest = refl
 added_read Ordering adds DiscountTimesPrice rest = refl
 added_read Ordering adds Quantity rest = refl
+added_read Ordering adds ExtendedPrice rest = refl
+added_read Ordering adds SupplyCost rest = refl
 
 -- where an aggregate comes
 abbrev coming : Purpose → State
@@ -146,7 +154,7 @@ items_read (NamedAs m name) (j ∷ js) rest ps h =
 
 -- the second key of a join
 key_joins : (own : Table) (rest : List SqlToken)
-    → run (k.Key own ∷ rest) (state.Tables (t.Key2 own)) ≡ say (piece.Joined own) (run rest (state.Tables t.Behind))
+    → run (key_token own ∷ rest) (state.Tables (t.Key2 own)) ≡ say (piece.Joined own) (run rest (state.Tables t.Behind))
 key_joins Customer rest = refl
 key_joins Supplier rest = refl
 key_joins Part rest = refl
@@ -154,7 +162,7 @@ key_joins Date rest = refl
 key_joins Lineorder rest = refl
 
 line_key_joins : (own : Table) (rest : List SqlToken)
-    → run (k.LineKey own ∷ rest) (state.Tables (t.LineKey2 own))
+    → run (key_token own ∷ k.Mark m.Equal ∷ k.LineKey own ∷ rest) (state.Tables t.Key)
     ≡ say (piece.Joined own) (run rest (state.Tables t.Behind))
 line_key_joins Customer rest = refl
 line_key_joins Supplier rest = refl
@@ -217,7 +225,7 @@ compared o comparison.GreaterOrEqual v rest = refl
 
 -- the key that ends a join
 key_tests : (own : Table) (rest : List SqlToken)
-    → run (k.Key own ∷ rest) (state.Tests (c.Key own)) ≡ say (piece.Joined own) (run rest (state.Tests c.Behind))
+    → run (key_token own ∷ rest) (state.Tests (c.Key own)) ≡ say (piece.Joined own) (run rest (state.Tests c.Behind))
 key_tests Customer rest = refl
 key_tests Supplier rest = refl
 key_tests Part rest = refl
@@ -225,7 +233,7 @@ key_tests Date rest = refl
 key_tests Lineorder rest = refl
 
 line_key_tests : (own : Table) (rest : List SqlToken)
-    → run (k.LineKey own ∷ rest) (state.Tests (c.LineKey own))
+    → run (key_token own ∷ k.Mark m.Equal ∷ k.LineKey own ∷ rest) (state.Tests c.Test)
     ≡ say (piece.Joined own) (run rest (state.Tests c.Behind))
 line_key_tests Customer rest = refl
 line_key_tests Supplier rest = refl
@@ -235,9 +243,18 @@ line_key_tests Lineorder rest = refl
 
 values_read : (o : Operand) (values : List Spelled) (rest : List SqlToken) (ps : List SqlPiece)
     → run rest (state.Tests c.Behind) ≡ Ok ps
-    → run (values_then values (k.Mark m.Close ∷ rest)) (state.Tests (c.Values o vs.Listed)) ≡ Ok (values_say o values ps)
+    → run (values_then values (k.Mark m.Close ∷ rest)) (state.Tests (c.Values o listing.OneOf vs.Listed))
+    ≡ Ok (values_say o values ps)
 values_read o [] rest ps h = h
 values_read o (v ∷ values) rest ps h = ap (say (piece.OrIs o v)) (values_read o values rest ps h)
+
+excluded_read : (o : Operand) (values : List Spelled) (rest : List SqlToken) (ps : List SqlPiece)
+    → run rest (state.Tests c.Behind) ≡ Ok ps
+    → run (values_then values (k.Mark m.Close ∷ rest)) (state.Tests (c.Values o listing.NoneOf vs.Listed))
+    ≡ Ok (excluded_say o values ps)
+excluded_read o [] rest ps h = h
+excluded_read o (v ∷ values) rest ps h =
+    ap (say (piece.Stands o comparison.NotEqual v)) (excluded_read o values rest ps h)
 
 choices_read : (choices : List (Operand × Spelled)) (rest : List SqlToken) (ps : List SqlPiece)
     → run rest (state.Tests c.Behind) ≡ Ok ps
@@ -262,6 +279,10 @@ condition_read (OneOf by_bytes o v values) rest ps h =
     tested_read by_bytes o
     (k.Word w.In ∷ k.Mark m.Open ∷ k.Value v ∷ values_then values (k.Mark m.Close ∷ rest))
     ∙ ap (say (piece.Is o v)) (values_read o values rest ps h)
+condition_read (NoneOf by_bytes o v values) rest ps h =
+    tested_read by_bytes o
+    (k.Word w.Not ∷ k.Word w.In ∷ k.Mark m.Open ∷ k.Value v ∷ values_then values (k.Mark m.Close ∷ rest))
+    ∙ ap (say (piece.Stands o comparison.NotEqual v)) (excluded_read o values rest ps h)
 condition_read (Choice o v choices) rest ps h =
     open_read o (k.Mark m.Equal ∷ k.Value v ∷ choices_then choices (k.Mark m.Close ∷ rest))
     ∙ ap (say (piece.Is o v)) (choices_read choices rest ps h)

@@ -13,7 +13,8 @@ use Rattle.ssb_sql.specs.Said.{group_said, groups_said, limit_said, most_said}
 use Rattle.ssb_sql.specs.Select.{Name, Select, aggregate_of, number_of}
 use Rattle.ssb_sql.specs.Select.{Item, Plain, PlainNamed, PlainNamedAs, Total, Named, NamedAs}
 use Rattle.ssb_sql.specs.Select.{Source, Beside, JoinedOn, JoinedOnTurned, Having}
-use Rattle.ssb_sql.specs.Select.{Condition, Joins, JoinsTurned, Compares, LiesBetween, OneOf, Choice}
+use Rattle.ssb_sql.specs.Select.{Condition, Joins, JoinsTurned, Compares, LiesBetween, OneOf, NoneOf, Choice}
+use Rattle.ssb_sql.specs.Select.{excluded_say}
 use Rattle.ssb_sql.specs.Select.{By, ByColumn, ByName, ByPlace, ByAggregate, Direction, Unsaid, Upwards, Downwards, Key}
 use Rattle.ssb_sql.specs.Select.{item_says, items_say, source_says, sources_say, values_say, choices_say, condition_says, compared_piece}
 use Rattle.ssb_sql.specs.Select.{conditions_say, groups_say, having_says, by_piece, direction_says, keys_say, limit_says}
@@ -113,6 +114,12 @@ module _ {X : Type 0} (f : SqlPiece → Option X) (no : Ignores f) where
   values_no o [] rest = refl
   values_no o (v ∷ values) rest = skip f _ (values_say o values rest) (no.or_is o v) ∙ values_no o values rest
 
+  excluded_no : (o : Operand) (values : List Spelled) (rest : List SqlPiece)
+      → filter_map f (excluded_say o values rest) ≡ filter_map f rest
+  excluded_no o [] rest = refl
+  excluded_no o (v ∷ values) rest =
+      skip f _ (excluded_say o values rest) (no.stands o comparison.NotEqual v) ∙ excluded_no o values rest
+
   choices_no : (choices : List (Operand × Spelled)) (rest : List SqlPiece)
       → filter_map f (choices_say choices rest) ≡ filter_map f rest
   choices_no [] rest = refl
@@ -134,6 +141,8 @@ module _ {X : Type 0} (f : SqlPiece → Option X) (no : Ignores f) where
   condition_no (LiesBetween by_bytes o from to) rest = skip f _ rest (no.between o from to)
   condition_no (OneOf by_bytes o v values) rest =
       skip f _ (values_say o values rest) (no.is o v) ∙ values_no o values rest
+  condition_no (NoneOf by_bytes o v values) rest =
+      skip f _ (excluded_say o values rest) (no.stands o comparison.NotEqual v) ∙ excluded_no o values rest
   condition_no (Choice o v choices) rest = skip f _ (choices_say choices rest) (no.is o v) ∙ choices_no choices rest
 
   conditions_no : (conditions : List Condition) (rest : List SqlPiece)

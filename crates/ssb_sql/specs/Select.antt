@@ -2,7 +2,9 @@
 use Rattle.std.specs.Prelude.{ℕ, Bool, true, false, List, [], ◌∷◌, Option, None, Some}
 use Rattle.std.specs.Borrow.{Bor}
 use Rattle.ssb_schema.specs.declared.column.Column.{Column}
+use Rattle.ssb_schema.specs.Columns.{D_DATEKEY}
 use Rattle.ssb_schema.specs.declared.table.Table.{Table}
+use Rattle.ssb_schema.specs.declared.table.Table.TheVariants.{Customer, Supplier, Part, Date, Lineorder}
 use Rattle.ssb_questions.specs.declared.clause.Spelled.{Spelled}
 use Rattle.ssb_questions.specs.declared.clause.Spelled.TheVariants as spelled
 use Rattle.ssb_questions.specs.declared.plan.Measure.{Measure}
@@ -32,6 +34,8 @@ pub data Added : Type 0 where
   PriceTimesDiscount : Added
   DiscountTimesPrice : Added
   Quantity : Added
+  ExtendedPrice : Added
+  SupplyCost : Added
 
 -- an aggregate, as it is written
 pub data Computed : Type 0 where
@@ -55,14 +59,15 @@ pub data Source : Type 0 where
   JoinedOn : Bool → Table → Source
   JoinedOnTurned : Bool → Table → Source
 
--- a condition, whose values are compared by bytes where COLLATE says so; that of a list has one value or more, and so
--- has a choice, which names what is tested each time
+-- a condition, whose values are compared by bytes where COLLATE says so; that of a list, behind IN or NOT IN, has one
+-- value or more, and so has a choice, which names what is tested each time
 pub data Condition : Type 0 where
   Joins : Table → Condition
   JoinsTurned : Table → Condition
   Compares : Bool → Operand → Comparison → Spelled → Condition
   LiesBetween : Bool → Operand → Spelled → Spelled → Condition
   OneOf : Bool → Operand → Spelled → List Spelled → Condition
+  NoneOf : Bool → Operand → Spelled → List Spelled → Condition
   Choice : Operand → Spelled → List (Operand × Spelled) → Condition
 
 -- a number that an aggregate is compared with: of 32 bits, or greater
@@ -117,6 +122,8 @@ added_then PriceTimesDiscount rest =
 added_then DiscountTimesPrice rest =
     k.Mark m.Open ∷ k.Line line.Discount ∷ k.Mark m.Star ∷ k.Line line.ExtendedPrice ∷ k.Mark m.Close ∷ rest
 added_then Quantity rest = k.Mark m.Open ∷ k.Line line.Quantity ∷ k.Mark m.Close ∷ rest
+added_then ExtendedPrice rest = k.Mark m.Open ∷ k.Line line.ExtendedPrice ∷ k.Mark m.Close ∷ rest
+added_then SupplyCost rest = k.Mark m.Open ∷ k.Line line.SupplyCost ∷ k.Mark m.Close ∷ rest
 
 abbrev pub count_then : List SqlToken → List SqlToken
 count_then rest = k.Word w.Count ∷ k.Mark m.Open ∷ k.Mark m.Star ∷ k.Mark m.Close ∷ rest
@@ -141,6 +148,14 @@ abbrev pub items_then : List Item → List SqlToken → List SqlToken
 items_then [] rest = rest
 items_then (item ∷ items) rest = k.Mark m.Comma ∷ item_then item (items_then items rest)
 
+-- the key of a dimension's rows; that of the days is a column that questions read
+abbrev pub key_token : Table → SqlToken
+key_token Customer = k.Key Customer
+key_token Supplier = k.Key Supplier
+key_token Part = k.Key Part
+key_token Date = k.Column D_DATEKEY
+key_token Lineorder = k.Key Lineorder
+
 abbrev pub join_then : Bool → List SqlToken → List SqlToken
 join_then true rest = k.Word w.Inner ∷ k.Word w.Join ∷ rest
 join_then false rest = k.Word w.Join ∷ rest
@@ -148,9 +163,9 @@ join_then false rest = k.Word w.Join ∷ rest
 abbrev pub source_then : Source → List SqlToken → List SqlToken
 source_then (Beside table) rest = k.Mark m.Comma ∷ k.Table table ∷ rest
 source_then (JoinedOn is_inner table) rest =
-    join_then is_inner (k.Table table ∷ k.Word w.On ∷ k.LineKey table ∷ k.Mark m.Equal ∷ k.Key table ∷ rest)
+    join_then is_inner (k.Table table ∷ k.Word w.On ∷ k.LineKey table ∷ k.Mark m.Equal ∷ key_token table ∷ rest)
 source_then (JoinedOnTurned is_inner table) rest =
-    join_then is_inner (k.Table table ∷ k.Word w.On ∷ k.Key table ∷ k.Mark m.Equal ∷ k.LineKey table ∷ rest)
+    join_then is_inner (k.Table table ∷ k.Word w.On ∷ key_token table ∷ k.Mark m.Equal ∷ k.LineKey table ∷ rest)
 
 abbrev pub sources_then : List Source → List SqlToken → List SqlToken
 sources_then [] rest = rest
@@ -186,14 +201,17 @@ abbrev pub tested_then : Bool → Operand → List SqlToken → List SqlToken
 tested_then by_bytes o rest = operand_token o ∷ by_bytes_then by_bytes rest
 
 abbrev pub condition_then : Condition → List SqlToken → List SqlToken
-condition_then (Joins table) rest = k.LineKey table ∷ k.Mark m.Equal ∷ k.Key table ∷ rest
-condition_then (JoinsTurned table) rest = k.Key table ∷ k.Mark m.Equal ∷ k.LineKey table ∷ rest
+condition_then (Joins table) rest = k.LineKey table ∷ k.Mark m.Equal ∷ key_token table ∷ rest
+condition_then (JoinsTurned table) rest = key_token table ∷ k.Mark m.Equal ∷ k.LineKey table ∷ rest
 condition_then (Compares by_bytes o how v) rest = tested_then by_bytes o (comparison_token how ∷ k.Value v ∷ rest)
 condition_then (LiesBetween by_bytes o from to) rest =
     tested_then by_bytes o (k.Word w.Between ∷ k.Value from ∷ k.Word w.And ∷ k.Value to ∷ rest)
 condition_then (OneOf by_bytes o v values) rest =
     tested_then by_bytes o
     (k.Word w.In ∷ k.Mark m.Open ∷ k.Value v ∷ values_then values (k.Mark m.Close ∷ rest))
+condition_then (NoneOf by_bytes o v values) rest =
+    tested_then by_bytes o
+    (k.Word w.Not ∷ k.Word w.In ∷ k.Mark m.Open ∷ k.Value v ∷ values_then values (k.Mark m.Close ∷ rest))
 condition_then (Choice o v choices) rest =
     k.Mark m.Open ∷ operand_token o ∷ k.Mark m.Equal ∷ k.Value v ∷ choices_then choices (k.Mark m.Close ∷ rest)
 
@@ -279,6 +297,8 @@ measure_of RevenueLessCost = measure.Profit
 measure_of PriceTimesDiscount = measure.PriceTimesDiscount
 measure_of DiscountTimesPrice = measure.PriceTimesDiscount
 measure_of Quantity = measure.Quantity
+measure_of ExtendedPrice = measure.ExtendedPrice
+measure_of SupplyCost = measure.SupplyCost
 
 abbrev pub aggregate_of : Computed → Aggregate
 aggregate_of (SumOf added) = aggregate.Total (measure_of added)
@@ -311,6 +331,10 @@ abbrev pub values_say : Operand → List Spelled → List SqlPiece → List SqlP
 values_say o [] rest = rest
 values_say o (v ∷ values) rest = piece.OrIs o v ∷ values_say o values rest
 
+abbrev pub excluded_say : Operand → List Spelled → List SqlPiece → List SqlPiece
+excluded_say o [] rest = rest
+excluded_say o (v ∷ values) rest = piece.Stands o comparison.NotEqual v ∷ excluded_say o values rest
+
 abbrev pub choices_say : List (Operand × Spelled) → List SqlPiece → List SqlPiece
 choices_say [] rest = rest
 choices_say (c ∷ choices) rest = piece.OrIs c.0 c.1 ∷ choices_say choices rest
@@ -325,6 +349,8 @@ condition_says (JoinsTurned table) rest = piece.Joined table ∷ rest
 condition_says (Compares by_bytes o how v) rest = compared_piece o how v ∷ rest
 condition_says (LiesBetween by_bytes o from to) rest = piece.Between o from to ∷ rest
 condition_says (OneOf by_bytes o v values) rest = piece.Is o v ∷ values_say o values rest
+condition_says (NoneOf by_bytes o v values) rest =
+    piece.Stands o comparison.NotEqual v ∷ excluded_say o values rest
 condition_says (Choice o v choices) rest = piece.Is o v ∷ choices_say choices rest
 
 abbrev pub conditions_say : List Condition → List SqlPiece → List SqlPiece

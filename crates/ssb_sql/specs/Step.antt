@@ -1,5 +1,5 @@
 -- Which token may come, what it leads to, and what it says: the grammar as a table.
-use Rattle.std.specs.Prelude.{ℕ, Bool, true, false, nat_eq, Option, None, Some, option_and_then}
+use Rattle.std.specs.Prelude.{ℕ, Bool, true, false, ◌&&◌, nat_eq, Option, None, Some, option_and_then}
 use Rattle.std.specs.Prelude.{if◌then◌else◌}
 use Rattle.std.specs.Borrow.{Bor}
 use Rattle.std.specs.Prelude.{List}
@@ -38,6 +38,8 @@ use Rattle.ssb_sql.specs.declared.state.InTests.{InTests}
 use Rattle.ssb_sql.specs.declared.state.InTests.TheVariants as c
 use Rattle.ssb_sql.specs.declared.state.InValues.{InValues}
 use Rattle.ssb_sql.specs.declared.state.InValues.TheVariants as vs
+use Rattle.ssb_sql.specs.declared.state.Listing.{Listing}
+use Rattle.ssb_sql.specs.declared.state.Listing.TheVariants as listing
 use Rattle.ssb_sql.specs.declared.state.Purpose.{Purpose}
 use Rattle.ssb_sql.specs.declared.state.Purpose.TheVariants.{Printing, Keeping, Ordering}
 use Rattle.ssb_sql.specs.declared.state.State.{State}
@@ -130,6 +132,7 @@ word_code w.ByBytes = 19
 word_code w.Average = 20
 word_code w.NullIf = 21
 word_code w.Having = 22
+word_code w.Not = 23
 
 abbrev pub table_code : Table → ℕ
 table_code Customer = 0
@@ -153,6 +156,7 @@ on_word _ word taken = None
 -- what a token is
 abbrev pub value_in : SqlToken → Option Spelled
 value_in (k.Value v) = Some v
+value_in (k.Large n) = Some (Number n)
 value_in _ = None
 
 abbrev pub number_in : SqlToken → Option ℕ
@@ -195,9 +199,14 @@ abbrev pub mark_in : SqlToken → Option Mark
 mark_in (k.Mark mark) = Some mark
 mark_in _ = None
 
+-- whether a column is the key of a table's rows, which stands first in each dimension
+abbrev pub is_key_of : Table → Column → Bool
+is_key_of table column = same_table table column.table && nat_eq column.place 1
+
 -- the key of the dimension, and that of a line
 abbrev pub on_key : SqlToken → Table → Option SqlStep → Option SqlStep
 on_key (k.Key own) table taken = if same_table table own then taken else None
+on_key (k.Column column) table taken = if is_key_of table column then taken else None
 on_key _ table taken = None
 
 abbrev pub on_line_key : SqlToken → Table → Option SqlStep → Option SqlStep
@@ -233,6 +242,11 @@ begun purpose (k.Word w.NullIf) = computing purpose (ag.NullIf ni.Open)
 begun purpose _ = None
 
 -- behind the first column of a sum
+abbrev pub behind_price : Purpose → Adding → Mark → Option SqlStep
+behind_price purpose adding m.Close = closed purpose (computed adding measure.ExtendedPrice)
+behind_price purpose adding m.Star = computing purpose (ag.Times adding)
+behind_price purpose adding _ = None
+
 abbrev pub behind_revenue : Purpose → Adding → Mark → Option SqlStep
 behind_revenue purpose adding m.Close = closed purpose (computed adding measure.Revenue)
 behind_revenue purpose adding m.Minus = computing purpose (ag.Minus adding)
@@ -242,9 +256,10 @@ abbrev pub behind_added : Purpose → Adding → LineColumn → SqlToken → Opt
 behind_added purpose adding Revenue token = option_and_then (behind_revenue purpose adding) (mark_in token)
 behind_added purpose adding Quantity token =
     on_mark token m.Close (closed purpose (computed adding measure.Quantity))
-behind_added purpose adding ExtendedPrice token = on_mark token m.Star (computing purpose (ag.Times adding))
+behind_added purpose adding ExtendedPrice token = option_and_then (behind_price purpose adding) (mark_in token)
+behind_added purpose adding SupplyCost token =
+    on_mark token m.Close (closed purpose (computed adding measure.SupplyCost))
 behind_added purpose adding Discount token = on_mark token m.Star (computing purpose (ag.TimesPrice adding))
-behind_added purpose adding _ token = None
 
 -- the second column of a sum
 abbrev pub behind_minus : Purpose → Adding → LineColumn → Option SqlStep
@@ -358,6 +373,7 @@ behind_table token = behind_tests token
 abbrev pub join_key : SqlToken → Option SqlStep
 join_key (k.Key table) = tables (t.EqualKey table)
 join_key (k.LineKey table) = tables (t.EqualLineKey table)
+join_key (k.Column column) = if nat_eq column.place 1 then tables (t.EqualKey column.table) else None
 join_key _ = None
 
 abbrev pub in_tables : InTables → SqlToken → Option SqlStep
@@ -389,7 +405,8 @@ test token = option_and_then (λ o. tests (c.Tested o)) (tested token)
 abbrev pub behind_tested : Operand → SqlToken → Option SqlStep
 behind_tested o (k.Mark m.Equal) = tests (c.Equal o)
 behind_tested o (k.Word w.Between) = tests (c.From o)
-behind_tested o (k.Word w.In) = tests (c.Values o vs.Open)
+behind_tested o (k.Word w.In) = tests (c.Values o listing.OneOf vs.Open)
+behind_tested o (k.Word w.Not) = tests (c.Not o)
 behind_tested o (k.Word w.ByBytes) = tests (c.Tested o)
 behind_tested o token = option_and_then (λ how. tests (c.Stands o how)) (comparison_in token)
 
@@ -399,10 +416,10 @@ behind_test (k.Word w.And) = tests c.Test
 behind_test token = behind_tests token
 
 -- in a list of values
-abbrev pub behind_value : Operand → SqlToken → Option SqlStep
-behind_value o (k.Mark m.Comma) = tests (c.Values o vs.Next)
-behind_value o (k.Mark m.Close) = tests c.Behind
-behind_value o _ = None
+abbrev pub behind_value : Operand → Listing → SqlToken → Option SqlStep
+behind_value o how (k.Mark m.Comma) = tests (c.Values o how vs.Next)
+behind_value o how (k.Mark m.Close) = tests c.Behind
+behind_value o how _ = None
 
 -- in a choice
 abbrev pub behind_choice : SqlToken → Option SqlStep
@@ -414,11 +431,20 @@ behind_choice _ = None
 abbrev pub on_value : SqlToken → (Spelled → Option SqlStep) → Option SqlStep
 on_value token takes = option_and_then takes (value_in token)
 
-abbrev pub in_values : Operand → InValues → SqlToken → Option SqlStep
-in_values o vs.Open token = on_mark token m.Open (tests (c.Values o vs.First))
-in_values o vs.First token = on_value token (λ x. tests_say (c.Values o vs.Listed) (piece.Is o x))
-in_values o vs.Listed token = behind_value o token
-in_values o vs.Next token = on_value token (λ x. tests_say (c.Values o vs.Listed) (piece.OrIs o x))
+-- what the first value of a list says, and what each other one says
+abbrev pub first_said : Listing → Operand → Spelled → SqlPiece
+first_said listing.OneOf o v = piece.Is o v
+first_said listing.NoneOf o v = piece.Stands o comparison.NotEqual v
+
+abbrev pub next_said : Listing → Operand → Spelled → SqlPiece
+next_said listing.OneOf o v = piece.OrIs o v
+next_said listing.NoneOf o v = piece.Stands o comparison.NotEqual v
+
+abbrev pub in_values : Operand → Listing → InValues → SqlToken → Option SqlStep
+in_values o how vs.Open token = on_mark token m.Open (tests (c.Values o how vs.First))
+in_values o how vs.First token = on_value token (λ x. tests_say (c.Values o how vs.Listed) (first_said how o x))
+in_values o how vs.Listed token = behind_value o how token
+in_values o how vs.Next token = on_value token (λ x. tests_say (c.Values o how vs.Listed) (next_said how o x))
 
 abbrev pub choice : InChoice → Option SqlStep
 choice next = tests (c.Choice next)
@@ -439,6 +465,17 @@ in_choice (ch.OrEqual o) token = on_value token (λ x. choice_says (piece.OrIs o
 abbrev pub tested_by : SqlPiece → Option SqlStep
 tested_by piece = tests_say c.Behind piece
 
+-- whether what is tested is the key of a dimension
+abbrev pub is_key : Table → Operand → Bool
+is_key table (operand.Dimension column) = is_key_of table column
+is_key table operand.Quantity = false
+is_key table operand.Discount = false
+
+-- behind `=`: a value, or, behind the key of a dimension, that of a line
+abbrev pub equal : Operand → SqlToken → Option SqlStep
+equal o (k.LineKey table) = if is_key table o then tested_by (piece.Joined table) else None
+equal o token = on_value token (λ x. tested_by (piece.Is o x))
+
 abbrev pub in_tests : InTests → SqlToken → Option SqlStep
 in_tests c.Test token = test token
 in_tests c.Behind token = behind_test token
@@ -447,12 +484,13 @@ in_tests (c.EqualLineKey table) token = on_mark token m.Equal (tests (c.Key tabl
 in_tests (c.Key table) token = on_key token table (tested_by (piece.Joined table))
 in_tests (c.LineKey table) token = on_line_key token table (tested_by (piece.Joined table))
 in_tests (c.Tested o) token = behind_tested o token
-in_tests (c.Equal o) token = on_value token (λ x. tested_by (piece.Is o x))
+in_tests (c.Equal o) token = equal o token
 in_tests (c.Stands o how) token = on_value token (λ x. tested_by (piece.Stands o how x))
 in_tests (c.From o) token = on_value token (λ x. tests (c.And o x))
 in_tests (c.And o from) token = on_word token w.And (tests (c.To o from))
 in_tests (c.To o from) token = on_value token (λ to. tested_by (piece.Between o from to))
-in_tests (c.Values o at) token = in_values o at token
+in_tests (c.Not o) token = on_word token w.In (tests (c.Values o listing.NoneOf vs.Open))
+in_tests (c.Values o how at) token = in_values o how at token
 in_tests (c.Choice at) token = in_choice at token
 
 -- behind a group column

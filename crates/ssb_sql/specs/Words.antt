@@ -46,6 +46,7 @@ words =
     ∷ (codes "WHERE", w.Where)
     ∷ (codes "AND", w.And)
     ∷ (codes "OR", w.Or)
+    ∷ (codes "NOT", w.Not)
     ∷ (codes "IN", w.In)
     ∷ (codes "BETWEEN", w.Between)
     ∷ (codes "GROUP", w.Group)
@@ -65,13 +66,12 @@ tables =
     ∷ (codes "DATE", table.Date)
     ∷ (codes "DWDATE", table.Date) ∷ []
 
--- the key of the rows of each dimension, and the column of a line that has it
+-- the keys of dimensions that questions do not read, and the columns of lines that have the keys of all
 abbrev pub keys : List (List ℕ × Table)
 keys =
     (codes "C_CUSTKEY", table.Customer)
     ∷ (codes "S_SUPPKEY", table.Supplier)
-    ∷ (codes "P_PARTKEY", table.Part)
-    ∷ (codes "D_DATEKEY", table.Date) ∷ []
+    ∷ (codes "P_PARTKEY", table.Part) ∷ []
 
 abbrev pub line_keys : List (List ℕ × Table)
 line_keys =
@@ -121,7 +121,6 @@ foreign =
     ∷ codes "MAX"
     ∷ codes "MIN"
     ∷ codes "NATURAL"
-    ∷ codes "NOT"
     ∷ codes "NULL"
     ∷ codes "OFFSET"
     ∷ codes "OUTER"

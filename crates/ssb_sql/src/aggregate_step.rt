@@ -54,6 +54,16 @@ fn behind_revenue<'a>(purpose: Purpose, adding: Adding, mark: Mark) -> Option<Sq
     }
 }
 
+fn behind_price<'a>(purpose: Purpose, adding: Adding, mark: Mark) -> Option<SqlStep<'a>>
+    ensures { result ≡ spec.behind_price purpose adding mark }
+{
+    match mark {
+        Mark::Close => closed(purpose, computed(adding, Measure::ExtendedPrice)),
+        Mark::Star => computing(purpose, InAggregate::Times(adding)),
+        _ => None,
+    }
+}
+
 fn behind_added<'a>(
     purpose: Purpose,
     adding: Adding,
@@ -68,12 +78,10 @@ fn behind_added<'a>(
             let taken = closed(purpose, computed(adding, Measure::Quantity));
             on_mark(token, Mark::Close, taken)
         }
-        LineColumn::ExtendedPrice => {
-            on_mark(
-                token,
-                Mark::Star,
-                computing(purpose, InAggregate::Times(adding)),
-            )
+        LineColumn::ExtendedPrice => behind_price(purpose, adding, mark_in(token)?),
+        LineColumn::SupplyCost => {
+            let taken = closed(purpose, computed(adding, Measure::SupplyCost));
+            on_mark(token, Mark::Close, taken)
         }
         LineColumn::Discount => {
             on_mark(
@@ -82,7 +90,6 @@ fn behind_added<'a>(
                 computing(purpose, InAggregate::TimesPrice(adding)),
             )
         }
-        _ => None,
     }
 }
 

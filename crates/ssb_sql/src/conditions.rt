@@ -4,7 +4,7 @@ use crate::piece::{Comparison, Operand, SqlPiece};
 use crate::piece_fault::PieceFault;
 use ssb_questions::clause::kind_in;
 use ssb_questions::{ConstantKind, Spelled, Value};
-use ssb_schema::{Text, text_fault};
+use ssb_schema::{Kind, Text, text_fault};
 use std::alloc::{AllocError, Global};
 
 /// What one condition asks of its operand.
@@ -31,6 +31,17 @@ fn kind_of(operand: Operand) -> ConstantKind {
     match operand {
         Operand::Dimension(column) => kind_in(column),
         Operand::Quantity | Operand::Discount => ConstantKind::Number,
+    }
+}
+
+/// The greatest number that may be looked for in an operand.
+pub(crate) fn most_of(operand: Operand) -> u64 {
+    match operand {
+        Operand::Dimension(column) => match column.kind() {
+            Some(Kind::Number { most, .. }) => most,
+            Some(Kind::Text) | None => 0,
+        },
+        Operand::Quantity | Operand::Discount => 4_294_967_295,
     }
 }
 
@@ -62,7 +73,9 @@ fn value_of(
     piece: usize,
 ) -> Result<Value, PieceFault> {
     match (kind_of(operand), spelled) {
-        (ConstantKind::Number, Spelled::Number(number)) => Ok(Value::Number(number)),
+        (ConstantKind::Number, Spelled::Number(number)) if number <= most_of(operand) => {
+            Ok(Value::Number(number))
+        }
         (ConstantKind::Text(column), Spelled::Text(text)) => {
             let text = unquoted(alloc, text)?;
             if text_fault(column, text.as_str()).is_none() && is_spelled(text.as_str()) {
@@ -83,17 +96,19 @@ fn below(number: u64) -> Demand {
     }
 }
 
-// All numbers above one.
-fn above(number: u64) -> Demand {
-    match number.checked_add(1) {
-        Some(first) => Demand::Within(Some(Value::Number(first)), None),
-        None => nothing(),
+// All numbers above one, where there are some up to the greatest.
+fn above(number: u64, most: u64) -> Demand {
+    if number < most {
+        Demand::Within(Some(Value::Number(number + 1)), None)
+    } else {
+        nothing()
     }
 }
 
 // All that stand so to a value. Of texts there is neither without the value itself.
 fn beside(
     alloc: Global,
+    operand: Operand,
     comparison: Comparison,
     value: Value,
     piece: usize,
@@ -104,7 +119,7 @@ fn beside(
         (Comparison::LessOrEqual, _) => Ok(Demand::Within(None, Some(value))),
         (Comparison::GreaterOrEqual, _) => Ok(Demand::Within(Some(value), None)),
         (Comparison::Less, Value::Number(number)) => Ok(below(*number)),
-        (Comparison::Greater, Value::Number(number)) => Ok(above(*number)),
+        (Comparison::Greater, Value::Number(number)) => Ok(above(*number, most_of(operand))),
         (_, Value::Text(_)) => Err(PieceFault::BadValue(piece)),
     }
 }
@@ -134,7 +149,8 @@ fn asked_by(
         }
         SqlPiece::Stands(operand, comparison, value) => {
             let value = value_of(alloc, *operand, *value, piece)?;
-            Ok(Some((*operand, beside(alloc, *comparison, value, piece)?)))
+            let asked = beside(alloc, *operand, *comparison, value, piece)?;
+            Ok(Some((*operand, asked)))
         }
         SqlPiece::Between(operand, from, to) => {
             let from = value_of(alloc, *operand, *from, piece)?;

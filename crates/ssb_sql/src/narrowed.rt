@@ -1,6 +1,6 @@
 //! What all conditions of one operand leave together, as clauses of a star question.
 
-use crate::conditions::{Condition, Demand, same_operand};
+use crate::conditions::{Condition, Demand, most_of, same_operand};
 use crate::piece::Operand;
 use crate::piece_fault::PieceFault;
 use ssb_questions::Value;
@@ -8,13 +8,23 @@ use ssb_questions::clauses::MOST_VALUES;
 use ssb_schema::Text;
 use std::alloc::{AllocError, Global};
 
-/// What is left of an operand.
+/// The values that an operand may have.
 #[derive(Drop)]
-pub(crate) enum Narrowed {
+pub(crate) enum Kept {
+    /// Any.
+    All,
     /// One of these, which are distinct.
     Values(Vec<Value>),
     /// All between these, both included.
     Range(Value, Value),
+}
+
+/// What is left of an operand.
+#[derive(Drop)]
+pub(crate) struct Narrowed {
+    pub kept: Kept,
+    /// It has none of these, which are distinct.
+    pub left_out: Vec<Value>,
 }
 
 // Whether a condition lets a value pass.
@@ -75,10 +85,10 @@ fn values_left(
 }
 
 // A range that nothing is in, of the kind of a value.
-fn nothing_like(alloc: Global, value: &Value) -> Result<Narrowed, AllocError> {
+fn nothing_like(alloc: Global, value: &Value) -> Result<Kept, AllocError> {
     match value {
-        Value::Number(_) => Ok(Narrowed::Range(Value::Number(1), Value::Number(0))),
-        Value::Text(_) => Ok(Narrowed::Range(
+        Value::Number(_) => Ok(Kept::Range(Value::Number(1), Value::Number(0))),
+        Value::Text(_) => Ok(Kept::Range(
             Value::Text(Text::from_str(alloc, "1")?),
             Value::Text(Text::from_str(alloc, "0")?),
         )),
@@ -130,16 +140,14 @@ fn ends_of<'c>(conditions: &'c [Condition], operand: Operand) -> RangeEnds<'c> {
 }
 
 // The range between the ends; of numbers one that is not there is the least or the greatest.
-fn range_of(ends: RangeEnds<'_>) -> Result<Narrowed, PieceFault> {
+fn range_of(operand: Operand, ends: RangeEnds<'_>) -> Result<Kept, PieceFault> {
     match (ends.from, ends.to) {
-        (Some(from), Some(to)) => Ok(Narrowed::Range(from.clone()?, to.clone()?)),
-        (Some(Value::Number(from)), None) => Ok(Narrowed::Range(
-            Value::Number(*from),
-            Value::Number(4_294_967_295),
-        )),
-        (None, Some(Value::Number(to))) => {
-            Ok(Narrowed::Range(Value::Number(0), Value::Number(*to)))
+        (Some(from), Some(to)) => Ok(Kept::Range(from.clone()?, to.clone()?)),
+        (Some(Value::Number(from)), None) => {
+            let most = most_of(operand);
+            Ok(Kept::Range(Value::Number(*from), Value::Number(most)))
         }
+        (None, Some(Value::Number(to))) => Ok(Kept::Range(Value::Number(0), Value::Number(*to))),
         _ => Err(PieceFault::BadValue(ends.piece)),
     }
 }
@@ -167,7 +175,7 @@ fn bounds_of(operand: Operand, ends: RangeEnds<'_>) -> (u64, u64) {
     let (least, greatest) = match operand {
         Operand::Quantity => (1, 50),
         Operand::Discount => (0, 10),
-        Operand::Dimension(_) => (0, 4_294_967_295),
+        Operand::Dimension(_) => (0, most_of(operand)),
     };
     let from = match ends.from {
         Some(Value::Number(from)) => *from,
@@ -216,35 +224,76 @@ fn first_left_out(
     })
 }
 
-// A range that has none of the values that conditions leave out; there are other tests of it.
-fn whole(
-    conditions: &[Condition],
-    operand: Operand,
-    from: Value,
-    to: Value,
-) -> Result<Narrowed, PieceFault> {
+// What is left of a number of a line between the ends, of which a condition leaves out a value: one range, or it is
+// refused, since there are no other tests of it.
+fn range_without(conditions: &[Condition], operand: Operand) -> Result<Kept, PieceFault> {
+    let (from, to) = shrunk(
+        conditions,
+        operand,
+        bounds_of(operand, ends_of(conditions, operand)),
+    );
+    let from = Value::Number(from);
+    let to = Value::Number(to);
     match first_left_out(conditions, operand, &from, &to) {
         Some(piece) => Err(PieceFault::NotSupported(piece)),
-        None => Ok(Narrowed::Range(from, to)),
+        None => Ok(Kept::Range(from, to)),
     }
 }
 
-// What is left between the ends of an operand, of which a condition leaves out a value: one range, or it is refused.
-fn range_without(
+// What conditions without values leave of a number of a line.
+fn line_left(conditions: &[Condition], operand: Operand) -> Result<Kept, PieceFault> {
+    if conditions
+        .iter()
+        .any(|condition| exception_in(condition, operand).is_some())
+    {
+        range_without(conditions, operand)
+    } else {
+        range_of(operand, ends_of(conditions, operand))
+    }
+}
+
+// What conditions without values leave of a column, but for the values that some leave out.
+fn column_left(conditions: &[Condition], operand: Operand) -> Result<Kept, PieceFault> {
+    let ends = ends_of(conditions, operand);
+    if ends.from.is_none() && ends.to.is_none() {
+        Ok(Kept::All)
+    } else {
+        range_of(operand, ends)
+    }
+}
+
+// The values that conditions leave out of an operand, each once.
+fn left_out_of(
+    alloc: Global,
     conditions: &[Condition],
     operand: Operand,
-    left_out: (&Value, usize),
-) -> Result<Narrowed, PieceFault> {
-    let ends = ends_of(conditions, operand);
-    match (left_out.0, ends.from, ends.to) {
-        (Value::Number(_), _, _) => {
-            let (from, to) = shrunk(conditions, operand, bounds_of(operand, ends));
-            whole(conditions, operand, Value::Number(from), Value::Number(to))
+) -> Result<Vec<Value>, PieceFault> {
+    let mut left_out = Vec::new(alloc);
+    for condition in conditions {
+        if let Some((value, piece)) = exception_in(condition, operand) {
+            if !left_out.iter().any(|own| own == value) {
+                if left_out.len() >= MOST_VALUES {
+                    return Err(PieceFault::TooMany(piece));
+                }
+                left_out.push(value.clone()?)?;
+            }
         }
-        (Value::Text(_), Some(from), Some(to)) => {
-            whole(conditions, operand, from.clone()?, to.clone()?)
-        }
-        _ => Err(PieceFault::NotSupported(left_out.1)),
+    }
+    Ok(left_out)
+}
+
+// What conditions leave of an operand, of which one asks for these values.
+fn kept_of(
+    alloc: Global,
+    conditions: &[Condition],
+    operand: Operand,
+    asked: (&[Value], usize),
+) -> Result<Kept, PieceFault> {
+    let (values, piece) = asked;
+    let left = values_left(alloc, conditions, operand, piece, values)?;
+    match (left.as_slice(), values) {
+        ([], [first, ..]) => Ok(nothing_like(alloc, first)?),
+        _ => Ok(Kept::Values(left)),
     }
 }
 
@@ -254,18 +303,20 @@ pub(crate) fn narrow(
     conditions: &[Condition],
     operand: Operand,
 ) -> Result<Narrowed, PieceFault> {
-    let Some((values, piece)) = first_values(conditions, operand) else {
-        let left_out = conditions
-            .iter()
-            .find_map(|condition| exception_in(condition, operand));
-        return match left_out {
-            Some(left_out) => range_without(conditions, operand, left_out),
-            None => range_of(ends_of(conditions, operand)),
-        };
-    };
-    let left = values_left(alloc, conditions, operand, piece, values)?;
-    match (left.as_slice(), values) {
-        ([], [first, ..]) => Ok(nothing_like(alloc, first)?),
-        _ => Ok(Narrowed::Values(left)),
+    if let Some(asked) = first_values(conditions, operand) {
+        return Ok(Narrowed {
+            kept: kept_of(alloc, conditions, operand, asked)?,
+            left_out: Vec::new(alloc),
+        });
+    }
+    match operand {
+        Operand::Dimension(_) => Ok(Narrowed {
+            kept: column_left(conditions, operand)?,
+            left_out: left_out_of(alloc, conditions, operand)?,
+        }),
+        Operand::Quantity | Operand::Discount => Ok(Narrowed {
+            kept: line_left(conditions, operand)?,
+            left_out: Vec::new(alloc),
+        }),
     }
 }

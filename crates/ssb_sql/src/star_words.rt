@@ -1,6 +1,6 @@
 //! What is left of an operand, in the words of a star question.
 
-use crate::narrowed::Narrowed;
+use crate::narrowed::{Kept, Narrowed};
 use crate::piece::Operand;
 use crate::piece_fault::PieceFault;
 use ssb_questions::Value;
@@ -27,9 +27,10 @@ fn word(alloc: Global, parts: &[&str]) -> Result<Value, AllocError> {
     Ok(Value::Text(Text::new(parts.concat(alloc)?)))
 }
 
-fn value_word(alloc: Global, name: &str, value: &Value) -> Result<Value, AllocError> {
+// A value with its mark: `=`, or `!=`.
+fn value_word(alloc: Global, name: &str, mark: &str, value: &Value) -> Result<Value, AllocError> {
     let text = text_of(alloc, value)?;
-    word(alloc, &[name, "=", text.as_str()])
+    word(alloc, &[name, mark, text.as_str()])
 }
 
 fn range_word(alloc: Global, name: &str, from: &Value, to: &Value) -> Result<Value, AllocError> {
@@ -51,6 +52,31 @@ fn run_of(values: &[Value]) -> Option<(&Value, &Value)> {
     }
 }
 
+// Adds the words of the values that an operand may have.
+fn add_kept(
+    alloc: Global,
+    operand: Operand,
+    kept: &Kept,
+    piece: usize,
+    words: &mut Vec<Value>,
+) -> Result<(), PieceFault> {
+    let name = name_of(operand);
+    match (operand, kept) {
+        (_, Kept::All) => {}
+        (_, Kept::Range(from, to)) => words.push(range_word(alloc, name, from, to)?)?,
+        (Operand::Dimension(_), Kept::Values(values)) => {
+            for value in values {
+                words.push(value_word(alloc, name, "=", value)?)?;
+            }
+        }
+        (_, Kept::Values(values)) => match run_of(values.as_slice()) {
+            Some((from, to)) => words.push(range_word(alloc, name, from, to)?)?,
+            None => return Err(PieceFault::NotSupported(piece)),
+        },
+    }
+    Ok(())
+}
+
 /// Adds the words of what is left of an operand, whose condition with values begins at this piece.
 pub(crate) fn add_words(
     alloc: Global,
@@ -59,18 +85,9 @@ pub(crate) fn add_words(
     piece: usize,
     words: &mut Vec<Value>,
 ) -> Result<(), PieceFault> {
-    let name = name_of(operand);
-    match (operand, left) {
-        (_, Narrowed::Range(from, to)) => words.push(range_word(alloc, name, from, to)?)?,
-        (Operand::Dimension(_), Narrowed::Values(values)) => {
-            for value in values {
-                words.push(value_word(alloc, name, value)?)?;
-            }
-        }
-        (_, Narrowed::Values(values)) => match run_of(values.as_slice()) {
-            Some((from, to)) => words.push(range_word(alloc, name, from, to)?)?,
-            None => return Err(PieceFault::NotSupported(piece)),
-        },
+    add_kept(alloc, operand, &left.kept, piece, words)?;
+    for value in &left.left_out {
+        words.push(value_word(alloc, name_of(operand), "!=", value)?)?;
     }
     Ok(())
 }

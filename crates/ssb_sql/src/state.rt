@@ -119,10 +119,21 @@ pub enum InTests<'a> {
     From(Operand),
     And(Operand, Spelled<'a>),
     To(Operand, Spelled<'a>),
+    /// IN comes, behind NOT.
+    Not(Operand),
     /// Behind IN.
-    Values(Operand, InValues),
+    Values(Operand, Listing, InValues),
     /// Behind `(`.
     Choice(InChoice),
+}
+
+/// What a list of values is for.
+#[derive(Clone, Copy)]
+pub enum Listing {
+    /// What is tested has one of them.
+    OneOf,
+    /// It has none of them.
+    NoneOf,
 }
 
 /// In a list of values.

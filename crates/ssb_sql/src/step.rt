@@ -3,19 +3,21 @@ ghost use Rattle.std.specs.Prelude.{◌≡◌};
 ghost use Rattle.ssb_sql.specs.Step as spec;
 
 use crate::aggregate_step::{begun, in_aggregate, in_having};
-use crate::piece::{Operand, SqlPiece};
+use crate::piece::{Comparison, Operand, SqlPiece};
 use crate::state::{
-    InChoice, InEnd, InHaving, InList, InTables, InTests, InValues, Purpose, SqlStep, State,
+    InChoice, InEnd, InHaving, InList, InTables, InTests, InValues, Listing, Purpose, SqlStep,
+    State,
 };
 use crate::steps::{
     behind_groups, end, end_says, having, list, list_says, tables, tables_say, tests, tests_say,
 };
 use crate::token::{LineColumn, Mark, SqlToken, SqlWord};
 use crate::token_parts::{
-    column_in, comparison_in, name_in, number_in, on_key, on_line_key, on_mark, on_word, table_in,
-    value_in,
+    column_in, comparison_in, is_key_of, name_in, number_in, on_key, on_line_key, on_mark, on_word,
+    table_in, value_in,
 };
 use ssb_questions::Spelled;
+use ssb_schema::Table;
 
 // Behind a column, or an aggregate.
 fn behind_total<'a>(token: SqlToken<'a>) -> Option<SqlStep<'a>>
@@ -92,6 +94,7 @@ fn join_key<'a>(token: SqlToken<'a>) -> Option<SqlStep<'a>>
     match token {
         SqlToken::Key(table) => tables(InTables::EqualKey(table)),
         SqlToken::LineKey(table) => tables(InTables::EqualLineKey(table)),
+        SqlToken::Column(column) if column.place == 1 => tables(InTables::EqualKey(column.table)),
         _ => None,
     }
 }
@@ -149,7 +152,12 @@ fn behind_tested<'a>(operand: Operand, token: SqlToken<'a>) -> Option<SqlStep<'a
     match token {
         SqlToken::Mark(Mark::Equal) => tests(InTests::Equal(operand)),
         SqlToken::Word(SqlWord::Between) => tests(InTests::From(operand)),
-        SqlToken::Word(SqlWord::In) => tests(InTests::Values(operand, InValues::Open)),
+        SqlToken::Word(SqlWord::In) => tests(InTests::Values(
+            operand,
+            Listing::OneOf,
+            InValues::Open,
+        )),
+        SqlToken::Word(SqlWord::Not) => tests(InTests::Not(operand)),
         SqlToken::Word(SqlWord::ByBytes) => tests(InTests::Tested(operand)),
         token => tests(InTests::Stands(operand, comparison_in(token)?)),
     }
@@ -166,11 +174,11 @@ fn behind_test<'a>(token: SqlToken<'a>) -> Option<SqlStep<'a>>
 }
 
 // In a list of values.
-fn behind_value<'a>(operand: Operand, token: SqlToken<'a>) -> Option<SqlStep<'a>>
-    ensures { result ≡ spec.behind_value operand token.entry }
+fn behind_value<'a>(operand: Operand, listing: Listing, token: SqlToken<'a>) -> Option<SqlStep<'a>>
+    ensures { result ≡ spec.behind_value operand listing token.entry }
 {
     match token {
-        SqlToken::Mark(Mark::Comma) => tests(InTests::Values(operand, InValues::Next)),
+        SqlToken::Mark(Mark::Comma) => tests(InTests::Values(operand, listing, InValues::Next)),
         SqlToken::Mark(Mark::Close) => tests(InTests::Behind),
         _ => None,
     }
@@ -187,21 +195,46 @@ fn behind_choice<'a>(token: SqlToken<'a>) -> Option<SqlStep<'a>>
     }
 }
 
-fn in_values<'a>(operand: Operand, state: InValues, token: SqlToken<'a>) -> Option<SqlStep<'a>>
-    ensures { result ≡ spec.in_values operand state token.entry }
+// What the first value of a list says.
+fn first_said<'a>(listing: Listing, operand: Operand, value: Spelled<'a>) -> SqlPiece<'a>
+    ensures { result ≡ spec.first_said listing operand value.entry }
 {
-    let listed = InTests::Values(operand, InValues::Listed);
+    match listing {
+        Listing::OneOf => SqlPiece::Is(operand, value),
+        Listing::NoneOf => SqlPiece::Stands(operand, Comparison::NotEqual, value),
+    }
+}
+
+// What a later value of a list says.
+fn next_said<'a>(listing: Listing, operand: Operand, value: Spelled<'a>) -> SqlPiece<'a>
+    ensures { result ≡ spec.next_said listing operand value.entry }
+{
+    match listing {
+        Listing::OneOf => SqlPiece::OrIs(operand, value),
+        Listing::NoneOf => SqlPiece::Stands(operand, Comparison::NotEqual, value),
+    }
+}
+
+fn in_values<'a>(
+    operand: Operand,
+    listing: Listing,
+    state: InValues,
+    token: SqlToken<'a>,
+) -> Option<SqlStep<'a>>
+    ensures { result ≡ spec.in_values operand listing state token.entry }
+{
+    let listed = InTests::Values(operand, listing, InValues::Listed);
     match state {
         InValues::Open => {
             on_mark(
                 token,
                 Mark::Open,
-                tests(InTests::Values(operand, InValues::First)),
+                tests(InTests::Values(operand, listing, InValues::First)),
             )
         }
-        InValues::First => tests_say(listed, SqlPiece::Is(operand, value_in(token)?)),
-        InValues::Listed => behind_value(operand, token),
-        InValues::Next => tests_say(listed, SqlPiece::OrIs(operand, value_in(token)?)),
+        InValues::First => tests_say(listed, first_said(listing, operand, value_in(token)?)),
+        InValues::Listed => behind_value(operand, listing, token),
+        InValues::Next => tests_say(listed, next_said(listing, operand, value_in(token)?)),
     }
 }
 
@@ -240,6 +273,32 @@ fn tested_by<'a>(piece: SqlPiece<'a>) -> Option<SqlStep<'a>>
     tests_say(InTests::Behind, piece)
 }
 
+// Whether what is tested is the key of a dimension.
+fn is_key(table: Table, operand: Operand) -> bool
+    ensures { result ≡ spec.is_key table operand }
+{
+    match operand {
+        Operand::Dimension(column) => is_key_of(table, column),
+        Operand::Quantity | Operand::Discount => false,
+    }
+}
+
+// Behind `=`: a value, or, behind the key of a dimension, that of a line.
+fn equal<'a>(operand: Operand, token: SqlToken<'a>) -> Option<SqlStep<'a>>
+    ensures { result ≡ spec.equal operand token.entry }
+{
+    match token {
+        SqlToken::LineKey(table) => {
+            if is_key(table, operand) {
+                tested_by(SqlPiece::Joined(table))
+            } else {
+                None
+            }
+        }
+        token => tested_by(SqlPiece::Is(operand, value_in(token)?)),
+    }
+}
+
 fn in_tests<'a>(state: InTests<'a>, token: SqlToken<'a>) -> Option<SqlStep<'a>>
     ensures { result ≡ spec.in_tests state.entry token.entry }
 {
@@ -251,7 +310,7 @@ fn in_tests<'a>(state: InTests<'a>, token: SqlToken<'a>) -> Option<SqlStep<'a>>
         InTests::Key(table) => on_key(token, table, tested_by(SqlPiece::Joined(table))),
         InTests::LineKey(table) => on_line_key(token, table, tested_by(SqlPiece::Joined(table))),
         InTests::Tested(operand) => behind_tested(operand, token),
-        InTests::Equal(operand) => tested_by(SqlPiece::Is(operand, value_in(token)?)),
+        InTests::Equal(operand) => equal(operand, token),
         InTests::Stands(operand, how) => {
             tested_by(SqlPiece::Stands(operand, how, value_in(token)?))
         }
@@ -262,7 +321,11 @@ fn in_tests<'a>(state: InTests<'a>, token: SqlToken<'a>) -> Option<SqlStep<'a>>
         InTests::To(operand, from) => {
             tested_by(SqlPiece::Between(operand, from, value_in(token)?))
         }
-        InTests::Values(operand, state) => in_values(operand, state, token),
+        InTests::Not(operand) => {
+            let values = InTests::Values(operand, Listing::NoneOf, InValues::Open);
+            on_word(token, SqlWord::In, tests(values))
+        }
+        InTests::Values(operand, listing, state) => in_values(operand, listing, state, token),
         InTests::Choice(state) => in_choice(state, token),
     }
 }

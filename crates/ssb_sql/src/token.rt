@@ -18,6 +18,7 @@ pub enum SqlWord {
     Where,
     And,
     Or,
+    Not,
     In,
     Between,
     Group,

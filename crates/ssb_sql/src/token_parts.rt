@@ -57,6 +57,7 @@ impl SqlWord {
             SqlWord::Average => 20,
             SqlWord::NullIf => 21,
             SqlWord::Having => 22,
+            SqlWord::Not => 23,
         }
     }
 }
@@ -105,6 +106,13 @@ pub(crate) fn on_word<'a>(
     }
 }
 
+/// Whether a column is the key of a table's rows, which stands first in each dimension.
+pub(crate) fn is_key_of(table: Table, column: Column) -> bool
+    ensures { result ≡ spec.is_key_of table column }
+{
+    same_table(table, column.table) && column.place == 1
+}
+
 pub(crate) fn on_key<'a>(
     token: SqlToken<'a>,
     table: Table,
@@ -114,6 +122,7 @@ pub(crate) fn on_key<'a>(
 {
     match token {
         SqlToken::Key(own) if same_table(table, own) => taken,
+        SqlToken::Column(column) if is_key_of(table, column) => taken,
         _ => None,
     }
 }
@@ -136,6 +145,7 @@ pub(crate) fn value_in<'a>(token: SqlToken<'a>) -> Option<Spelled<'a>>
 {
     match token {
         SqlToken::Value(value) => Some(value),
+        SqlToken::Large(number) => Some(Spelled::Number(number)),
         _ => None,
     }
 }

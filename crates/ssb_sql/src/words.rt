@@ -6,7 +6,7 @@ ghost use Rattle.ssb_sql.specs.Words as spec;
 use crate::token::{LineColumn, SqlToken, SqlWord};
 use ssb_schema::{Column, Table, query_columns};
 
-static WORDS: [(&str, SqlWord); 22] = [
+static WORDS: [(&str, SqlWord); 23] = [
     ("SELECT", SqlWord::Select),
     ("SUM", SqlWord::Sum),
     ("AVG", SqlWord::Average),
@@ -20,6 +20,7 @@ static WORDS: [(&str, SqlWord); 22] = [
     ("WHERE", SqlWord::Where),
     ("AND", SqlWord::And),
     ("OR", SqlWord::Or),
+    ("NOT", SqlWord::Not),
     ("IN", SqlWord::In),
     ("BETWEEN", SqlWord::Between),
     ("GROUP", SqlWord::Group),
@@ -40,11 +41,11 @@ static TABLES: [(&str, Table); 6] = [
     ("DWDATE", Table::Date),
 ];
 
-static KEYS: [(&str, Table); 4] = [
+// The keys that are no column of a question.
+static KEYS: [(&str, Table); 3] = [
     ("C_CUSTKEY", Table::Customer),
     ("S_SUPPKEY", Table::Supplier),
     ("P_PARTKEY", Table::Part),
-    ("D_DATEKEY", Table::Date),
 ];
 
 static LINE_KEYS: [(&str, Table); 4] = [
@@ -74,7 +75,7 @@ static ALL: [Table; 5] = [
 static PLACES: [usize; 17] = [1, 2, 3, 4, 5, 6, 7, 8, 9, 10, 11, 12, 13, 14, 15, 16, 17];
 
 // Words of SQL that a statement here does not have.
-static FOREIGN: [&str; 43] = [
+static FOREIGN: [&str; 42] = [
     "ALL",
     "ANY",
     "CASE",
@@ -104,7 +105,6 @@ static FOREIGN: [&str; 43] = [
     "MAX",
     "MIN",
     "NATURAL",
-    "NOT",
     "NULL",
     "OFFSET",
     "OUTER",
