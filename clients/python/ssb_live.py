@@ -10,6 +10,7 @@
         top = live.ask_sql("SELECT d_year, sum(lo_revenue) AS revenue, count(*) FROM lineorder JOIN date "
                            "ON lo_orderdate = d_datekey GROUP BY d_year ORDER BY revenue DESC LIMIT 3")
         lines = live.order(7)                       # of the order with this key, as it is
+        regions = live.values("C_REGION")           # the values that customers have there
         with live.refresh() as refresh:             # committed at the end of the block, or Refused
             refresh.withdraw(7)
         print("commit", refresh.committed)
@@ -65,7 +66,8 @@ MOST_TOLD = 30              # values of a column that a warning tells
 MOST_DIGITS, MOST_TEXT = 20, 64         # of a number; bytes of a text
 MOST_SHOWN, FEW = 100, 3    # letters of a value, and names, in an error
 MOST_TOGETHER = 16          # questions
-HEAD = re.compile(rb"\S+(?: \d+)? at \d+ (?:rows|lines) (\d+)")       # the line before rows, or lines of an order
+# The line before rows, lines of an order, or what is looked up.
+HEAD = re.compile(rb"(?:\S+(?: \d+)? at \d+ (?:rows|lines)|(?:columns|status|values \S+) rows) (\d+)(?: of \d+)?")
 
 LINEORDER = ("LO_ORDERKEY", "LO_LINENUMBER", "LO_CUSTKEY", "LO_PARTKEY", "LO_SUPPKEY", "LO_ORDERDATE",
              "LO_ORDERPRIORITY", "LO_SHIPPRIORITY", "LO_QUANTITY", "LO_EXTENDEDPRICE", "LO_ORDTOTALPRICE",
@@ -211,6 +213,10 @@ def values_below(records, place, column):
 
 class UnknownValue(UserWarning):
     """A question was answered by no rows, or by no sum, and looks for a value that no line has."""
+
+
+class MoreValues(UserWarning):
+    """A column has more values than were listed."""
 
 
 class ReadOnly(OperationalError):
@@ -579,6 +585,24 @@ class Connection:
         number = line_field("LO_ORDERKEY", key)
         return self._request([f"order|{number}"], 1, functools.partial(self._order, int(number)))
 
+    def columns(self):
+        """The columns that questions read, each with its table and what it takes: `number` or `text`."""
+        return list(map(tuple, self._look_up("columns")["rows"]))
+
+    def values(self, column):
+        """The values that the rows of a dimension have in one of these columns, each once, in order: 10,000 at most.
+        Where there are more, a warning tells that."""
+        if column not in GROUPS:
+            raise WrongValue(f"a column is {shown(column)}; {', '.join(GROUPS)} are wanted", None, column)
+        found = self._look_up(f"values|{column}")
+        if found["of"] > len(found["rows"]):
+            warnings.warn(f"{column} has {found['of']} values, of which these are the first", MoreValues, 2)
+        return [row[0] for row in found["rows"]]
+
+    def status(self):
+        """What the server has done so far: numbers by their names, as \"commits\" and \"live lines\"."""
+        return dict(self._look_up("status")["rows"])
+
     def refresh(self):
         """A refresh, for a `with` block: it is committed at the block's end, or Refused is raised there."""
         return Refresh(self)
@@ -679,6 +703,20 @@ class Connection:
                 self._raise(f"sql unserved: {reply['unserved']}")
             rows = list(map(tuple, reply["rows"]))
             return Answer("sql", (), self._seen_now(reply["at"]), tuple(reply["columns"]), rows)
+        return self._raise(line)
+
+    def _look_up(self, record):
+        """The object of what is looked up by a record."""
+        return self._request(["format|json", record, "format|report"], 3, self._found, told_of=[record])
+
+    def _found(self, text):
+        line = text.split("\n")[1]
+        with contextlib.suppress(ValueError, TypeError):
+            reply = json.loads(line)
+            if "fault" in reply:
+                self._raise(f"fault: {reply['fault']}")
+            if "list" in reply:
+                return reply
         return self._raise(line)
 
     def _order(self, key, text):

@@ -410,6 +410,35 @@ class Refreshes(Trial):
             with self.raises(kind, "LO_ORDERKEY is"):
                 self.live.order(key)
 
+    def test_columns_their_values_and_the_status_are_looked_up(self):
+        columns = self.live.columns()
+        self.assertEqual((columns[0], columns[9]), (("C_CITY", "customer", "text"), ("D_YEAR", "date", "number")))
+        self.assertEqual([column for column, _, _ in columns], list(ssb_live.GROUPS))
+        self.assertEqual(self.live.values("C_NATION"), ["CHINA", "UNITED STATES"])
+        self.assertEqual((self.live.values("D_YEAR"), self.live.values("S_REGION")), ([1993, 1994], ["ASIA"]))
+        with self.raises(ssb_live.WrongValue, "a column is 'LO_TAX'"):
+            self.live.values("LO_TAX")
+        with self.live.refresh() as refresh:
+            refresh.withdraw(7)
+        status = self.live.status()
+        self.assertEqual([status[name] for name in ("commits", "live lines", "sessions", "47 Absent")], [1, 1, 1, 1])
+        self.assertEqual(self.live.exchange(b"values|D_YEAR\ncolumns\n", 2).splitlines()[:4],
+                         [b"values D_YEAR rows 2", b"1993", b"1994", b"columns rows %d" % len(columns)])
+
+    def test_values_beyond_the_most_are_told(self):
+        self.assertEqual(self.live.values("C_CITY"), ["CHINA    0", "UNITED ST1"])
+        rows = [f"{key}|Ann|street 1|CITY{key:05}|CHINA|ASIA|1|BUILDING\n" for key in range(1, 10_003)]
+        (self.folder / "customer.tbl").write_text("".join(rows))
+        self.live.close()
+        self.assertEqual(self.process.wait(PATIENCE), 0)
+        self.serve()
+        self.live = self.connect()
+        with self.assertWarnsRegex(ssb_live.MoreValues, "C_CITY has 10002 values, of which these are the first"):
+            values = self.live.values("C_CITY")
+        self.assertEqual(values, [f"CITY{key:05}" for key in range(1, 10_001)])
+        head = self.live.exchange(b"values|C_CITY\n").split(b"\n", 1)[0]
+        self.assertEqual(head, b"values C_CITY rows 10000 of 10002")
+
     def test_a_line_can_be_given_by_names(self):
         named = dict(zip(ssb_live.LINEORDER, line(9)))
         with self.live.refresh() as refresh:

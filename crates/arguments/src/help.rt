@@ -135,8 +135,9 @@ A client sends the records of a script. A request is a line 'query|NAME' or 'que
 'ask' to 'answer' or from 'begin' to 'commit'. Its reply comes before the server waits for the next request: one line,
 or for each question a line that says how many rows follow. The 1 to 16 questions from 'ask' to 'answer' are all answered
 after the same commits. A request with a fault is answered 'fault: ..', and does nothing. 'format|NAME' changes how
-replies are written: report, table, csv, json, markdown or bars. The end of the input ends the session. At a terminal
-the word 'help' shows the queries and their constants.
+replies are written: report, table, csv, json, markdown or bars. 'columns' lists the columns that questions read,
+'values|COLUMN' the values of one, and 'status' what the server has done. The end of the input ends the session. At a
+terminal the word 'help' shows the queries and their constants.
 
 With --new-journal a journal begins in FILE, which is created if it does not exist, and the commits are kept there. With
 --journal the next server with this FILE and the same tables goes on from there, whatever has ended the one before; if
@@ -250,6 +251,7 @@ EAST. ask, then 1 to 16 questions, then answer asks them together: all are answe
 add, amend or put with line|.. records, and withdraw KEY, then commit is one refresh; without commit nothing is done.
 
   order 7     shows the lines of order 7, as they are then
+  columns     lists the columns that questions read; values C_REGION lists the values of one
   abort       drops the refresh, or the questions, that were begun
   format csv  from then on replies are written so; also table, json, markdown and bars, and report, as at the beginning
   timing      from then on shows how many seconds each reply took; again: no more

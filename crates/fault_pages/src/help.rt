@@ -263,7 +263,9 @@ impl ListsFaults for ScriptHelp<'static> {
         Some(match self {
             ScriptHelp::Record(_, _, _) => ScriptHelp::Words,
             ScriptHelp::Words => ScriptHelp::Format,
-            ScriptHelp::Format => ScriptHelp::Statement,
+            ScriptHelp::Format => ScriptHelp::LookUp,
+            ScriptHelp::LookUp => ScriptHelp::Values,
+            ScriptHelp::Values => ScriptHelp::Statement,
             ScriptHelp::Statement => ScriptHelp::Alone("LO_TAX"),
             ScriptHelp::Alone(_) => ScriptHelp::Key("LO_TAX"),
             ScriptHelp::Key(_) => ScriptHelp::LineCount(3),

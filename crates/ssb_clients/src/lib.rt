@@ -38,5 +38,5 @@ pub use client::Client;
 pub use history::{SharedTable, Token};
 pub use log_reader::LogReader;
 pub use room::ClosingRoom;
-pub use server::{MOST_AT_TABLE, MOST_CLIENTS, MOST_DISPATCHERS, Server};
+pub use server::{MOST_AT_TABLE, MOST_CLIENTS, MOST_DISPATCHERS, Server, Shared};
 pub use unneeded::Keeps;

@@ -10,6 +10,7 @@ use crate::unneeded::Keeps;
 use history::SharedTable;
 use row_store::Follower;
 use server_figures::LiveFigures;
+use ssb_base::Base;
 use std::alloc::{AllocError, Global};
 use std::marker::Model;
 use std::sync::{Arc, Mutex, Wait};
@@ -23,6 +24,13 @@ pub const MOST_DISPATCHERS: u32 = 4;
 /// The greatest number of dispatchers at a table, where who reads the log is one of them.
 pub const MOST_AT_TABLE: u32 = MOST_DISPATCHERS + 1;
 
+/// What a server shows beside its table: the base that the table is over, and the figures in which it counts.
+#[derive(Drop)]
+pub struct Shared {
+    pub base: Arc<Base>,
+    pub figures: Arc<LiveFigures>,
+}
+
 /// What clients and dispatchers share: the table, and the places where they sleep. Contracts see the table: its name,
 /// the base, and how many clients and dispatchers there are. `K` is the writer of the copies, which follows the
 /// commits.
@@ -32,7 +40,7 @@ pub struct Server<K: Follower + Drop> {
     dispatchers: u32,
     pub(crate) bells: Bells,
     pub(crate) pace: Pace,
-    figures: Arc<LiveFigures>,
+    shared: Shared,
     pub(crate) alloc: Global,
     // For the close. Tokens may not be shared between threads, and behind a lock they are not; nobody takes it.
     room: Mutex<ClosingRoom<K>>,
@@ -46,7 +54,7 @@ impl<K: Follower + Drop> Drop for Server<K> {
             dispatchers: _,
             bells: _,
             pace: _,
-            figures: _,
+            shared: _,
             alloc: _,
             room: _,
         } = self;
@@ -61,20 +69,21 @@ impl<K: Follower + Drop> Model for Server<K> {
 
     ghost view = { λ s. s.table };
 
-    ghost invariant = { λ s. IsServed s.table s.clients s.dispatchers };
+    ghost invariant = { λ s. IsServed s.table s.shared.base.value s.clients s.dispatchers };
 }
 
 impl<K: Follower + Drop> Server<K> {
     /// The server over a table that was just made. `keeps` says which part of the log stays in memory; what is done is
-    /// counted in the figures.
+    /// counted in the figures that it shares.
     pub fn new(
         alloc: Global,
         table: SharedTable<K>,
         clients: u32,
         dispatchers: u32,
         keeps: Keeps,
-        figures: Arc<LiveFigures>,
+        shared: Shared,
     ) -> Result<Server<K>, AllocError>
+        requires base { shared.base.value ≡ table.base }
         requires counts { (clients ≡ table.clients) × (dispatchers ≡ table.dispatchers) }
         requires few { (clients ≤ most_clients) × (dispatchers ≤ most_at_table) }
         ensures { IfOk result (λ server. server ≡ table) }
@@ -85,7 +94,7 @@ impl<K: Follower + Drop> Server<K> {
             dispatchers,
             bells: Bells::new(alloc, clients, dispatchers)?,
             pace: Pace::new(keeps),
-            figures,
+            shared,
             alloc,
             room: Mutex::new(ClosingRoom::new(alloc)?),
         })
@@ -102,7 +111,7 @@ impl<K: Follower + Drop> Server<K> {
             dispatchers: _,
             bells: _,
             pace: _,
-            figures: _,
+            shared: _,
             alloc: _,
             room,
         } = self;
@@ -130,6 +139,13 @@ impl<K: Follower + Drop> Server<K> {
         ensures few { result ≤ most_at_table }
     {
         self.dispatchers
+    }
+
+    /// The base that its table is over.
+    pub fn base(&self) -> &Base
+        ensures { result.now ≡ self.now.base }
+    {
+        &*self.shared.base
     }
 
     /// The allocator that it was made with.
@@ -178,6 +194,6 @@ impl<K: Follower + Drop> Server<K> {
 
     /// What was done so far, in numbers: no contract tells them.
     pub fn figures(&self) -> &LiveFigures {
-        &self.figures
+        &*self.shared.figures
     }
 }

@@ -13,11 +13,13 @@ use Rattle.ssb_answers.specs.declared.answer.Answer.TheVariants.{Rows, Unserved}
 use Rattle.ssb_answers.specs.declared.answer.ResultRow.{ResultRow}
 use Rattle.ssb_formats.specs.JsonText.{answer_members, list_data, row_data, sum_data, text_data, value_data}
 use Rattle.ssb_formats.specs.OrderJson.{cell_data as column_data, line_data, line_names, order_members}
+use Rattle.ssb_formats.specs.OverviewShown.{overview_members}
 use Rattle.ssb_formats.specs.ReplyJson.{answer_data, listing_members, refreshed_members}
 use Rattle.ssb_formats.specs.Reports.{rows_members}
 use Rattle.ssb_formats.specs.StatementText as statement
 use Rattle.ssb_formats.specs.StatementText.{cell_data}
 use Rattle.ssb_questions.specs.Query.{sum_first}
+use Rattle.ssb_report.specs.OverviewText.{OverviewRecord}
 use Rattle.ssb_report.specs.declared.order.ShownOrder.{ShownOrder}
 use Rattle.ssb_report.specs.declared.order.ShownOrder.TheVariants as order
 use Rattle.ssb_schema.specs.Columns as columns
@@ -80,6 +82,10 @@ pub statement_exact : (at : ℕ) (heads : List (List ℕ)) (rows : List (List St
     → members_have_float (statement.members at (statement.heads_data heads) (statement.rows_data rows)) ≡ false
 statement_exact at heads rows =
     rw (items_exact text_data heads text_exact, items_exact statement.row_data rows cells_exact) refl
+
+pub overview_exact : (overview : OverviewRecord) → members_have_float (overview_members overview) ≡ false
+overview_exact overview =
+    rw (items_exact text_data overview.heads text_exact, items_exact statement.row_data overview.rows cells_exact) refl
 
 pub titled_rows_exact : (title : List ℕ) (rows : RowsRecord)
     → members_have_float (put (codes "title") (text_data title) (rows_members rows)) ≡ false

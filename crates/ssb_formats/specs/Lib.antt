@@ -19,3 +19,4 @@ pub mod StatementBars
 pub mod StatementHtml
 pub mod StatementText
 pub mod Reports
+pub mod OverviewShown

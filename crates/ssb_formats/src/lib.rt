@@ -7,8 +7,9 @@
 //! which has them all; and `Titled`.
 //!
 //! A live session has six of these formats ([`ReplyFormat`], `specs/ReplyFormats`), in which it tells its client each
-//! reply: answers, receipts, refusals, orders, faults ([`write_reply_as`] and its neighbours). The contract is again the exact
-//! text (`specs/ReplyTexts`, `ReplyJson`, `OrderJson`).
+//! reply: answers, receipts, refusals, orders, faults ([`write_reply_as`] and its neighbours), and what it looks up
+//! ([`write_overview_as`]). The contract is again the exact text (`specs/ReplyTexts`, `ReplyJson`, `OrderJson`,
+//! `OverviewShown`).
 //!
 //! ```text
 //! write_formatted(alloc, &mut output, Format::Csv, answers)?;             // D_YEAR,C_NATION,LO_REVENUE-LO_SUPPLYCOST
@@ -29,6 +30,7 @@ mod laws;
 mod markdown_text;
 mod markup;
 mod order_json;
+mod overview_text;
 mod reply;
 mod reply_format;
 mod reply_json;
@@ -44,6 +46,7 @@ mod titled;
 pub use fault::FormatFault;
 pub use format::{Format, write_formatted};
 pub use laws::csv_is_read_back;
+pub use overview_text::write_overview_as;
 pub use reply::{
     write_aborted_as, write_answers_as, write_fault_as, write_format, write_listing_as,
     write_order_as, write_reply_as,

@@ -23,7 +23,10 @@ use ssb_statements::StatementCell;
 use std::alloc::{AllocError, Global};
 
 // The cells of each row.
-fn all_texts(alloc: Global, rows: &[Items<StatementCell>]) -> Result<Vec<Items<Text>>, AllocError>
+pub(crate) fn all_texts(
+    alloc: Global,
+    rows: &[Items<StatementCell>],
+) -> Result<Vec<Items<Text>>, AllocError>
     ensures { IfOk result (λ all. all.items ≡ map texts_of rows.now) }
 {
     let mut all = Vec::new(alloc);
@@ -56,7 +59,7 @@ fn push_markdown_row(
     push_markdown_line(text, texts.as_slice())
 }
 
-fn markdown_text(
+pub(crate) fn markdown_text(
     alloc: Global,
     heads: StatementHeads<'_>,
     rows: &[Items<StatementCell>],
@@ -86,7 +89,7 @@ fn push_grid_line(
 }
 
 // The heads, the line below them, and a line for each row.
-fn push_grid(
+pub(crate) fn push_grid(
     alloc: Global,
     text: &mut Vec<u8>,
     alignments: &[Alignment],
@@ -173,7 +176,7 @@ fn rows_json(alloc: Global, rows: &[Items<StatementCell>]) -> Result<Vec<Json>, 
     Ok(list)
 }
 
-fn all_json(alloc: Global, rows: &[Items<StatementCell>]) -> Result<Json, AllocError>
+pub(crate) fn all_json(alloc: Global, rows: &[Items<StatementCell>]) -> Result<Json, AllocError>
     ensures { IfOk result (λ json. view json ≡ spec.rows_data rows.now) }
 {
     let list = rows_json(alloc, rows)?;
@@ -181,7 +184,7 @@ fn all_json(alloc: Global, rows: &[Items<StatementCell>]) -> Result<Json, AllocE
     Ok(json)
 }
 
-fn heads_json(alloc: Global, heads: &[Text]) -> Result<Json, AllocError>
+pub(crate) fn heads_json(alloc: Global, heads: &[Text]) -> Result<Json, AllocError>
     ensures { IfOk result (λ json. view json ≡ spec.heads_data heads.now) }
 {
     let list = texts_json(alloc, heads)?;

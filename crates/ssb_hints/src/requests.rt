@@ -59,9 +59,9 @@ impl<'a> fmt::Display for PromptHelp<'a> {
     }
 }
 
-static SQL: [&str; 16] = [
-    "insert", "update", "delete", "create", "drop", "alter", "with", "explain", "values", "set",
-    "use", "truncate", "merge", "grant", "copy", "pragma",
+static SQL: [&str; 15] = [
+    "insert", "update", "delete", "create", "drop", "alter", "with", "explain", "set", "use",
+    "truncate", "merge", "grant", "copy", "pragma",
 ];
 
 static TABLES: [&str; 9] = [
@@ -96,8 +96,9 @@ fn request_words(alloc: Global) -> Result<Vec<&'static str>, AllocError> {
         words.push(query.name())?;
     }
     for word in [
-        "query", "select", "order", "begin", "ask", "format", "help", "status", "timing", "quit",
-        "exit", "abort", "commit", "add", "amend", "put", "withdraw", "line", "answer",
+        "query", "select", "order", "begin", "ask", "format", "columns", "values", "help",
+        "status", "timing", "quit", "exit", "abort", "commit", "add", "amend", "put", "withdraw",
+        "line", "answer",
     ] {
         words.push(word)?;
     }

@@ -12,6 +12,10 @@ pub enum ScriptHelp<'a> {
     Words,
     /// The names of formats are wanted.
     Format,
+    /// What is looked up by a word alone.
+    LookUp,
+    /// The name of a column is wanted.
+    Values,
     /// A word that stands alone.
     Alone(&'a str),
     /// A word that takes a key.
@@ -61,10 +65,15 @@ fn said(help: &ScriptHelp<'_>) -> &'static str {
     match help {
         ScriptHelp::Words => {
             "a record begins with query, sql, order, ask, answer, begin, add, amend, put, line, withdraw, commit or abort, \
-             in a live session also with format, in small letters and without spaces"
+             live also with format, columns, values or status, in small letters without spaces"
         }
         ScriptHelp::Format =>
             "format stands alone, in a live session; it takes report, table, csv, json, markdown or bars",
+        ScriptHelp::LookUp =>
+            "columns and status stand alone, in a live session, and take no fields",
+        ScriptHelp::Values => {
+            "values stands alone, in a live session; it takes the name of a column that questions read, which columns lists"
+        }
         ScriptHelp::Statement => {
             "sql takes the text of a statement, and stands alone, in no block; the questions of a statement are answered \
              together"

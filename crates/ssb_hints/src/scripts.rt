@@ -15,9 +15,9 @@ use std::io;
 use std::io::{Read, Write};
 
 // The words that records begin with.
-const WORDS: [&str; 14] = [
+const WORDS: [&str; 17] = [
     "query", "sql", "order", "begin", "add", "amend", "put", "line", "withdraw", "commit", "ask",
-    "answer", "abort", "format",
+    "answer", "abort", "format", "columns", "values", "status",
 ];
 
 // The column of a `line` record that is no number where one is wanted.
@@ -99,6 +99,8 @@ fn help_with_fields<E: Write>(
         ["line", rest @ ..] => help_with_line(alloc, record, rest.len(), err),
         [word @ ("withdraw" | "order"), ..] => help_with_key(record, word, err),
         ["format", ..] => write_line(err, &ScriptHelp::Format),
+        ["columns" | "status", ..] => write_line(err, &ScriptHelp::LookUp),
+        ["values", ..] => write_line(err, &ScriptHelp::Values),
         ["sql", ..] => write_line(err, &ScriptHelp::Statement),
         [word] if stands_alone(word) => write_line(err, &ScriptHelp::Place(word)),
         [word, ..] if stands_alone(word) => write_line(err, &ScriptHelp::Alone(word)),

@@ -4,4 +4,5 @@ pub mod OrderText
 pub mod Replies
 pub mod Report
 pub mod StatementText
+pub mod OverviewText
 pub mod Laws

@@ -16,10 +16,12 @@
 mod answer;
 pub mod laws;
 mod order;
+mod overview;
 mod refresh;
 mod statement;
 
 pub use answer::{write_after_bars, write_answer, write_answers, write_row};
 pub use order::{ShownOrder, write_order};
+pub use overview::{Overview, write_overview};
 pub use refresh::{write_aborted, write_cause, write_receipt, write_refusal, write_reply};
 pub use statement::{write_listing, write_statement};

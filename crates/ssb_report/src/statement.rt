@@ -101,7 +101,11 @@ fn write_line<W: Write>(writer: &mut W, row: &Items<StatementCell>) -> Result<()
     write_bytes(writer, b"\n")
 }
 
-fn write_lines<W: Write>(writer: &mut W, rows: &[Items<StatementCell>]) -> Result<(), WriteFault>
+/// Writes a line for each row, its cells with a bar between one and the next.
+pub(crate) fn write_lines<W: Write>(
+    writer: &mut W,
+    rows: &[Items<StatementCell>],
+) -> Result<(), WriteFault>
     ensures { Writes (W.contents writer.old) (W.contents writer.new) result (flat_map spec.report_line rows.now) }
 {
     for row in rows {

@@ -54,7 +54,8 @@ pub record AreSeats (tokens : List TokenRecord) (readers : List Reading) : Type 
   pub readers_are : All (IsNewReader base) readers
   pub count : length readers ≡ length tokens
 
--- the rows and the columns are those of one base, without commits
+-- the rows and the columns are those of the base, without commits
 pub record IsLoaded (loaded : Inside) : Type 0 where
+  pub base : loaded.base.value ≡ loaded.rows.base
   pub rows : loaded.rows.log ≡ []
   pub columns : columns_state loaded.columns ≡ state_of loaded.rows.base []

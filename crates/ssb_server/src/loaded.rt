@@ -21,6 +21,7 @@ use std::thread::Threads;
 pub struct Loaded {
     pub(crate) rows: RowStore,
     pub(crate) columns: StandingColumns,
+    pub(crate) base: Arc<Base>,
     pub(crate) figures: Arc<LiveFigures>,
 }
 
@@ -57,6 +58,7 @@ impl Loaded {
         Ok(Loaded {
             rows,
             columns,
+            base: Arc::try_clone(base)?,
             figures,
         })
     }
@@ -68,11 +70,13 @@ impl Loaded {
         let Loaded {
             rows,
             columns,
+            base,
             figures: _,
         } = self;
         Loaded {
             rows,
             columns,
+            base,
             figures,
         }
     }

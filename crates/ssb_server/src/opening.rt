@@ -13,12 +13,11 @@ use crate::dispatcher::TwinDispatcher;
 use crate::loaded::Loaded;
 use history::{OpenedTable, SharedTable, Token};
 use row_store::{Follower, Replica};
-use server_figures::LiveFigures;
 use ssb_clients::tickets::clients_of;
-use ssb_clients::{Client, Keeps, LogReader, MOST_CLIENTS, MOST_DISPATCHERS, Server};
+use ssb_clients::{Client, Keeps, LogReader, MOST_CLIENTS, MOST_DISPATCHERS, Server, Shared};
 use standing_columns::StandingColumns;
 use std::alloc::{AllocError, Global};
-use std::sync::{Arc, Wait};
+use std::sync::Wait;
 use std::thread::Threads;
 use thiserror::Error;
 use twin_cell::{EndsCopies, TwinError, TwinReader, TwinWriter, twin};
@@ -98,12 +97,12 @@ fn reader_of<K: Follower + Drop>(tokens: &mut Vec<Token<K>>, keeps: Keeps) -> Op
     }
 }
 
-// A table that was just made, readers of its columns, and the figures of the server over it.
+// A table that was just made, readers of its columns, and what the server over it shows.
 #[derive(Drop)]
 struct MadeTable<C: Replica + Drop, W: EndsCopies + Drop> {
     opened: OpenedTable<TwinWriter<C, W>>,
     readers: Vec<TwinReader<C>>,
-    figures: Arc<LiveFigures>,
+    beside: Shared,
 }
 
 // The clients and dispatchers of these tokens of a table that was just made, with the server over it.
@@ -120,6 +119,7 @@ fn seat_all<C: Replica + Drop, W: EndsCopies + Drop>(
     requires dispatchers { All (IsNewDispatcher made.opened.shared.base) made.opened.dispatchers.items }
     requires readers { All (IsNewReader made.opened.shared.base) made.readers.items }
     requires each { length made.readers.items ≡ length made.opened.dispatchers.items }
+    requires base { made.beside.base.value ≡ made.opened.shared.base }
     ensures server { IfOk result (λ seated. seated.server ≡ made.opened.shared) }
     ensures clients { IfOk result (λ seated. seated.clients.items ≡ new_clients seated.server) }
     ensures dispatchers { IfOk result (λ seated. seated.dispatchers.items ≡ made.opened.dispatchers.items) }
@@ -128,7 +128,7 @@ fn seat_all<C: Replica + Drop, W: EndsCopies + Drop>(
     let MadeTable {
         opened,
         readers,
-        figures,
+        beside,
     } = made;
     let OpenedTable {
         shared,
@@ -138,7 +138,7 @@ fn seat_all<C: Replica + Drop, W: EndsCopies + Drop>(
     let clients = clients_of(alloc, clients)?;
     let dispatchers = dispatchers_of(alloc, dispatchers, readers)?;
     Ok(Opened {
-        server: Server::new(alloc, shared, counts.0, counts.1, keeps, figures)?,
+        server: Server::new(alloc, shared, counts.0, counts.1, keeps, beside)?,
         clients,
         dispatchers,
         reader,
@@ -163,19 +163,22 @@ fn table_over<W: Threads + Sync + Wait + Drop>(
     ensures dispatchers { IfOk result (λ made. made.opened.dispatchers.items ≡ new_dispatchers made.opened.shared) }
     ensures readers { IfOk result (λ made. All (IsNewReader made.opened.shared.base) made.readers.items) }
     ensures each { IfOk result (λ made. length made.readers.items ≡ answering) }
+    ensures beside { IfOk result (λ made. made.beside.base.value ≡ made.opened.shared.base) }
 {
     let Loaded {
         rows,
         columns,
+        base,
         figures,
     } = loaded;
     figures.has_committed(0, rows.line_count() as u64);
+    let beside = Shared { base, figures };
     let (writer, readers) = twin(alloc, rt, columns, answering as usize)?;
     match SharedTable::new(alloc, rows, writer, counts.0, counts.1) {
         Ok(opened) => Ok(MadeTable {
             opened,
             readers,
-            figures,
+            beside,
         }),
         Err(_) => Err(TwinError::OutOfMemory),
     }
@@ -206,6 +209,7 @@ fn seated<C: Replica + Drop, W: EndsCopies + Drop>(
     requires dispatchers { made.opened.dispatchers.items ≡ new_dispatchers made.opened.shared }
     requires readers { All (IsNewReader made.opened.shared.base) made.readers.items }
     requires each { at_table keeps (length made.readers.items) ≡ counts.1 }
+    requires base { made.beside.base.value ≡ made.opened.shared.base }
     ensures server { IfOk result (λ seated. seated.server ≡ made.opened.shared) }
     ensures clients { IfOk result (λ seated. seated.clients.items ≡ new_clients seated.server) }
     ensures dispatchers { IfOk result (λ seated. with_reader seated.dispatchers.items seated.reader

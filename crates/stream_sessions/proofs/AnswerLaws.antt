@@ -7,18 +7,25 @@ use Rattle.std.proofs.lemmas.List.Concat.{flat_map-append}
 use Rattle.history.specs.Members.{number_of}
 use Rattle.history.specs.Tokens.{TokenRecord}
 use Rattle.ssb_formats.specs.declared.reply_format.ReplyFormat.{ReplyFormat}
+use Rattle.ssb_base.specs.Base.{Tables}
+use Rattle.ssb_formats.specs.OverviewShown.{overview_shown}
+use Rattle.ssb_report.specs.OverviewText.{OverviewRecord}
 use Rattle.ssb_report.specs.Replies.{Reply}
 use Rattle.ssb_script.specs.Requests.{RequestRecord, request_of}
 use Rattle.ssb_script.specs.Scripts.{SpellsScript, most_records}
 use Rattle.ssb_script.specs.declared.request.Request.{Request}
 use Rattle.stream_sessions.specs.Answers.{AddsAnswer, AddsNothing, BreaksOff}
 use Rattle.stream_sessions.specs.FaultLine.{read_only_line}
+use Rattle.stream_sessions.specs.Lookups.{IsOverview}
 use Rattle.stream_sessions.specs.Replying.{LacksReply}
 use Rattle.stream_sessions.specs.Served.{AreServed, IsServed}
+use Rattle.stream_sessions.specs.SessionRequests.{AsksSession}
 use Rattle.stream_sessions.specs.Speaking.{IsTaken, SpeakingRecord, has_refresh, is_refresh, speaking}
 use Rattle.stream_sessions.specs.WithPast.{replies_told, reply_told}
+use Rattle.stream_sessions.specs.declared.lookup.Lookup.{Lookup}
 use Rattle.stream_sessions.specs.declared.manner.Manner.{Manner}
 use Rattle.stream_sessions.specs.declared.past.Past.{Past}
+use Rattle.stream_sessions.specs.declared.session_request.SessionRequest.TheVariants.{LookUp}
 use Rattle.stream_sessions.proofs.RequestLaws.{served_more}
 
 no_is : false ≡ true → ⊥
@@ -126,14 +133,33 @@ pub adds_read_only : (number : ℕ) (request : List ℕ) (asked : List RequestRe
     → AddsAnswer number request (speaking client manner) (speaking client manner) before after
 adds_read_only number request asked client manner before after spelled has none added = record {
   text = read_only_line manner.format;
-  answered = inr (inr (inr (record {
+  answered = inr (inr (inr (inl (record {
     asked = asked;
     spelled = spelled;
     has = has;
     takes_none = none;
     line = refl;
     unchanged = refl;
-  })));
+  }))));
+  added = added;
+}
+
+-- what was looked up was told
+pub adds_looked_up : (number : ℕ) (request : List ℕ) (client : TokenRecord) (manner : Manner) (base : Tables)
+    (asked : Lookup) (overview : OverviewRecord) (before after : List ℕ)
+    → AsksSession request (LookUp asked) → base ≡ client.table.base
+    → IsOverview base manner.terms.past asked overview → after ≡ before ++ overview_shown manner.format overview
+    → AddsAnswer number request (speaking client manner) (speaking client manner) before after
+adds_looked_up number request client manner base asked overview before after asks same is added = record {
+  text = overview_shown manner.format overview;
+  answered = inr (inr (inr (inr (record {
+    asked = asked;
+    asks = asks;
+    overview = overview;
+    is = subst (λ (tables : Tables). IsOverview tables manner.terms.past asked overview) same is;
+    told = refl;
+    unchanged = refl;
+  }))));
   added = added;
 }
 

@@ -1,6 +1,7 @@
 pub mod RequestLaws
 pub mod MomentLaws
-mod FormatLaws
+mod LookupLaws
+mod SessionRequestLaws
 mod FaultTextLaws
 mod AnswerLaws
 mod PastLaws

@@ -85,7 +85,8 @@ answered_stays number request old new text (inr (inr (inl given))) = record {
   terms = given.keeps;
   mine = λ none. ap (λ (t : TokenRecord). t.mine) given.unchanged;
 }
-answered_stays number request old new text (inr (inr (inr not_taken))) = same_stays old new not_taken.unchanged
+answered_stays number request old new text (inr (inr (inr (inl not_taken)))) = same_stays old new not_taken.unchanged
+answered_stays number request old new text (inr (inr (inr (inr looked)))) = same_stays old new looked.unchanged
 
 broken_stays : (number : ℕ) (request : List ℕ) (old new : SpeakingRecord) → BreaksOff number request old new
     → Stays old new

@@ -24,7 +24,8 @@ use Rattle.stream_sessions.specs.Speaking.{IsTaken, SpeakingRecord, has_refresh,
 use Rattle.stream_sessions.specs.WholeScripts.{HasReplies, HasRepliesOfScript, RefuseStatement, RefusesStatement}
 use Rattle.stream_sessions.specs.WithPast.{replies_told, reply_told}
 use Rattle.stream_sessions.specs.declared.manner.Terms.{Terms}
-use Rattle.stream_sessions.proofs.FormatLaws.{spelled_names_none}
+use Rattle.stream_sessions.proofs.SessionRequestLaws.{spelled_asks_nothing}
+use Rattle.stream_sessions.specs.declared.session_request.SessionRequest.TheVariants.{Format, LookUp}
 use Rattle.stream_sessions.proofs.ReadingLaws.{has_none, parts_have_none}
 
 -- a client was served what is alike to all this, these are the replies in its manner, which stays
@@ -158,11 +159,13 @@ request_told number request old new text asked spells taken (inr (inl refused)) 
     record { fault = refused.fault; of_statement = is.0; has = refused.has; told = refused.line } in
     inr (is.1, (refuses, refused.unchanged))
 request_told number request old new text asked spells taken (inr (inr (inl given))) =
-    absurd (spelled_names_none most_records request asked spells new.format given.names)
-request_told number request old new text asked spells taken (inr (inr (inr other))) =
+    absurd (spelled_asks_nothing most_records request asked spells (Format new.format) given.names)
+request_told number request old new text asked spells taken (inr (inr (inr (inl other)))) =
     let alike = one_reading request most_records most_records asked other.asked spells other.spelled in
     absurd (not_both (sym other.has
     ∙ (refreshes_alike asked other.asked alike ∙ has_none old asked other.takes_none taken)))
+request_told number request old new text asked spells taken (inr (inr (inr (inr looked)))) =
+    absurd (spelled_asks_nothing most_records request asked spells (LookUp looked.asked) looked.asks)
 
 -- after a request that was told, or whose statement is refused, the others are told so
 then_told : (number : ℕ) (old mid new : SpeakingRecord) (first more : List RequestRecord) (request text : List ℕ)

@@ -1,16 +1,21 @@
 -- What a request of a live session is answered.
 use Rattle.std.specs.Prelude.{◌≡◌, ℕ, List, [], ◌∷◌, ◌++◌, ◌⊎◌, Bool, true, false}
+use Rattle.ssb_formats.specs.OverviewShown.{overview_shown}
 use Rattle.ssb_formats.specs.ReplyTexts.{format_shown}
+use Rattle.ssb_report.specs.OverviewText.{OverviewRecord}
 use Rattle.ssb_report.specs.Replies.{Reply}
 use Rattle.ssb_script.specs.Requests.{RequestRecord}
 use Rattle.ssb_script.specs.Scripts.{SpellsScript, IsFirstFault, EndsOpen, most_records}
 use Rattle.ssb_script.specs.declared.error.ScriptError.{ScriptError}
 use Rattle.ssb_script.specs.declared.error.ScriptError.TheVariants as script
 use Rattle.stream_sessions.specs.FaultLine.{fault_line, read_only_line}
-use Rattle.stream_sessions.specs.FormatRequest.{NamesFormat, NamesNone}
+use Rattle.stream_sessions.specs.Lookups.{IsOverview}
 use Rattle.stream_sessions.specs.Served.{AreServed}
+use Rattle.stream_sessions.specs.SessionRequests.{AsksNothing, AsksSession}
 use Rattle.stream_sessions.specs.Speaking.{IsTaken, SpeakingRecord, has_refresh}
 use Rattle.stream_sessions.specs.WithPast.{replies_told}
+use Rattle.stream_sessions.specs.declared.lookup.Lookup.{Lookup}
+use Rattle.stream_sessions.specs.declared.session_request.SessionRequest.TheVariants.{Format, LookUp}
 
 -- whether a fault is one of a text, and not of what kept it from being read
 abbrev pub is_of_text : ScriptError → Bool
@@ -34,17 +39,17 @@ pub record IsReported (number : ℕ) (request : List ℕ) (old new : SpeakingRec
   pub stays : new.format ≡ old.format
   pub keeps : new.terms ≡ old.terms
 
--- a request has a fault, names no format, and is told that in the client's format; nothing was done
+-- a request has a fault, asks nothing of its session, and is told that in the client's format; nothing was done
 pub record IsRefused (request : List ℕ) (old new : SpeakingRecord) (text : List ℕ) : Type 0 where
   pub fault : ScriptError
   pub has : HasFault request fault
-  pub other : NamesNone request
+  pub other : AsksNothing request
   pub line : text ≡ fault_line old.format fault
   pub unchanged : new ≡ old
 
 -- a request names a format, which is the client's from here on, and this is told in it; nothing else was done
 pub record IsGivenFormat (request : List ℕ) (old new : SpeakingRecord) (text : List ℕ) : Type 0 where
-  pub names : NamesFormat request new.format
+  pub names : AsksSession request (Format new.format)
   pub told : text ≡ format_shown new.format
   pub unchanged : new.token ≡ old.token
   pub keeps : new.terms ≡ old.terms
@@ -59,11 +64,21 @@ pub record IsNotTaken (request : List ℕ) (old new : SpeakingRecord) (text : Li
   pub line : text ≡ read_only_line old.format
   pub unchanged : new ≡ old
 
+-- a request looks something up, and is told that in the client's format; nothing was done
+pub record IsLookedUp (request : List ℕ) (old new : SpeakingRecord) (text : List ℕ) : Type 0 where
+  pub asked : Lookup
+  pub asks : AsksSession request (LookUp asked)
+  pub overview : OverviewRecord
+  pub is : IsOverview old.token.table.base old.terms.past asked overview
+  pub told : text ≡ overview_shown old.format overview
+  pub unchanged : new ≡ old
+
 -- a client's request was answered by this text
 abbrev pub IsAnswered : ℕ → List ℕ → SpeakingRecord → SpeakingRecord → List ℕ → Type 0
 IsAnswered number request old new text =
     IsReported number request old new text
-    ⊎ (IsRefused request old new text ⊎ (IsGivenFormat request old new text ⊎ IsNotTaken request old new text))
+    ⊎ (IsRefused request old new text ⊎ (IsGivenFormat request old new text
+    ⊎ (IsNotTaken request old new text ⊎ IsLookedUp request old new text)))
 
 -- requests were answered by these texts, each of which finds the client as the one before it left it
 abbrev pub AreAnswered : ℕ → SpeakingRecord → List (List ℕ) → List (List ℕ) → SpeakingRecord → Type 0

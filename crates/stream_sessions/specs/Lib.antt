@@ -6,7 +6,8 @@ pub mod OneRequest
 pub mod Moment
 pub mod FaultLine
 pub mod Speaking
-pub mod FormatRequest
+pub mod Lookups
+pub mod SessionRequests
 pub mod Replying
 pub mod Events
 pub mod Answers

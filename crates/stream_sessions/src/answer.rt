@@ -7,20 +7,22 @@ ghost use Rattle.history.specs.Tokens.{TokenRecord};
 ghost use Rattle.history.specs.Members.{number_of};
 ghost use Rattle.stream_sessions.specs.OneRequest.{AreAlike};
 ghost use Rattle.stream_sessions.specs.Answers.{AddsAnswer, AddsNothing, HasFault, is_of_text};
-ghost use Rattle.stream_sessions.specs.FormatRequest.{NamesFormat, NamesNone};
+ghost use Rattle.stream_sessions.specs.SessionRequests.{AsksNothing, AsksSession};
+ghost use Rattle.stream_sessions.specs.declared.session_request.SessionRequest.TheVariants.{Format, LookUp};
 ghost use Rattle.stream_sessions.specs.Replying.{LacksReply, RepliesTo};
 ghost use Rattle.stream_sessions.specs.Speaking.{IsTaken, has_refresh, is_refresh, speaking};
 ghost use Rattle.ssb_script.specs.Requests.{RequestRecord, request_of, requests_of};
 ghost use Rattle.ssb_script.specs.Scripts.{IsScriptFault, SpellsScript, most_records};
 
 use crate::fault_line::write_fault_line;
-use crate::format_request::named_format;
+use crate::lookup::{Lookup, looked_up};
 use crate::manner::Manner;
 use crate::reply::reply_to;
 use crate::service::Service;
+use crate::session_request::{SessionRequest, session_request};
 use row_store::Follower;
 use ssb_clients::Client;
-use ssb_formats::{ReplyFormat, write_fault_as, write_format};
+use ssb_formats::{ReplyFormat, write_fault_as, write_format, write_overview_as};
 use ssb_script::{MOST_RECORDS, Request, Script, ScriptError, read_script};
 use std::alloc::{AllocError, Global};
 use std::sync::Wait;
@@ -170,7 +172,7 @@ fn refuse(
     fault: ScriptError,
     replies: &mut Vec<u8>,
 ) -> Result<(), AllocError>
-    ensures { (number : ℕ) (request : List ℕ) (client : TokenRecord) → HasFault request fault → NamesNone request
+    ensures { (number : ℕ) (request : List ℕ) (client : TokenRecord) → HasFault request fault → AsksNothing request
         → MatchResult result
         (λ _. AddsAnswer number request (speaking client manner) (speaking client manner) replies.old.items
         replies.new.items)
@@ -194,7 +196,8 @@ fn give_format(
     named: ReplyFormat,
     replies: &mut Vec<u8>,
 ) -> Result<(), AllocError>
-    ensures { (number : ℕ) (request : List ℕ) (client : TokenRecord) → NamesFormat request named → MatchResult result
+    ensures { (number : ℕ) (request : List ℕ) (client : TokenRecord) → AsksSession request (Format named)
+        → MatchResult result
         (λ _. AddsAnswer number request (speaking client manner.old) (speaking client manner.new) replies.old.items
         replies.new.items)
         (λ _. AddsNothing number request (speaking client manner.old) (speaking client manner.new) replies.old.items
@@ -213,16 +216,65 @@ fn give_format(
     }
 }
 
-// Answers a request that is no script, with this fault: it may name a format. Where memory runs out, or ran out before,
-// it adds nothing.
-fn answer_other(
-    alloc: Global,
+// Adds what a request looks up, in the client's format; nothing where memory runs out.
+fn look_up<W: Follower + Drop, R, K>(
+    service: &Service<'_, W, R, K>,
+    manner: Manner,
+    asked: Lookup,
+    replies: &mut Vec<u8>,
+) -> Result<(), AllocError>
+    ensures { (number : ℕ) (request : List ℕ) (client : TokenRecord) → client.table ≡ service.now.server.now
+        → AsksSession request (LookUp asked) → MatchResult result
+        (λ _. AddsAnswer number request (speaking client manner) (speaking client manner) replies.old.items
+        replies.new.items)
+        (λ _. AddsNothing number request (speaking client manner) (speaking client manner) replies.old.items
+        replies.new.items) }
+{
+    let server = service.server;
+    let figures = server.figures().now();
+    let past = manner.terms.past;
+    let overview = looked_up(service.alloc, server.base(), past, figures, asked)?;
+    let before = replies.len();
+    match write_overview_as(service.alloc, replies, manner.format, &overview) {
+        Ok(()) => Ok(()),
+        Err(_) => {
+            replies.truncate(before);
+            Err(AllocError)
+        }
+    }
+}
+
+// Answers a request that asks this of its session; where memory runs out it adds nothing.
+fn answer_own<W: Follower + Drop, R, K>(
+    service: &Service<'_, W, R, K>,
+    manner: &mut Manner,
+    asked: SessionRequest,
+    replies: &mut Vec<u8>,
+) -> Result<(), AllocError>
+    ensures { (number : ℕ) (request : List ℕ) (client : TokenRecord) → client.table ≡ service.now.server.now
+        → AsksSession request asked → MatchResult result
+        (λ _. AddsAnswer number request (speaking client manner.old) (speaking client manner.new) replies.old.items
+        replies.new.items)
+        (λ _. AddsNothing number request (speaking client manner.old) (speaking client manner.new) replies.old.items
+        replies.new.items) }
+{
+    match asked {
+        SessionRequest::Format(named) => give_format(service.alloc, manner, named, replies),
+        SessionRequest::LookUp(asked) => look_up(service, *manner, asked, replies),
+    }
+}
+
+// Answers a request that is no script, with this fault: it may be one of the session. Where memory runs out, or ran out
+// before, it adds nothing.
+fn answer_other<W: Follower + Drop, R, K>(
+    service: &Service<'_, W, R, K>,
     manner: &mut Manner,
     request: &[u8],
     fault: ScriptError,
     replies: &mut Vec<u8>,
 ) -> Result<(), AllocError>
-    ensures { (number : ℕ) (client : TokenRecord) → IsScriptFault most_records request.now fault → MatchResult result
+    ensures { (number : ℕ) (client : TokenRecord) → client.table ≡ service.now.server.now
+        → IsScriptFault most_records request.now fault → MatchResult result
         (λ _. AddsAnswer number request.now (speaking client manner.old) (speaking client manner.new)
         replies.old.items replies.new.items)
         (λ _. AddsNothing number request.now (speaking client manner.old) (speaking client manner.new)
@@ -231,18 +283,19 @@ fn answer_other(
     if !is_of_text(fault) {
         return Err(AllocError);
     }
-    let Ok(named) = named_format(alloc, request) else {
+    let Ok(asked) = session_request(service.alloc, request) else {
         return Err(AllocError);
     };
-    match named {
-        Some(named) => give_format(alloc, manner, named, replies),
-        None => refuse(alloc, *manner, fault, replies),
+    match asked {
+        Some(asked) => answer_own(service, manner, asked, replies),
+        None => refuse(service.alloc, *manner, fault, replies),
     }
 }
 
 /// Reads a request as a script of its own, serves what it asks, and adds the replies, in the client's format. One that
-/// is no script may name a format, which is the client's then; else what is told of its fault is added, and nothing is
-/// done. Likewise of one that has a refresh, where the session takes none. For want of memory it adds nothing.
+/// is no script may name a format, which is the client's then, or look something up, which is added; else what is told
+/// of its fault is added, and nothing is done. Likewise of one that has a refresh, where the session takes none. For want
+/// of memory it adds nothing.
 pub(crate) fn answer<W: Follower + Drop, R: Wait, K>(
     service: &Service<'_, W, R, K>,
     client: &mut Client<W>,
@@ -261,7 +314,7 @@ pub(crate) fn answer<W: Follower + Drop, R: Wait, K>(
 {
     match read_script(service.alloc, request, MOST_RECORDS) {
         Ok(script) => report_taken(service, client, *manner, script, replies),
-        Err(fault) => answer_other(service.alloc, manner, request, fault, replies),
+        Err(fault) => answer_other(service, manner, request, fault, replies),
     }
 }
 

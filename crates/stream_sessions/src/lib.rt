@@ -16,7 +16,8 @@
 //! The contract of [`serve_session`] (`specs/Session.antt`): the bytes that it read are cut into requests, each of which
 //! was answered by the report of what it asks, as the loop of scripts serves it, or by the line of its fault, which
 //! changed nothing (`specs/Answers.antt`); the client went through exactly those, in order; and this text was written.
-//! A request may name a format, in which the client is told from there on (`specs/FormatRequest.antt`): so a session's
+//! A request may name a format, in which the client is told from there on, or look something up, as the values of a
+//! column (`specs/SessionRequests.antt`, `specs/Lookups.antt`): it is read where a request is no script. So a session's
 //! state is the client and its format, and its [`Terms`], which stay (`specs/Speaking.antt`). One that takes no
 //! refreshes tells `fault: 68 ReadOnly` of each request that has one. Where commits came before those of the log
 //! ([`Past`]), the numbers in replies count them (`specs/WithPast.antt`). A session that breaks says how many requests
@@ -44,10 +45,10 @@ mod ahead;
 mod answer;
 mod events;
 mod fault_line;
-mod format_request;
 mod held;
 mod kept;
 pub mod laws;
+mod lookup;
 mod manner;
 mod meter;
 mod outcome;
@@ -57,6 +58,7 @@ mod requests;
 mod serve_error;
 mod service;
 mod session;
+mod session_request;
 mod speaks;
 mod step;
 mod told_with;

@@ -187,6 +187,8 @@ record_or_line line None = line
 
 abbrev pub record_spelling : RecordWord → List ℕ
 record_spelling record_word.Format = codes "format"
+record_spelling record_word.Columns = codes "columns"
+record_spelling record_word.Values = codes "values"
 record_spelling record_word.Begin = codes "begin"
 record_spelling record_word.Add = codes "add"
 record_spelling record_word.Amend = codes "amend"
@@ -205,9 +207,9 @@ barred_words = record_word.Format ∷ []
 
 -- and where blanks do
 abbrev pub blank_words : List RecordWord
-blank_words = record_word.Format ∷ record_word.Begin ∷ record_word.Add ∷ record_word.Amend ∷ record_word.Put
-    ∷ record_word.Line ∷ record_word.Withdraw ∷ record_word.Commit ∷ record_word.Ask ∷ record_word.Answer
-    ∷ record_word.Order ∷ record_word.Abort ∷ []
+blank_words = record_word.Format ∷ record_word.Columns ∷ record_word.Values ∷ record_word.Begin ∷ record_word.Add
+    ∷ record_word.Amend ∷ record_word.Put ∷ record_word.Line ∷ record_word.Withdraw ∷ record_word.Commit
+    ∷ record_word.Ask ∷ record_word.Answer ∷ record_word.Order ∷ record_word.Abort ∷ []
 
 -- the one of these words that a field is
 abbrev pub word_among : List RecordWord → List ℕ → Option RecordWord

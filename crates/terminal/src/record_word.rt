@@ -10,6 +10,8 @@ use crate::fields::{are_alike, trimmed};
 #[derive(Clone, Copy, Debug, PartialEq, Eq)]
 pub enum RecordWord {
     Format,
+    Columns,
+    Values,
     Begin,
     Add,
     Amend,
@@ -27,8 +29,10 @@ pub enum RecordWord {
 pub(crate) const BARRED: [RecordWord; 1] = [RecordWord::Format];
 
 /// Those of records whose fields blanks part: all.
-pub(crate) const BLANK: [RecordWord; 12] = [
+pub(crate) const BLANK: [RecordWord; 14] = [
     RecordWord::Format,
+    RecordWord::Columns,
+    RecordWord::Values,
     RecordWord::Begin,
     RecordWord::Add,
     RecordWord::Amend,
@@ -49,6 +53,8 @@ impl RecordWord {
     {
         match self {
             RecordWord::Format => b"format",
+            RecordWord::Columns => b"columns",
+            RecordWord::Values => b"values",
             RecordWord::Begin => b"begin",
             RecordWord::Add => b"add",
             RecordWord::Amend => b"amend",

@@ -8,5 +8,5 @@ returns-in-Ok-clause-answered g c =
 
 pub returns-in-Err-clause-answered : goal.returns-in-Err-clause-answered
 returns-in-Err-clause-answered g c =
-    c.answer_other.ensures (number_of c.args.client.now.who) c.args.client.now
+    c.answer_other.ensures (number_of c.args.client.now.who) c.args.client.now c.requires.table
     (c.in-Err.ensures.fault c.args.request.now refl)
