@@ -412,7 +412,7 @@ class Refreshes(Trial):
 
     def test_columns_their_values_and_the_status_are_looked_up(self):
         columns = self.live.columns()
-        self.assertEqual((columns[0], columns[9]), (("C_CITY", "customer", "text"), ("D_YEAR", "date", "number")))
+        self.assertEqual((columns[0], columns[13]), (("C_CITY", "customer", "text"), ("D_YEAR", "date", "number")))
         self.assertEqual([column for column, _, _ in columns], list(ssb_live.GROUPS))
         self.assertEqual(self.live.values("C_NATION"), ["CHINA", "UNITED STATES"])
         self.assertEqual((self.live.values("D_YEAR"), self.live.values("S_REGION")), ([1993, 1994], ["ASIA"]))

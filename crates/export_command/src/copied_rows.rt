@@ -68,22 +68,22 @@ impl CopiedFields for DateFields {
     fn copied(&self) -> Result<DateFields, AllocError> {
         Ok(DateFields {
             key: self.key,
-            field2: copied_text(&self.field2)?,
+            date_text: copied_text(&self.date_text)?,
             day_of_week: copied_text(&self.day_of_week)?,
             month: copied_text(&self.month)?,
             year: self.year,
             year_month_number: self.year_month_number,
             year_month: copied_text(&self.year_month)?,
-            field8: copied_text(&self.field8)?,
-            field9: copied_text(&self.field9)?,
-            field10: copied_text(&self.field10)?,
-            field11: copied_text(&self.field11)?,
+            day_in_week: copied_text(&self.day_in_week)?,
+            day_in_month: copied_text(&self.day_in_month)?,
+            day_in_year: copied_text(&self.day_in_year)?,
+            month_in_year: copied_text(&self.month_in_year)?,
             week: self.week,
             selling_season: copied_text(&self.selling_season)?,
-            field14: copied_text(&self.field14)?,
-            field15: copied_text(&self.field15)?,
+            last_day_in_week_flag: copied_text(&self.last_day_in_week_flag)?,
+            last_day_in_month_flag: copied_text(&self.last_day_in_month_flag)?,
             holiday_flag: copied_text(&self.holiday_flag)?,
-            field17: copied_text(&self.field17)?,
+            weekday_flag: copied_text(&self.weekday_flag)?,
         })
     }
 }

@@ -57,22 +57,22 @@ part key manufacturer category brand =
 abbrev date : ℕ → ℕ → ℕ → DateFields
 date key year month_number = record {
   key = key;
-  field2 = [];
+  date_text = [];
   day_of_week = [];
   month = [];
   year = year;
   year_month_number = month_number;
   year_month = [];
-  field8 = [];
-  field9 = [];
-  field10 = [];
-  field11 = [];
+  day_in_week = [];
+  day_in_month = [];
+  day_in_year = [];
+  month_in_year = [];
   week = 1;
   selling_season = [];
-  field14 = [];
-  field15 = [];
+  last_day_in_week_flag = [];
+  last_day_in_month_flag = [];
   holiday_flag = [];
-  field17 = [];
+  weekday_flag = [];
 }
 
 -- order key, line number, customer, part, supplier, date, quantity, price, discount, revenue, cost

@@ -97,23 +97,23 @@ blank = record {
   };
   date = record {
     key = 0;
-    field2 = [];
+    date_text = [];
     day_of_week = [];
     month = [];
     year = 0;
     year_month_number = 0;
     year_month = [];
-    field8 = [];
-    field9 = [];
-    field10 = [];
-    field11 = [];
+    day_in_week = [];
+    day_in_month = [];
+    day_in_year = [];
+    month_in_year = [];
     week = 0;
     selling_season = [];
-    field14 = [];
-    field15 =
+    last_day_in_week_flag = [];
+    last_day_in_month_flag =
         [];
     holiday_flag = [];
-    field17 = [];
+    weekday_flag = [];
   };
 }
 

@@ -58,22 +58,22 @@ part key manufacturer category brand = record {
 abbrev date : ℕ → ℕ → ℕ → List ℕ → ℕ → DateFields
 date key year month_number month week = record {
   key = key;
-  field2 = codes "d";
+  date_text = codes "d";
   day_of_week = codes "w";
   month = codes "m";
   year = year;
   year_month_number = month_number;
   year_month = month;
-  field8 = codes "1";
-  field9 = codes "1";
-  field10 = codes "1";
-  field11 = codes "1";
+  day_in_week = codes "1";
+  day_in_month = codes "1";
+  day_in_year = codes "1";
+  month_in_year = codes "1";
   week = week;
   selling_season = codes "s";
-  field14 = codes "0";
-  field15 = codes "0";
+  last_day_in_week_flag = codes "0";
+  last_day_in_month_flag = codes "0";
   holiday_flag = codes "0";
-  field17 = codes "1";
+  weekday_flag = codes "1";
 }
 
 -- order key, customer, part, supplier, date, quantity, price, discount, revenue, cost

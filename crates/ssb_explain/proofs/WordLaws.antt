@@ -275,6 +275,12 @@ within asked constants fit plain bits other =
 stands : List Clause → ℕ → Bool
 stands clauses place = may_stand_at place (map subject (take place clauses)) (option_map subject (slice_get clauses place))
 
+held : (clauses : List Clause) (place : ℕ) → place < length clauses
+    → list_all (stands clauses) (range_with_len 0 (length clauses)) ≡ true → stands clauses place ≡ true
+held clauses place lt all =
+    let here = list_all_at (stands clauses) (range_with_len 0 (length clauses)) place 0 in
+    grind (arith, here, lt, all, get_or-range_with_len, length-range_with_len)
+
 in_order : (clauses : List Clause) → nat_lt 0 (length clauses) && nat_le (length clauses) 64 ≡ true
     → list_all (stands clauses) (range_with_len 0 (length clauses)) ≡ true → StandInOrder clauses
 unfolding stands
@@ -282,9 +288,8 @@ in_order clauses few all = record {
   some = grind (arith, few, nat_tests);
   few = grind (arith, few, nat_tests);
   each = λ place clause e.
-      let lt = slice_get_within clauses place clause e in
-      let here = list_all_at (stands clauses) (range_with_len 0 (length clauses)) place 0 in
-      grind (arith, here, lt, all, e, get_or-range_with_len, length-range_with_len);
+      ap (λ found. may_stand_at place (map subject (take place clauses)) (option_map subject found)) (sym e)
+      ∙ held clauses place (slice_get_within clauses place clause e) all;
 }
 
 order_of_clauses : (asked : Query) (constants : List Value) → is_star asked ≡ false

@@ -51,7 +51,7 @@ pub record Described : Type 0 where
 abbrev pub column : ℕ → List ℕ → Kind → Described
 column place name takes = record { place = place; name = name; kind = takes }
 
--- the columns of each table, in the order of its file; those of a date that nothing reads are named by their places
+-- the columns of each table, in the order of its file
 abbrev pub columns_of : Table → List Described
 columns_of table.Customer =
     column 1 (codes "C_CUSTKEY") key
@@ -82,22 +82,22 @@ columns_of table.Part =
     ∷ column 9 (codes "P_CONTAINER") text ∷ []
 columns_of table.Date =
     column 1 (codes "D_DATEKEY") key
-    ∷ column 2 (codes "D_FIELD2") text
+    ∷ column 2 (codes "D_DATE") text
     ∷ column 3 (codes "D_DAYOFWEEK") text
     ∷ column 4 (codes "D_MONTH") text
     ∷ column 5 (codes "D_YEAR") amount
     ∷ column 6 (codes "D_YEARMONTHNUM") amount
     ∷ column 7 (codes "D_YEARMONTH") text
-    ∷ column 8 (codes "D_FIELD8") text
-    ∷ column 9 (codes "D_FIELD9") text
-    ∷ column 10 (codes "D_FIELD10") text
-    ∷ column 11 (codes "D_FIELD11") text
+    ∷ column 8 (codes "D_DAYNUMINWEEK") text
+    ∷ column 9 (codes "D_DAYNUMINMONTH") text
+    ∷ column 10 (codes "D_DAYNUMINYEAR") text
+    ∷ column 11 (codes "D_MONTHNUMINYEAR") text
     ∷ column 12 (codes "D_WEEKNUMINYEAR") amount
     ∷ column 13 (codes "D_SELLINGSEASON") text
-    ∷ column 14 (codes "D_FIELD14") text
-    ∷ column 15 (codes "D_FIELD15") text
+    ∷ column 14 (codes "D_LASTDAYINWEEKFL") text
+    ∷ column 15 (codes "D_LASTDAYINMONTHFL") text
     ∷ column 16 (codes "D_HOLIDAYFL") text
-    ∷ column 17 (codes "D_FIELD17") text ∷ []
+    ∷ column 17 (codes "D_WEEKDAYFL") text ∷ []
 columns_of table.Lineorder =
     column 1 (codes "LO_ORDERKEY") key
     ∷ column 2 (codes "LO_LINENUMBER") (from 1 7)

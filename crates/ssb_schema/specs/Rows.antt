@@ -24,10 +24,10 @@ part_values row =
 
 abbrev pub date_values : DateFields → List Value
 date_values row =
-    Number row.key ∷ Text row.field2 ∷ Text row.day_of_week ∷ Text row.month ∷ Number row.year
-    ∷ Number row.year_month_number ∷ Text row.year_month ∷ Text row.field8 ∷ Text row.field9 ∷ Text row.field10
-    ∷ Text row.field11 ∷ Number row.week ∷ Text row.selling_season ∷ Text row.field14 ∷ Text row.field15 ∷ Text row.holiday_flag
-    ∷ Text row.field17 ∷ []
+    Number row.key ∷ Text row.date_text ∷ Text row.day_of_week ∷ Text row.month ∷ Number row.year
+    ∷ Number row.year_month_number ∷ Text row.year_month ∷ Text row.day_in_week ∷ Text row.day_in_month ∷ Text row.day_in_year
+    ∷ Text row.month_in_year ∷ Number row.week ∷ Text row.selling_season ∷ Text row.last_day_in_week_flag ∷ Text row.last_day_in_month_flag ∷ Text row.holiday_flag
+    ∷ Text row.weekday_flag ∷ []
 
 abbrev pub line_values : LineFields → List Value
 line_values line =

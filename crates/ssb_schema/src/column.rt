@@ -186,22 +186,22 @@ static PART: [&str; 9] = [
 
 static DATE: [&str; 17] = [
     "D_DATEKEY",
-    "D_FIELD2",
+    "D_DATE",
     "D_DAYOFWEEK",
     "D_MONTH",
     "D_YEAR",
     "D_YEARMONTHNUM",
     "D_YEARMONTH",
-    "D_FIELD8",
-    "D_FIELD9",
-    "D_FIELD10",
-    "D_FIELD11",
+    "D_DAYNUMINWEEK",
+    "D_DAYNUMINMONTH",
+    "D_DAYNUMINYEAR",
+    "D_MONTHNUMINYEAR",
     "D_WEEKNUMINYEAR",
     "D_SELLINGSEASON",
-    "D_FIELD14",
-    "D_FIELD15",
+    "D_LASTDAYINWEEKFL",
+    "D_LASTDAYINMONTHFL",
     "D_HOLIDAYFL",
-    "D_FIELD17",
+    "D_WEEKDAYFL",
 ];
 
 static LINEORDER: [&str; 17] = [

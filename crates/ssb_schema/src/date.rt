@@ -15,8 +15,8 @@ use crate::text::Text;
 pub struct DateFields {
     /// D_DATEKEY.
     pub key: u64,
-    /// D_FIELD2.
-    pub field2: Text,
+    /// D_DATE.
+    pub date_text: Text,
     /// D_DAYOFWEEK.
     pub day_of_week: Text,
     /// D_MONTH.
@@ -27,26 +27,26 @@ pub struct DateFields {
     pub year_month_number: u64,
     /// D_YEARMONTH.
     pub year_month: Text,
-    /// D_FIELD8.
-    pub field8: Text,
-    /// D_FIELD9.
-    pub field9: Text,
-    /// D_FIELD10.
-    pub field10: Text,
-    /// D_FIELD11.
-    pub field11: Text,
+    /// D_DAYNUMINWEEK.
+    pub day_in_week: Text,
+    /// D_DAYNUMINMONTH.
+    pub day_in_month: Text,
+    /// D_DAYNUMINYEAR.
+    pub day_in_year: Text,
+    /// D_MONTHNUMINYEAR.
+    pub month_in_year: Text,
     /// D_WEEKNUMINYEAR.
     pub week: u64,
     /// D_SELLINGSEASON.
     pub selling_season: Text,
-    /// D_FIELD14.
-    pub field14: Text,
-    /// D_FIELD15.
-    pub field15: Text,
+    /// D_LASTDAYINWEEKFL.
+    pub last_day_in_week_flag: Text,
+    /// D_LASTDAYINMONTHFL.
+    pub last_day_in_month_flag: Text,
     /// D_HOLIDAYFL.
     pub holiday_flag: Text,
-    /// D_FIELD17.
-    pub field17: Text,
+    /// D_WEEKDAYFL.
+    pub weekday_flag: Text,
 }
 
 /// A date whose values are within their columns' limits. Contracts see its values.
@@ -64,22 +64,22 @@ impl Fields for DateFields {
     fn cells(&self) -> Cells<'_> {
         Cells::of(&[
             Cell::Number(self.key),
-            Cell::Text(self.field2.as_str()),
+            Cell::Text(self.date_text.as_str()),
             Cell::Text(self.day_of_week.as_str()),
             Cell::Text(self.month.as_str()),
             Cell::Number(self.year),
             Cell::Number(self.year_month_number),
             Cell::Text(self.year_month.as_str()),
-            Cell::Text(self.field8.as_str()),
-            Cell::Text(self.field9.as_str()),
-            Cell::Text(self.field10.as_str()),
-            Cell::Text(self.field11.as_str()),
+            Cell::Text(self.day_in_week.as_str()),
+            Cell::Text(self.day_in_month.as_str()),
+            Cell::Text(self.day_in_year.as_str()),
+            Cell::Text(self.month_in_year.as_str()),
             Cell::Number(self.week),
             Cell::Text(self.selling_season.as_str()),
-            Cell::Text(self.field14.as_str()),
-            Cell::Text(self.field15.as_str()),
+            Cell::Text(self.last_day_in_week_flag.as_str()),
+            Cell::Text(self.last_day_in_month_flag.as_str()),
             Cell::Text(self.holiday_flag.as_str()),
-            Cell::Text(self.field17.as_str()),
+            Cell::Text(self.weekday_flag.as_str()),
         ])
     }
 }

@@ -93,22 +93,22 @@ part-of v = record {
 abbrev date-of : List Value → DateFields
 date-of v = record {
   key = number-in v 0;
-  field2 = text-in v 1;
+  date_text = text-in v 1;
   day_of_week = text-in v 2;
   month = text-in v 3;
   year = number-in v 4;
   year_month_number = number-in v 5;
   year_month = text-in v 6;
-  field8 = text-in v 7;
-  field9 = text-in v 8;
-  field10 = text-in v 9;
-  field11 = text-in v 10;
+  day_in_week = text-in v 7;
+  day_in_month = text-in v 8;
+  day_in_year = text-in v 9;
+  month_in_year = text-in v 10;
   week = number-in v 11;
   selling_season = text-in v 12;
-  field14 = text-in v 13;
-  field15 = text-in v 14;
+  last_day_in_week_flag = text-in v 13;
+  last_day_in_month_flag = text-in v 14;
   holiday_flag = text-in v 15;
-  field17 = text-in v 16;
+  weekday_flag = text-in v 16;
 }
 
 abbrev line-of : List Value → LineFields

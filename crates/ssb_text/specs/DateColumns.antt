@@ -12,10 +12,10 @@ abbrev pub last_kinds : List Kind
 last_kinds = text ∷ text ∷ text ∷ text ∷ amount ∷ text ∷ text ∷ text ∷ text ∷ text ∷ []
 
 abbrev pub first_values : FirstColumns → List Value
-first_values row = Number row.key ∷ Text row.field2 ∷ Text row.day_of_week ∷ Text row.month ∷ Number row.year ∷ Number
+first_values row = Number row.key ∷ Text row.date_text ∷ Text row.day_of_week ∷ Text row.month ∷ Number row.year ∷ Number
     row.year_month_number ∷ Text row.year_month ∷ []
 
 abbrev pub last_values : LastColumns → List Value
 last_values row =
-    Text row.field8 ∷ Text row.field9 ∷ Text row.field10 ∷ Text row.field11 ∷ Number row.week ∷ Text row.selling_season ∷ Text
-    row.field14 ∷ Text row.field15 ∷ Text row.holiday_flag ∷ Text row.field17 ∷ []
+    Text row.day_in_week ∷ Text row.day_in_month ∷ Text row.day_in_year ∷ Text row.month_in_year ∷ Number row.week ∷ Text row.selling_season ∷ Text
+    row.last_day_in_week_flag ∷ Text row.last_day_in_month_flag ∷ Text row.holiday_flag ∷ Text row.weekday_flag ∷ []

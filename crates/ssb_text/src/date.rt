@@ -15,7 +15,7 @@ use std::alloc::Global;
 #[derive(Drop)]
 struct FirstColumns {
     key: u64,
-    field2: Text,
+    date_text: Text,
     day_of_week: Text,
     month: Text,
     year: u64,
@@ -26,16 +26,16 @@ struct FirstColumns {
 // The other ten.
 #[derive(Drop)]
 struct LastColumns {
-    field8: Text,
-    field9: Text,
-    field10: Text,
-    field11: Text,
+    day_in_week: Text,
+    day_in_month: Text,
+    day_in_year: Text,
+    month_in_year: Text,
     week: u64,
     selling_season: Text,
-    field14: Text,
-    field15: Text,
+    last_day_in_week_flag: Text,
+    last_day_in_month_flag: Text,
     holiday_flag: Text,
-    field17: Text,
+    weekday_flag: Text,
 }
 
 impl FirstColumns {
@@ -48,7 +48,7 @@ impl FirstColumns {
         let table = Table::Date;
         Ok(FirstColumns {
             key: read_number(record, Column { table, place: 1 })?,
-            field2: read_text(alloc, record, Column { table, place: 2 })?,
+            date_text: read_text(alloc, record, Column { table, place: 2 })?,
             day_of_week: read_text(alloc, record, Column { table, place: 3 })?,
             month: read_text(alloc, record, Column { table, place: 4 })?,
             year: read_number(record, Column { table, place: 5 })?,
@@ -67,16 +67,16 @@ impl LastColumns {
     {
         let table = Table::Date;
         Ok(LastColumns {
-            field8: read_text(alloc, record, Column { table, place: 8 })?,
-            field9: read_text(alloc, record, Column { table, place: 9 })?,
-            field10: read_text(alloc, record, Column { table, place: 10 })?,
-            field11: read_text(alloc, record, Column { table, place: 11 })?,
+            day_in_week: read_text(alloc, record, Column { table, place: 8 })?,
+            day_in_month: read_text(alloc, record, Column { table, place: 9 })?,
+            day_in_year: read_text(alloc, record, Column { table, place: 10 })?,
+            month_in_year: read_text(alloc, record, Column { table, place: 11 })?,
             week: read_number(record, Column { table, place: 12 })?,
             selling_season: read_text(alloc, record, Column { table, place: 13 })?,
-            field14: read_text(alloc, record, Column { table, place: 14 })?,
-            field15: read_text(alloc, record, Column { table, place: 15 })?,
+            last_day_in_week_flag: read_text(alloc, record, Column { table, place: 14 })?,
+            last_day_in_month_flag: read_text(alloc, record, Column { table, place: 15 })?,
             holiday_flag: read_text(alloc, record, Column { table, place: 16 })?,
-            field17: read_text(alloc, record, Column { table, place: 17 })?,
+            weekday_flag: read_text(alloc, record, Column { table, place: 17 })?,
         })
     }
 }
@@ -87,22 +87,22 @@ impl RecordFields for DateFields {
         let last = LastColumns::read(alloc, record)?;
         Ok(DateFields {
             key: first.key,
-            field2: first.field2,
+            date_text: first.date_text,
             day_of_week: first.day_of_week,
             month: first.month,
             year: first.year,
             year_month_number: first.year_month_number,
             year_month: first.year_month,
-            field8: last.field8,
-            field9: last.field9,
-            field10: last.field10,
-            field11: last.field11,
+            day_in_week: last.day_in_week,
+            day_in_month: last.day_in_month,
+            day_in_year: last.day_in_year,
+            month_in_year: last.month_in_year,
             week: last.week,
             selling_season: last.selling_season,
-            field14: last.field14,
-            field15: last.field15,
+            last_day_in_week_flag: last.last_day_in_week_flag,
+            last_day_in_month_flag: last.last_day_in_month_flag,
             holiday_flag: last.holiday_flag,
-            field17: last.field17,
+            weekday_flag: last.weekday_flag,
         })
     }
 }

@@ -28,7 +28,7 @@ pub returns-in_err-write_taken-in-Amend : goal.returns-in_err-write_taken-in-Ame
 returns-in_err-write_taken-in-Amend g c =
     let contents = g.W.Write.contents in
     let a = contents c.args.out.now in
-    let b = contents c.write_taken.new.out in
+    let b = contents c.write_taken-in-Amend.new.out in
     let r = c.from_residual.result in
     let commit = c.args.commit in
     let order = c.in-Amend.order in
@@ -46,7 +46,7 @@ pub returns-in_ok-write_taken-in-Amend : goal.returns-in_ok-write_taken-in-Amend
 returns-in_ok-write_taken-in-Amend g c =
     let contents = g.W.Write.contents in
     let a = contents c.args.out.now in
-    let b = contents c.write_taken.new.out in
+    let b = contents c.write_taken-in-Amend.new.out in
     let e = contents c.write_lines-in-Amend.new.out in
     let r = c.write_lines-in-Amend.result in
     let commit = c.args.commit in
@@ -66,9 +66,9 @@ pub returns-in-Withdraw : goal.returns-in-Withdraw
 returns-in-Withdraw g c =
     let contents = g.W.Write.contents in
     let a = contents c.args.out.now in
-    let b = contents c.write_taken-in-Withdraw.new.out in
-    let r = c.write_taken-in-Withdraw.result in
+    let b = contents c.write_taken.new.out in
+    let r = c.write_taken.result in
     let commit = c.args.commit in
     let now = lines_after_refresh (lines_after c.args.store.now.base c.args.store.now.log) c.args.earlier.now in
     subst (λ action. Writes a b r (lines_text c.args.format (changes_by commit now action))) (sym c.in-Withdraw.is)
-    (subst (Writes a b r) (sym (text_of_withdrawn c.args.format commit c.in-Withdraw.key now)) c.write_taken-in-Withdraw.ensures)
+    (subst (Writes a b r) (sym (text_of_withdrawn c.args.format commit c.in-Withdraw.key now)) c.write_taken.ensures)

@@ -43,7 +43,7 @@ returns-in_ok-leave-in-Amend-clause-left c =
     let place = c.args.place in
     let action = c.index-actions-place.result in
     on_ok _ _ c.join-in-Amend.result
-    (notes_replace actions place c.key-key.result action c.in-Amend.order c.args.self.now c.leave.new.self
+    (notes_replace actions place c.key-key.result action c.in-Amend.order c.args.self.now c.leave-in-Amend.new.self
     c.join-in-Amend.new.self
     (at_place c.actions.result.now actions place action (cc) c.requires.within c.index-actions-place.is) c.in-Amend.is
     c.key-key.ensures c.in_ok-leave-in-Amend.ensures.left) c.join-in-Amend.ensures.left
@@ -53,7 +53,7 @@ returns-in-Withdraw-clause-left c =
     let actions = c.args.refresh.now.value in
     let place = c.args.place in
     let action = c.index-actions-place.result in
-    on_ok _ _ c.leave-in-Withdraw.result
-    (notes_withdraw actions place c.in-Withdraw.key c.args.self.now c.leave-in-Withdraw.new.self
+    on_ok _ _ c.leave.result
+    (notes_withdraw actions place c.in-Withdraw.key c.args.self.now c.leave.new.self
     (at_place c.actions.result.now actions place action (cc) c.requires.within c.index-actions-place.is
-    ∙ ap Some c.in-Withdraw.is)) c.leave-in-Withdraw.ensures.left
+    ∙ ap Some c.in-Withdraw.is)) c.leave.ensures.left
