@@ -1,6 +1,6 @@
 use Rattle.std.proofs.Common.{arith}
 -- A filter over all places, and one over the live ones.
-use Rattle.std.proofs.Common.{◌≡◌, Bool, true, false, cond, List, [], ◌∷◌, map, refl, ◌∙◌}
+use Rattle.std.proofs.Common.{◌≡◌, Bool, true, false, cond, List, [], ◌∷◌, map, refl}
 use Rattle.std.specs.Prelude.{◌&&◌}
 use Rattle.std.specs.List.{filter}
 use Rattle.fact_columns.specs.Places.{is_live, fact_at}

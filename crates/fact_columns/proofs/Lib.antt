@@ -8,4 +8,5 @@ pub mod PositionLaws
 pub mod ColumnLaws
 pub mod ZoneLaws
 pub mod GoneLaws
+pub mod OrderLaws
 pub mod LaidLaws

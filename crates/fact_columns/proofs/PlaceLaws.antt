@@ -17,7 +17,9 @@ use Rattle.row_store.specs.State.{Counts, with_fact, fact_counts, counts_after_a
 use Rattle.fact_columns.specs.declared.place.Place.{Place}
 use Rattle.fact_columns.specs.Places.{is_live, freed, fact_at, live_facts}
 use Rattle.fact_columns.specs.Classed.{IsPlaceOf}
-use Rattle.fact_columns.specs.Spans.{if_live, live_at, live_count, kept, is_of_other, Reaches, ReachesBy, Spanned, place_of}
+use Rattle.fact_columns.specs.LineOrders.{place_of}
+use Rattle.fact_columns.specs.Spans.{HasNumber, IsNumberOf, Reaches, Spanned, if_live, is_of_other, kept, live_at, live_count}
+use Rattle.fact_columns.specs.Columns.{FactPlaces}
 use Rattle.fact_columns.specs.Coded.{counts_at, with_places}
 use Rattle.fact_columns.specs.declared.span.Span.{Span}
 use Rattle.fact_columns.specs.declared.span.Spans.{Spans}
@@ -294,16 +296,33 @@ kept_some test None line is = absurd (cc)
 kept_some test (Some first) line is = let both = cond_some (test first) first line is in
     (ap Some both.1, ap test (sym both.1) ∙ both.0)
 
--- the span of a withdrawn order is not asked for
-pub spanned_withdrawn : (f g : Spans) (places later : List Place) (key : ℕ)
-    → ((order i : ℕ) → (order ≡ key → ⊥) → Reaches f order i → Reaches g order i)
-    → ((place : ℕ) → live_at later place ≡ kept (is_of_other key) (live_at places place)) → Spanned f places
-    → Spanned g later
-spanned_withdrawn f g places later key grows gone each other found is = grind (arith, kept_some, eq-eqb)
+-- behind the loaded lines a number is that of its own place
+pub lies_behind : (loaded : List ℕ) (number : ℕ) → length loaded ≤ number → place_of loaded number ≡ number
+lies_behind loaded number behind = ap (λ b. cond b (get_or loaded number 0) number)
+    (le-ltb number (length loaded) behind)
 
-pub covered : (f : Spans) (places : List Place) (key : ℕ) → Spanned f places → (place : ℕ) (line : Place)
-    → live_at places place ≡ Some line → line.order ≡ key → Reaches f key place
-covered f places key each place line is same = subst (λ k. Reaches f k place) same (each place line is)
+-- what is reached is reached by other spans too, where they have its numbers
+pub reaches_on : (f g : Spans) (loaded later : List ℕ) (order place : ℕ)
+    → ((number : ℕ) → IsNumberOf f order number → IsNumberOf g order number) → later ≡ loaded
+    → Reaches f loaded order place → Reaches g later order place
+reaches_on f g loaded later order place numbers same r = record {
+  number = r.number;
+  of = numbers r.number r.of;
+  lies = ap (λ l. place_of l r.number) same ∙ r.lies;
+}
+
+-- the span of a withdrawn order is not asked for
+pub spanned_withdrawn : (f g : Spans) (table later : FactPlaces) (key : ℕ) → later.loaded ≡ table.loaded
+    → ((order number : ℕ) → (order ≡ key → ⊥) → IsNumberOf f order number → IsNumberOf g order number)
+    → ((place : ℕ) → live_at later.places place ≡ kept (is_of_other key) (live_at table.places place))
+    → Spanned f table → Spanned g later
+spanned_withdrawn f g table later key same numbers gone each place line live =
+    let was = kept_some (is_of_other key) (live_at table.places place) line (sym (gone place) ∙ live) in
+    reaches_on f g table.loaded later.loaded line.order place
+    (λ number. numbers line.order number (is_other line was.1)) same
+    (each place line was.0) where
+      is_other : (l : Place) → is_of_other key l ≡ true → l.order ≡ key → ⊥
+      is_other l other is = grind (arith, eq-eqb)
 
 pub within_freed : (dimensions : Dimensions) (place : Place) → IsPlaceOf dimensions place
     → IsPlaceOf dimensions (freed place)
@@ -314,29 +333,39 @@ order m zero = inr (omega arith)
 order zero (suc n) = inl (omega arith)
 order (suc m) (suc n) = ⊎_elim (λ l. inl (omega (arith, l))) (λ l. inr (omega (arith, l))) (order m n)
 
--- so many places from the first on have lines of one order, and its span covers them
-pub spanned_put : (f g : Spans) (places later : List Place) (first key : ℕ) (lines : List Place)
-    → ((i : ℕ) (other : Place) → i < length lines → live_at later (first + i) ≡ Some (get_or lines i other))
+-- so many places from the first on have lines of one order, and its spans have their numbers
+pub spanned_put : (f g : Spans) (table later : FactPlaces) (first key : ℕ) (lines : List Place) (span : Span)
+    → span.first ≡ first → span.end ≡ first + length lines → length table.loaded ≤ first → later.loaded ≡ table.loaded
+    → ((i : ℕ) (other : Place) → i < length lines → live_at later.places (first + i) ≡ Some (get_or lines i other))
     → All (λ line. line.order ≡ key) lines
-    → ((place : ℕ) → place < first → live_at later place ≡ live_at places place)
-    → ((place : ℕ) → first + length lines ≤ place → live_at later place ≡ live_at places place)
-    → ((place : ℕ) → first ≤ place → place < first + length lines → Reaches g key place)
-    → ((order place : ℕ) → Reaches f order place → Reaches g order place) → Spanned f places → Spanned g later
-spanned_put f g places later first key lines mine alike below above own grows each place found is =
-    ⊎_elim
-    (λ lt. grows found.order place (each place found (sym (below place lt) ∙ is)))
-    (λ from. ⊎_elim
-    (λ within.
-    let i : ℕ = place - first in
-    let here : first + i ≡ place = omega (arith, from) in
-    let inside : i < length lines = omega (arith, from, within) in
-    let line : get_or lines i found ≡ found = same_Some _ found
-    (sym (mine i found inside) ∙ ap (live_at later) here ∙ is) in
-    let same : found.order ≡ key = sym (ap (λ (p : Place). p.order) line) ∙ alike i found inside in
-    subst (λ k. Reaches g k place) (sym same) (own place from within))
-    (λ past. grows found.order place (each place found (sym (above place past) ∙ is)))
+    → ((place : ℕ) → place < first → live_at later.places place ≡ live_at table.places place)
+    → ((place : ℕ) → first + length lines ≤ place → live_at later.places place ≡ live_at table.places place)
+    → ((number : ℕ) → HasNumber span number → IsNumberOf g key number)
+    → ((order number : ℕ) → IsNumberOf f order number → IsNumberOf g order number) → Spanned f table → Spanned g later
+spanned_put f g table later first key lines span from_is to_is behind same mine alike below above own grows each place
+    found is =
+    ⊎_elim (λ lt. was (sym (below place lt) ∙ is))
+    (λ from. ⊎_elim (λ within. here from within) (λ past. was (sym (above place past) ∙ is))
     (order place (first + length lines)))
-    (order place first)
+    (order place first) where
+      was : live_at table.places place ≡ Some found → Reaches g later.loaded found.order place
+      was live = reaches_on f g table.loaded later.loaded found.order place (grows found.order) same (each place found live)
+
+      here : first ≤ place → place < first + length lines → Reaches g later.loaded found.order place
+      here from within =
+          let i : ℕ = place - first in
+          let at : first + i ≡ place = omega (arith, from) in
+          let inside : i < length lines = omega (arith, from, within) in
+          let line : get_or lines i found ≡ found = same_Some _ found
+          (sym (mine i found inside) ∙ ap (live_at later.places) at ∙ is) in
+          let its : found.order ≡ key = sym (ap (λ (p : Place). p.order) line) ∙ alike i found inside in
+          record {
+            number = place;
+            of = subst (λ k. IsNumberOf g k place) (sym its)
+                (own place (omega (arith, from, from_is), omega (arith, within, to_is)));
+            lies = ap (λ l. place_of l place) same
+                ∙ lies_behind table.loaded place (omega (arith, from, behind));
+          }
 
 -- one line more is put
 pub mine_more : (places later : List Place) (first i : ℕ) (lines : List Place) (d : Place) → i < length lines
@@ -366,11 +395,6 @@ pub is_of_none : (key : ℕ) (o : Option Place) → option_eq eqb (option_map (�
 is_of_none key None is line at same = grind arith
 is_of_none key (Some own) is line at same = grind (arith, eq-eqb, same_Some)
 
--- what a span reaches, read elsewhere
-pub reached : (span : Span) (loaded later : List ℕ) (place : ℕ) → later ≡ loaded → ReachesBy span loaded place
-    → ReachesBy span later place
-reached span loaded later place same h = subst (λ l. ReachesBy span l place) (sym same) h
-
 -- what has been left out stays out
 pub kept_twice : (test : Place → Bool) (o : Option Place) → kept test (kept test o) ≡ kept test o
 kept_twice test None = refl
@@ -383,14 +407,10 @@ kept_twice test (Some line) = by_test (test line) refl where
 pub stays_other : (key : ℕ) (line : Place) → eqb line.order key ≡ false → kept (is_of_other key) (Some line) ≡ Some line
 stays_other key line other = ap (λ b. cond (not b) (Some line) None) other
 
--- behind the loaded lines a number is that of its own place
-pub lies_behind : (loaded : List ℕ) (number : ℕ) → length loaded ≤ number → place_of loaded number ≡ number
-lies_behind loaded number behind = ap (λ b. cond b (get_or loaded number 0) number)
-    (le-ltb number (length loaded) behind)
-
--- spans that reach all that others do, over the same places
-pub spanned_on : (f g : Spans) (places later : List Place)
-    → ((order place : ℕ) → Reaches f order place → Reaches g order place) → later ≡ places → Spanned f places
-    → Spanned g later
-spanned_on f g places later reaches same h i place live =
-    reaches place.order i (h i place (subst (λ ps. live_at ps i ≡ Some place) same live))
+-- spans that have all numbers that others have, over the same places
+pub spanned_on : (f g : Spans) (table later : FactPlaces)
+    → ((order number : ℕ) → IsNumberOf f order number → IsNumberOf g order number) → later.places ≡ table.places
+    → later.loaded ≡ table.loaded → Spanned f table → Spanned g later
+spanned_on f g table later numbers same loaded each i place live =
+    reaches_on f g table.loaded later.loaded place.order i (numbers place.order) loaded
+    (each i place (subst (λ ps. live_at ps i ≡ Some place) same live))

@@ -10,7 +10,7 @@ use Rattle.std.proofs.lemmas.Grind.{same_number_lists}
 use Rattle.fact_columns.specs.declared.place.Place.{Place}
 use Rattle.fact_columns.specs.Places.{freed}
 use Rattle.fact_columns.specs.Columns.{Held, place_at, held, AreAlike}
-use Rattle.fact_columns.specs.RowColumns.{RowColumns}
+use Rattle.fact_columns.specs.Names.{Names}
 use Rattle.fact_columns.specs.declared.place_columns.PlaceColumns.TheInside.{Inside}
 use Rattle.std.specs.Vec.{vec_len}
 
@@ -51,7 +51,7 @@ pub places_len : {X : Type 0} (f : ℕ → X) (n : ℕ) → length (map f (range
 places_len f n = length-map-range_with_len f 0 n
 
 -- there are as many places as each column is long
-pub long : (t : Inside) (h : Held) → held t ≡ h → length h.places ≡ vec_len t.order
+pub long : (t : Inside) (h : Held) → held t ≡ h → length h.places ≡ vec_len t.terms
 long t h is = grind (arith, places_len)
 
 zero_add : (n : ℕ) → 0 + n ≡ n
@@ -179,9 +179,9 @@ append_places order customer supplier part date terms price revenue cost custome
     part_class2 date_class2 n m long long2 = grind (arith, append_some, front, behind)
 
 -- a table's columns are so long
-pub alike_long : (t : Inside) → AreAlike t → AreLong t.order.items t.rows.columns.customers t.rows.columns.suppliers t.rows.columns.parts
-    t.rows.columns.dates t.terms.items t.price.items t.revenue.items t.cost.items t.customer_class.items t.supplier_class.items
-    t.part_class.items t.date_class.items (vec_len t.order)
+pub alike_long : (t : Inside) → AreAlike t → AreLong t.named.columns.orders t.named.columns.customers t.named.columns.suppliers t.named.columns.parts
+    t.named.columns.dates t.terms.items t.price.items t.revenue.items t.cost.items t.customer_class.items t.supplier_class.items
+    t.part_class.items t.date_class.items (vec_len t.terms)
 alike_long t alike = grind arith
 
 -- a column behind which stands another, as the others do
@@ -190,9 +190,9 @@ longer_by xs ys n m all long others is = omega (arith, length-append xs ys, long
 
 -- a table that has room for so many places has memory for the columns of as many
 pub room_for : (t o : Inside) (h k : Held) (count : ℕ) → AreAlike t → held t ≡ h → held o ≡ k → count ≤ h.room
-    → count ≡ length k.places → vec_len t.order + vec_len o.order ≤ t.capacity
+    → count ≡ length k.places → vec_len t.terms + vec_len o.terms ≤ t.capacity
 room_for t o h k count alike is others room all =
-    let own : t.capacity - vec_len t.order ≡ h.room = ap (λ (x : Held). x.room) is in
+    let own : t.capacity - vec_len t.terms ≡ h.room = ap (λ (x : Held). x.room) is in
     omega (arith, own, room, all, long o k others, alike.within)
 
 -- a column is read off the places
@@ -207,8 +207,8 @@ column_of field f xs n same each = same_number_lists xs (map field (map f (range
     ∙ each i))
 
 -- what stands at a place
-pub read_at : (t : Inside) (h : Held) → held t ≡ h → (i : ℕ) (d : Place) → i < vec_len t.order
-    → place_at t.order.items t.rows.columns.customers t.rows.columns.suppliers t.rows.columns.parts t.rows.columns.dates t.terms.items t.price.items
+pub read_at : (t : Inside) (h : Held) → held t ≡ h → (i : ℕ) (d : Place) → i < vec_len t.terms
+    → place_at t.named.columns.orders t.named.columns.customers t.named.columns.suppliers t.named.columns.parts t.named.columns.dates t.terms.items t.price.items
     t.revenue.items t.cost.items t.customer_class.items t.supplier_class.items t.part_class.items t.date_class.items
     i ≡ get_or h.places i d
 read_at t h is i d within = grind (arith, get_or-map-range_with_len, zero_add)
@@ -225,13 +225,14 @@ read_next : (numbers column : List ℕ) (i : ℕ) → i < length numbers
     → get_or (read_in numbers column) i 0 ≡ get_or column (get_or numbers i 0) 0
 read_next numbers column i within = get_or-map (λ number. get_or column number 0) numbers i 0 0 within
 
--- the rows that lines name, read in the order of these numbers
-abbrev pub read_rows : List ℕ → RowColumns → RowColumns
-read_rows numbers rows = record {
-  customers = read_in numbers rows.customers;
-  suppliers = read_in numbers rows.suppliers;
-  parts = read_in numbers rows.parts;
-  dates = read_in numbers rows.dates;
+-- what lines name, read in the order of these numbers
+abbrev pub read_names : List ℕ → Names → Names
+read_names numbers names = record {
+  orders = read_in numbers names.orders;
+  customers = read_in numbers names.customers;
+  suppliers = read_in numbers names.suppliers;
+  parts = read_in numbers names.parts;
+  dates = read_in numbers names.dates;
 }
 
 -- places whose columns are read in the order of these numbers

@@ -13,26 +13,26 @@ use Rattle.fact_columns.specs.declared.span.Spans.{Spans}
 use Rattle.fact_columns.specs.Places.{is_live}
 use Rattle.fact_columns.specs.Classed.{IsPlaceOf}
 use Rattle.fact_columns.specs.Coded.{AreCodesOf, counts_at, with_places, key_of}
-use Rattle.fact_columns.specs.Columns.{Held}
+use Rattle.fact_columns.specs.Columns.{FactPlaces}
 use Rattle.fact_columns.specs.Spans.{Spanned, live_count}
 use Rattle.fact_columns.specs.Watching.{FollowsOn}
 
 -- there is room for the lines and for their span, and each is a live line of the order
-pub record CanAdd (table : Held) (spans : Spans) (key : ℕ) (lines : List Place) : Type 0 where
+pub record CanAdd (table : FactPlaces) (spans : Spans) (key : ℕ) (lines : List Place) : Type 0 where
   pub room : length lines ≤ table.room
   pub small : length table.places + length lines < 2 ^ 32
-  pub spare : 0 < spare spans.by_key
+  pub spare : 0 < spare spans.added
   pub live : All (λ line. is_live line ≡ true) lines
   pub own : All (λ line. line.order ≡ key) lines
-  pub spanned : Spanned spans table.places
-  pub behind : length spans.loaded.value ≤ length table.places
+  pub spanned : Spanned spans table
+  pub behind : length table.loaded ≤ length table.places
 
 -- the lines stand in the table, in the span of their order, and all others as before
 pub record Added {W : Type 0} (follows : W → Tables → List ScannedLine → Type 0) (was is : W)
-    (old new : Held) (old_spans new_spans : Spans)
+    (old new : FactPlaces) (old_spans new_spans : Spans)
     (lines : List Place) : Type 0 where
-  pub spanned : Spanned new_spans new.places
-  pub loaded : new_spans.loaded.value ≡ old_spans.loaded.value
+  pub spanned : Spanned new_spans new
+  pub loaded : new.loaded ≡ old.loaded
   pub watched : FollowsOn follows was is old.places new.places
   pub counts : (dimensions : Dimensions)
       → counts_at dimensions new.places ≡ with_places dimensions (counts_at dimensions old.places) lines
@@ -42,14 +42,14 @@ pub record Added {W : Type 0} (follows : W → Tables → List ScannedLine → T
   pub len : length new.places ≤ length old.places + length lines
   pub longer : length old.places ≤ length new.places
   pub room : old.room ≤ new.room + length lines
-  pub spare : spare old_spans.by_key ≤ spare new_spans.by_key + 1
+  pub spare : spare old_spans.added ≤ spare new_spans.added + 1
 
 -- the lines of the order, so many, are gone from the table, and all others stand as before
 pub record Withdrawn {W : Type 0} (follows : W → Tables → List ScannedLine → Type 0) (was is : W)
-    (old new : Held) (old_spans new_spans : Spans)
+    (old new : FactPlaces) (old_spans new_spans : Spans)
     (key freed : ℕ) : Type 0 where
-  pub spanned : Spanned new_spans new.places
-  pub loaded : new_spans.loaded.value ≡ old_spans.loaded.value
+  pub spanned : Spanned new_spans new
+  pub loaded : new.loaded ≡ old.loaded
   pub watched : FollowsOn follows was is old.places new.places
   pub counts : (dimensions : Dimensions)
       → counts_at dimensions new.places ≡ counts_after_action (counts_at dimensions old.places) (Withdraw key)
@@ -58,26 +58,26 @@ pub record Withdrawn {W : Type 0} (follows : W → Tables → List ScannedLine �
       → All (IsPlaceOf dimensions) new.places
   pub len : length new.places ≡ length old.places
   pub room : new.room ≡ old.room
-  pub spare : spare old_spans.by_key ≤ spare new_spans.by_key
+  pub spare : spare old_spans.added ≤ spare new_spans.added
 
 -- these are the lines that the action adds, in codes, and there is room for them
-pub record CanApply (table : Held) (spans : Spans) (action : Action)
+pub record CanApply (table : FactPlaces) (spans : Spans) (action : Action)
     (lines : List Place) : Type 0 where
   pub room : length lines ≤ table.room
   pub small : length table.places + length lines < 2 ^ 32
-  pub spare : 0 < spare spans.by_key
+  pub spare : 0 < spare spans.added
   pub dimensions : Dimensions
   pub coded : AreCodesOf dimensions (facts_of (added_by action)) lines
   pub alike : All (λ line. line.order_key ≡ key_of action) (added_by action)
-  pub spanned : Spanned spans table.places
-  pub behind : length spans.loaded.value ≤ length table.places
+  pub spanned : Spanned spans table
+  pub behind : length table.loaded ≤ length table.places
 
 -- the action has added these lines and taken so many
 pub record Applied {W : Type 0} (follows : W → Tables → List ScannedLine → Type 0) (was is : W)
-    (old new : Held) (old_spans new_spans : Spans) (action : Action)
+    (old new : FactPlaces) (old_spans new_spans : Spans) (action : Action)
     (lines : List Place) (freed : ℕ) : Type 0 where
-  pub spanned : Spanned new_spans new.places
-  pub loaded : new_spans.loaded.value ≡ old_spans.loaded.value
+  pub spanned : Spanned new_spans new
+  pub loaded : new.loaded ≡ old.loaded
   pub watched : FollowsOn follows was is old.places new.places
   pub counts : (dimensions : Dimensions) → AreCodesOf dimensions (facts_of (added_by action)) lines
       → counts_at dimensions new.places ≡ counts_after_action (counts_at dimensions old.places) action
@@ -87,25 +87,25 @@ pub record Applied {W : Type 0} (follows : W → Tables → List ScannedLine →
   pub len : length new.places ≤ length old.places + length lines
   pub longer : length old.places ≤ length new.places
   pub room : old.room ≤ new.room + length lines
-  pub spare : spare old_spans.by_key ≤ spare new_spans.by_key + 1
+  pub spare : spare old_spans.added ≤ spare new_spans.added + 1
 
 -- these are the lines that the actions add, in codes, and there is room for them
-pub record CanApplyAll (table : Held) (spans : Spans) (actions : List Action)
+pub record CanApplyAll (table : FactPlaces) (spans : Spans) (actions : List Action)
     (lines : List Place) : Type 0 where
   pub room : length lines ≤ table.room
   pub small : length table.places + length lines < 2 ^ 32
-  pub spare : length actions ≤ spare spans.by_key
+  pub spare : length actions ≤ spare spans.added
   pub dimensions : Dimensions
   pub coded : AreCodesOf dimensions (facts_of (flat_map added_by actions)) lines
-  pub spanned : Spanned spans table.places
-  pub behind : length spans.loaded.value ≤ length table.places
+  pub spanned : Spanned spans table
+  pub behind : length table.loaded ≤ length table.places
 
 -- the actions, one after another, have added these lines and taken so many
 pub record AppliedAll {W : Type 0} (follows : W → Tables → List ScannedLine → Type 0) (was is : W)
-    (old new : Held) (old_spans spans : Spans) (actions : List Action)
+    (old new : FactPlaces) (old_spans spans : Spans) (actions : List Action)
     (lines : List Place) (freed : ℕ) : Type 0 where
-  pub spanned : Spanned spans new.places
-  pub loaded : spans.loaded.value ≡ old_spans.loaded.value
+  pub spanned : Spanned spans new
+  pub loaded : new.loaded ≡ old.loaded
   pub watched : FollowsOn follows was is old.places new.places
   pub counts : (dimensions : Dimensions) → AreCodesOf dimensions (facts_of (flat_map added_by actions)) lines
       → counts_at dimensions new.places ≡ fold counts_after_action (counts_at dimensions old.places) actions

@@ -10,6 +10,12 @@ pub record Held : Type 0 where
   pub places : List Place
   pub room : ℕ
 
+-- the places of a table, for how many more there is memory, and where each loaded line lies, by its number
+pub record FactPlaces : Type 0 where
+  pub places : List Place
+  pub room : ℕ
+  pub loaded : List ℕ
+
 -- what the columns have at an index
 abbrev pub place_at : (order customer supplier part date terms price revenue cost customer_class supplier_class
     part_class date_class : List ℕ) → ℕ → Place
@@ -41,31 +47,31 @@ pub record AreColumnsOf (places : List Place) (lines : LineColumns) : Type 0 whe
   pub revenues : lines.revenue.now ≡ map (λ place. place.revenue) places
   pub costs : lines.cost.now ≡ map (λ place. place.cost) places
 
--- a table's columns as one list of places
+-- columns as one list of places
 abbrev pub held : Inside → Held
 held t = record {
-  places = map (place_at t.order.items t.rows.columns.customers t.rows.columns.suppliers t.rows.columns.parts t.rows.columns.dates t.terms.items
-      t.price.items t.revenue.items t.cost.items t.customer_class.items t.supplier_class.items t.part_class.items
-      t.date_class.items) (range_with_len 0 (vec_len t.order));
-  room = t.capacity - vec_len t.order;
+  places = map (place_at t.named.columns.orders t.named.columns.customers t.named.columns.suppliers
+      t.named.columns.parts t.named.columns.dates t.terms.items t.price.items t.revenue.items t.cost.items
+      t.customer_class.items t.supplier_class.items t.part_class.items t.date_class.items)
+      (range_with_len 0 (vec_len t.terms));
+  room = t.capacity - vec_len t.terms;
 }
 
 -- every column is as long as the first, and each that memory holds has room for the table's capacity
 pub record AreAlike (t : Inside) : Type 0 where
-  pub customer : length t.rows.columns.customers ≡ vec_len t.order
-  pub supplier : length t.rows.columns.suppliers ≡ vec_len t.order
-  pub part : length t.rows.columns.parts ≡ vec_len t.order
-  pub date : length t.rows.columns.dates ≡ vec_len t.order
-  pub terms : vec_len t.terms ≡ vec_len t.order
-  pub price : vec_len t.price ≡ vec_len t.order
-  pub revenue : vec_len t.revenue ≡ vec_len t.order
-  pub cost : vec_len t.cost ≡ vec_len t.order
-  pub customer_class : vec_len t.customer_class ≡ vec_len t.order
-  pub supplier_class : vec_len t.supplier_class ≡ vec_len t.order
-  pub part_class : vec_len t.part_class ≡ vec_len t.order
-  pub date_class : vec_len t.date_class ≡ vec_len t.order
-  pub within : vec_len t.order ≤ t.capacity
-  pub order_room : t.capacity ≤ vec_capacity t.order
+  pub order : length t.named.columns.orders ≡ vec_len t.terms
+  pub customer : length t.named.columns.customers ≡ vec_len t.terms
+  pub supplier : length t.named.columns.suppliers ≡ vec_len t.terms
+  pub part : length t.named.columns.parts ≡ vec_len t.terms
+  pub date : length t.named.columns.dates ≡ vec_len t.terms
+  pub price : vec_len t.price ≡ vec_len t.terms
+  pub revenue : vec_len t.revenue ≡ vec_len t.terms
+  pub cost : vec_len t.cost ≡ vec_len t.terms
+  pub customer_class : vec_len t.customer_class ≡ vec_len t.terms
+  pub supplier_class : vec_len t.supplier_class ≡ vec_len t.terms
+  pub part_class : vec_len t.part_class ≡ vec_len t.terms
+  pub date_class : vec_len t.date_class ≡ vec_len t.terms
+  pub within : vec_len t.terms ≤ t.capacity
   pub terms_room : t.capacity ≤ vec_capacity t.terms
   pub price_room : t.capacity ≤ vec_capacity t.price
   pub revenue_room : t.capacity ≤ vec_capacity t.revenue

@@ -15,8 +15,8 @@ stored c = record {
 }
 
 pub record AreKept (c : Inside) : Type 0 where
-  pub spanned : Spanned c.spans c.table.places
-  pub behind : length c.spans.loaded.value ≤ length c.table.places
+  pub spanned : Spanned c.spans c.table
+  pub behind : length c.table.loaded ≤ length c.table.places
   pub counted : c.rows ≡ live_count c.table.places
   pub within : All (IsPlaceOf c.index.value.dimensions) c.table.places
   pub few : length c.table.places < 2 ^ 32

@@ -1,9 +1,11 @@
 pub mod Places
-pub mod RowColumns
+pub mod Names
 pub mod Columns
 pub mod Filters
 pub mod Classed
 pub mod Stored
+pub mod Laid
+pub mod LineOrders
 pub mod Spans
 pub mod Coded
 pub mod Kept
@@ -13,5 +15,4 @@ pub mod Applied
 pub mod ZoneSets
 pub mod Zoned
 pub mod Tables
-pub mod Laid
 pub mod Loading

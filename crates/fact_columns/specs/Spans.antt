@@ -1,9 +1,11 @@
 -- Where the live lines of an order lie.
-use Rattle.std.specs.Prelude.{◌≡◌, ℕ, ◌+◌, ◌<◌, ◌≤◌, Bool, not, nat_eq, nat_lt, cond, List, length, filter, slice_get}
-use Rattle.std.specs.Prelude.{Option, Some, None, slice_index}
+use Rattle.std.specs.Prelude.{◌≡◌, ◌⊎◌, ℕ, ◌+◌, ◌<◌, ◌≤◌, Bool, not, nat_eq, cond, List, length, filter, slice_get}
+use Rattle.std.specs.Prelude.{Option, Some, None}
 use Rattle.std.specs.HashMap.{get}
 use Rattle.fact_columns.specs.declared.place.Place.{Place}
 use Rattle.fact_columns.specs.Places.{is_live}
+use Rattle.fact_columns.specs.Columns.{FactPlaces}
+use Rattle.fact_columns.specs.LineOrders.{place_of}
 use Rattle.fact_columns.specs.declared.span.Span.{Span}
 use Rattle.fact_columns.specs.declared.span.Spans.{Spans}
 
@@ -40,9 +42,10 @@ abbrev pub Covers : Option Span → ℕ → Type 0
 Covers None number = ⊥
 Covers (Some span) number = HasNumber span number
 
--- the place of the line of a number: a loaded line is where it was laid, any other at its own number
-abbrev pub place_of : List ℕ → ℕ → ℕ
-place_of loaded number = cond (nat_lt number (length loaded)) (slice_index loaded number) number
+-- a loaded line of the order has the number, or one that was added
+abbrev pub IsNumberOf : Spans → ℕ → ℕ → Type 0
+IsNumberOf spans key number =
+    Covers (get nat_eq spans.loaded.value key) number ⊎ Covers (get nat_eq spans.added key) number
 
 -- a number of the span is that of a line at the place
 pub record ReachesBy (span : Span) (loaded : List ℕ) (place : ℕ) : Type 0 where
@@ -50,15 +53,24 @@ pub record ReachesBy (span : Span) (loaded : List ℕ) (place : ℕ) : Type 0 wh
   pub has : HasNumber span number
   pub lies : place_of loaded number ≡ place
 
--- a number of the order's span is that of a line at the place
-pub record Reaches (spans : Spans) (key place : ℕ) : Type 0 where
+-- a number of the order's lines is that of a line at the place
+pub record Reaches (spans : Spans) (loaded : List ℕ) (key place : ℕ) : Type 0 where
   pub number : ℕ
-  pub covers : Covers (get nat_eq spans.by_key key) number
-  pub lies : place_of spans.loaded.value number ≡ place
+  pub of : IsNumberOf spans key number
+  pub lies : place_of loaded number ≡ place
 
--- each live line is reached by the span of its order
-abbrev pub Spanned : Spans → List Place → Type 0
-Spanned spans places = (i : ℕ) (place : Place) → live_at places i ≡ Some place → Reaches spans place.order i
+-- each live line is reached by the spans of its order
+abbrev pub Spanned : Spans → FactPlaces → Type 0
+Spanned spans table = (i : ℕ) (place : Place) → live_at table.places i ≡ Some place
+    → Reaches spans table.loaded place.order i
+
+-- what was there of the order is gone from the place
+abbrev pub IsGone : ℕ → List Place → List Place → ℕ → Type 0
+IsGone key old later place = live_at later place ≡ kept (is_of_other key) (live_at old place)
+
+-- it is gone, or all is as it was
+abbrev pub IsGoneOrLeft : ℕ → List Place → List Place → ℕ → Type 0
+IsGoneOrLeft key old later place = IsGone key old later place ⊎ (live_at later place ≡ live_at old place)
 
 -- nothing live stands at the indices from the first on, so many
 abbrev pub AreFree : List Place → ℕ → ℕ → Type 0

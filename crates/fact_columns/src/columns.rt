@@ -1,5 +1,5 @@
 //! The columns as a replica.
-ghost use Rattle.std.specs.Prelude.{◌≡◌, ◌<◌, ◌^◌, [], ℕ, List, length, nat_eq, option_map, slice_index_or, IfOk, MatchResult};
+ghost use Rattle.std.specs.Prelude.{◌≡◌, ◌<◌, ◌^◌, [], ℕ, List, length, nat_eq, slice_index_or, IfOk, MatchResult};
 ghost use Rattle.std.specs.Prelude.{OnErr, OnOk};
 ghost use Rattle.std.specs.HashMap.{get};
 ghost use Rattle.ssb_schema.specs.Facts.{facts_of};
@@ -9,16 +9,15 @@ ghost use Rattle.row_store.specs.State.{StandsFor, state_of, state_after};
 ghost use Rattle.fact_columns.specs.declared.place.Place.{Place as PlainPlace};
 ghost use Rattle.fact_columns.specs.Loading.{IsLoaded};
 ghost use Rattle.fact_columns.specs.Columns.{AreColumnsOf};
-ghost use Rattle.fact_columns.specs.Spans.{Covers, live_at};
+ghost use Rattle.fact_columns.specs.Spans.{Covers};
 ghost use Rattle.fact_columns.specs.Stored.{Stored, IsRead, columns_state};
 ghost use Rattle.fact_columns.specs.Watching.{FollowsOn, scanned_line};
 
 use crate::coding::coded_actions;
 use crate::fact_table::FactTable;
 use crate::hints::Hints;
-use crate::loading::{Loaded, laid_lines, spans_of};
+use crate::loading::{laid_lines, spans_of};
 use crate::orders::apply_actions;
-use crate::placing::live_order;
 use crate::scanned_line::ScannedLine;
 use crate::span::{Spans, SpansByKey};
 use crate::watch::{Nobody, Watch};
@@ -26,6 +25,7 @@ use dimension_index::DimIndex;
 use row_store::{Commit, Replica};
 use scan_kernel::LineColumns;
 use std::alloc::{AllocError, Global};
+use std::collections::HashMap;
 use std::hash::RandomState;
 use std::marker::Model;
 use std::sync::Arc;
@@ -85,25 +85,25 @@ impl Columns {
         let base = index.base();
         base.soundness();
         let lines = base.lines();
-        let (laid, spans) = thread::join(
+        let (table, spans) = thread::join(
             rt,
-            || -> Result<Loaded, AllocError>
-                requires { length lines.now < 2 ^ 32 }
-                ensures { IfOk result (IsLoaded index.value.dimensions lines.entry.now) }
-            { laid_lines(rt, alloc, &index, lines) },
+            || -> Result<FactTable, AllocError>
+                requires { length index.value.lines < 2 ^ 32 }
+                ensures { IfOk result (IsLoaded index.value.dimensions index.value.lines) }
+            { laid_lines(rt, alloc, &index) },
             move || -> Result<SpansByKey, AllocError>
                 requires { length lines.now < 2 ^ 32 }
                 ensures { IfOk result (λ spans. (i : ℕ) (line : LineFields) → i < length lines.entry.now
                     → Covers (get nat_eq spans (slice_index_or lines.entry.now i line).order_key) i) }
             { spans_of(alloc, hashing, lines) },
         );
-        let Loaded { table, places } = laid?;
-        let by_key = spans?;
-        let loaded = Arc::new(alloc, places)?;
+        let table = table?;
+        let loaded = Arc::new(alloc, spans?)?;
+        let added = HashMap::with_hasher(alloc, hashing);
         let rows = lines.len();
         Ok(Columns {
             table,
-            spans: Spans { by_key, loaded },
+            spans: Spans { loaded, added },
             hints: Hints::new(alloc),
             rows,
             commits: 0,
@@ -135,13 +135,6 @@ impl Columns {
             → length self.now.facts ≡ length (lines_after self.now.base history) }
     {
         let _rows = self.rows();
-    }
-
-    /// The order of the live line at a place; None where the place is free, or there is none.
-    pub fn live_order(&self, place: usize) -> Option<u64>
-        ensures { result ≡ option_map (λ (line : PlainPlace). line.order) (live_at self.now.places place) }
-    {
-        live_order(&self.table, place)
     }
 
     /// The line at a place, as queries read it.

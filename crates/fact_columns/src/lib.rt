@@ -4,17 +4,19 @@
 //! `Columns` is a `Replica`: it begins with the loaded lines of a base and takes commit after commit, accepted or not,
 //! all of it or nothing. In its `FactTable` a line is kept in codes: its quantity and discount as one, and of its customer,
 //! supplier, part and date the classes, numbers that rows share which no query can tell apart. Which rows these are, by
-//! position, contracts alone see, who read lines back by it: no memory holds it (`NamedRows`). Each column is a `Vec` of
-//! its own, so that a scan reads only what it needs. A withdrawn line leaves its place
-//! free, with a quantity of 0, and a later line is written there; but no added line is put among the loaded ones, which
-//! lie by regions and months (`clusters.rt`). An order's lines are found by its span of numbers, and a loaded line's
-//! place by its number. Beside the columns stand their zones (`TableZones`): which rows the lines of each chunk of
-//! places name, so that a scan leaves out chunks of which no question takes a line.
+//! position, and of which order a line is, contracts alone see, who read lines back by it: no memory holds it
+//! (`NamedColumns`). Each column is a `Vec` of its own, so that a scan reads only what it needs. A withdrawn line leaves
+//! its place free, with a quantity of 0, and a later line is written there; but no added line is put among the loaded
+//! ones, which lie by regions and months (`clusters.rt`). An order's lines are found by its spans of numbers (`Spans`):
+//! those of loaded orders all copies share. A loaded line's number leads to its place, and to its order, which stands in
+//! the base; the order of an added line stands in a column (`LineOrders`). Beside the columns stand their zones
+//! (`TableZones`): which rows the lines of each chunk of places name, so that a scan leaves out chunks of which no
+//! question takes a line.
 //!
 //! ```text
 //!  commit ── lines in codes ──▶ free places of a hint, else the end ──▶ columns ── lines ──▶ the scan
 //!                                     ▲                                    │
-//!                                     └──────── withdrawn places ◀─────────┘ by the span of their order
+//!                                     └──────── withdrawn places ◀─────────┘ by the spans of their order
 //! ```
 //!
 //! The contract: the state (`specs/Stored.antt`, `columns_state`) is that of the live facts, read back through the
@@ -41,8 +43,9 @@ mod fact_table;
 pub mod filters;
 mod hints;
 pub mod laws;
+mod line_orders;
 mod loading;
-mod named_rows;
+mod named_columns;
 mod orders;
 mod place;
 mod place_columns;

@@ -12,14 +12,16 @@ ghost use Rattle.fact_columns.specs.Loading.{IsLoaded};
 use crate::clusters::laid_out;
 use crate::coding::coded_pieces;
 use crate::fact_table::FactTable;
+use crate::line_orders::LineOrders;
 use crate::place_columns::PlaceColumns;
 use crate::span::{Span, SpansByKey, widen_by_key};
 use crate::table_zones::TableZones;
 use dimension_index::DimIndex;
-use ssb_schema::{Items, Line};
+use ssb_schema::Line;
 use std::alloc::{AllocError, Global};
 use std::collections::HashMap;
 use std::hash::RandomState;
+use std::sync::Arc;
 use std::thread::Threads;
 
 // How many lines are coded, in pieces, before they are put into the table.
@@ -76,32 +78,22 @@ fn columns_of(
     Ok(columns)
 }
 
-/// Loaded lines in columns, and the place of each, by its number.
-#[derive(Drop)]
-pub struct Loaded {
-    pub table: FactTable,
-    pub places: Items<u32>,
-}
-
-/// The lines in columns: those that questions look at together lie together. They are coded in the order in which they
-/// were loaded, by as many threads as there are processors, and then laid: a column is read from its start to its end
-/// and written at as many places as there are clusters, so that caches serve both.
+/// The loaded lines of the index's base in a table: those that questions look at together lie together. They are coded
+/// in the order in which they were loaded, by as many threads as there are processors, and then laid: a column is read
+/// from its start to its end and written at as many places as there are clusters, so that caches serve both.
 pub fn laid_lines(
     rt: &(impl Threads + Sync),
     alloc: Global,
-    index: &DimIndex,
-    lines: &[Line],
-) -> Result<Loaded, AllocError>
-    requires { length lines.now < 2 ^ 32 }
-    ensures { IfOk result (IsLoaded index.now.dimensions lines.now) }
+    index: &Arc<DimIndex>,
+) -> Result<FactTable, AllocError>
+    requires { length index.now.value.lines < 2 ^ 32 }
+    ensures { IfOk result (IsLoaded index.now.value.dimensions index.now.value.lines) }
 {
-    let columns = columns_of(rt, alloc, index, lines)?;
+    let columns = columns_of(rt, alloc, index, index.base().lines())?;
     let places = laid_out(alloc, index, &columns)?;
     let laid = columns.laid(&places)?;
-    Ok(Loaded {
-        table: FactTable::of(laid, TableZones::new(alloc, index)?)?,
-        places: Items::from_vec(places),
-    })
+    let zones = TableZones::new(alloc, index)?;
+    FactTable::of(laid, zones, LineOrders::new(alloc, index, places)?)
 }
 
 // Behind the last of the adjacent lines of an order that begin at an index.

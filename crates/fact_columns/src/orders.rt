@@ -8,7 +8,7 @@ use crate::fact_table::FactTable;
 use crate::hints::Hints;
 use crate::place::Place;
 use crate::placing::{are_free, free_order, put_all};
-use crate::span::{Span, Spans, take_span, widen};
+use crate::span::{Span, Spans};
 use crate::watch::Watch;
 use ssb_schema::Action;
 
@@ -23,14 +23,13 @@ fn put_order<W: Watch>(
 )
     requires can { CanAdd table.old spans.old key lines.now }
     requires within { first ≤ length table.old.places }
-    requires behind { length spans.old.loaded.value ≤ first }
+    requires behind { length table.old.loaded ≤ first }
     requires small { first + length lines.now < 2 ^ 32 }
     requires free { AreFree table.old.places first (length lines.now) }
     ensures { Added W.follows watch.old watch.new table.old table.new spans.old spans.new lines.now }
 {
     put_all(table, watch, first, lines);
-    widen(
-        spans,
+    spans.widen(
         key,
         Span {
             first: first as u32,
@@ -39,42 +38,27 @@ fn put_order<W: Watch>(
     );
 }
 
-// Frees the places of an order. It answers where they may be, and how many lines went.
-fn take_order<W: Watch>(
-    table: &mut FactTable,
-    spans: &mut Spans,
-    watch: &mut W,
-    key: u64,
-) -> (Span, usize)
-    requires { Spanned spans.old table.old.places }
-    ensures { Withdrawn W.follows watch.old watch.new table.old table.new spans.old spans.new key result.1 }
-{
-    let span = take_span(spans, key);
-    let freed = free_order(table, spans, watch, key, span);
-    (span, freed)
-}
-
 // Whether so many lines may be put at a place.
-fn is_wanted(table: &FactTable, first: usize, loaded: usize, count: usize) -> bool
-    requires small { first < 2 ^ 32 }
+fn is_wanted(table: &FactTable, first: usize, count: usize) -> bool
+    requires { first < 2 ^ 32 }
     ensures within { result ≡ true → first ≤ length table.now.places }
-    ensures behind { result ≡ true → loaded ≤ first }
+    ensures behind { result ≡ true → length table.now.loaded ≤ first }
     ensures free { result ≡ true → AreFree table.now.places first count }
 {
-    count <= 7 && loaded <= first && are_free(table, first, count)
+    count <= 7 && table.loaded() <= first && are_free(table, first, count)
 }
 
 // Where so many lines may be put: at a hint whose places are free, else behind the last place. No line is put among the
 // loaded ones, so that those which questions look at together stay together.
-fn wanted(table: &FactTable, hints: &mut Hints, loaded: usize, count: usize) -> usize
-    requires behind { loaded ≤ length table.now.places }
+fn wanted(table: &FactTable, hints: &mut Hints, count: usize) -> usize
+    requires behind { length table.now.loaded ≤ length table.now.places }
     requires small { length table.now.places + count < 2 ^ 32 }
     ensures within { result ≤ length table.now.places }
-    ensures behind { loaded ≤ result }
+    ensures behind { length table.now.loaded ≤ result }
     ensures free { AreFree table.now.places result count }
 {
     match hints.take(count) {
-        Some(first) if is_wanted(table, first as usize, loaded, count) => first as usize,
+        Some(first) if is_wanted(table, first as usize, count) => first as usize,
         _ => table.len(),
     }
 }
@@ -91,11 +75,12 @@ fn add<W: Watch>(
     requires { CanAdd table.old spans.old key lines.now }
     ensures { Added W.follows watch.old watch.new table.old table.new spans.old spans.new lines.now }
 {
-    let first = wanted(table, hints, spans.loaded(), lines.len());
+    let first = wanted(table, hints, lines.len());
     put_order(table, spans, watch, first, key, lines);
 }
 
-// Takes an order out, and answers how many lines it had.
+// Takes an order out, and answers how many lines it had. One that was loaded and then amended has lines of both kinds:
+// the loaded ones are gone, but their places are looked at again.
 fn withdraw<W: Watch>(
     table: &mut FactTable,
     spans: &mut Spans,
@@ -103,17 +88,18 @@ fn withdraw<W: Watch>(
     watch: &mut W,
     key: u64,
 ) -> usize
-    requires { Spanned spans.old table.old.places }
+    requires spanned { Spanned spans.old table.old }
+    requires small { length table.old.places < 2 ^ 32 }
     ensures { Withdrawn W.follows watch.old watch.new table.old table.new spans.old spans.new key result }
 {
-    let (span, freed) = take_order(table, spans, watch, key);
-    // Places of loaded lines are never taken again, and where an order was added twice its span is not all free.
-    if span.first as usize >= spans.loaded()
-        && span.end.saturating_sub(span.first) as usize == freed
-    {
+    let loaded = free_order(table, watch, key, spans.loaded_span(key));
+    let span = spans.take_added(key);
+    let added = free_order(table, watch, key, span);
+    // Where an order was added twice its span is not all free.
+    if span.end.saturating_sub(span.first) as usize == added {
         hints.offer(span);
     }
-    freed
+    loaded + added
 }
 
 // Does what the action says; these are the lines that it adds, in codes. It answers how many lines went.

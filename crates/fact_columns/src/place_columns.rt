@@ -8,7 +8,7 @@ ghost use Rattle.fact_columns.specs.Places.{freed};
 ghost use Rattle.fact_columns.specs.Watching.{scanned_line};
 ghost use Rattle.fact_columns.specs.Zoned.{AreZonesOfPlaces};
 
-use crate::named_rows::NamedRows;
+use crate::named_columns::NamedColumns;
 use crate::place::Place;
 use crate::scanned_line::ScannedLine;
 use crate::table_zones::TableZones;
@@ -17,12 +17,11 @@ use std::alloc::{AllocError, Global};
 use std::marker::Model;
 use std::mem;
 
-/// The columns of the fact table, each as long as the others: of each line its order, the classes of its rows, and its
-/// numbers. Contracts see the places, and for how many more there is memory.
+/// The columns of the fact table, each as long as the others: of each line the classes of its rows, and its numbers.
+/// Contracts see the places, and for how many more there is memory.
 #[derive(Drop)]
 pub struct PlaceColumns {
-    order: Vec<u64>,
-    rows: NamedRows,
+    named: NamedColumns,
     terms: Vec<u16>,
     price: Vec<u32>,
     revenue: Vec<u32>,
@@ -92,8 +91,7 @@ impl PlaceColumns {
         ensures { result ≡ record { places = []; room = 0 } }
     {
         PlaceColumns {
-            order: Vec::new(alloc),
-            rows: NamedRows::new(),
+            named: NamedColumns::new(),
             terms: Vec::new(alloc),
             price: Vec::new(alloc),
             revenue: Vec::new(alloc),
@@ -110,7 +108,7 @@ impl PlaceColumns {
     pub fn len(&self) -> usize
         ensures { result ≡ length self.now.places }
     {
-        self.order.len()
+        self.terms.len()
     }
 
     /// Takes memory for so many places more, in every column.
@@ -120,7 +118,6 @@ impl PlaceColumns {
         ensures exact { OnOk result (self.new.room ≡ count) }
         ensures unchanged { OnErr result (self.new ≡ self.old) }
     {
-        self.order.reserve(count)?;
         self.terms.reserve(count)?;
         self.price.reserve(count)?;
         self.revenue.reserve(count)?;
@@ -129,17 +126,8 @@ impl PlaceColumns {
         self.supplier_class.reserve(count)?;
         self.part_class.reserve(count)?;
         self.date_class.reserve(count)?;
-        self.capacity = self.order.len() + count;
+        self.capacity = self.terms.len() + count;
         Ok(())
-    }
-
-    /// The order of what stands at a place.
-    #[inline(always)]
-    pub fn order(&self, place: usize) -> u64
-        requires { place < length self.now.places }
-        ensures { (other : PlainPlace) → result ≡ (slice_index_or self.now.places place other).order }
-    {
-        self.order[place]
     }
 
     /// The line at a place, as queries read it.
@@ -167,8 +155,7 @@ impl PlaceColumns {
         ensures places { self.new.places ≡ set self.old.places place with }
         ensures room { self.new.room ≡ self.old.room }
     {
-        self.order[place] = with.order;
-        self.rows.write(place, &with);
+        self.named.write(place, &with);
         self.terms[place] = with.terms;
         self.price[place] = with.price;
         self.revenue[place] = with.revenue;
@@ -197,8 +184,7 @@ impl PlaceColumns {
         ensures places { self.new.places ≡ self.old.places ++ with ∷ [] }
         ensures room { self.old.room ≡ self.new.room + 1 }
     {
-        self.order.push_reserved(with.order);
-        self.rows.push(&with);
+        self.named.push(&with);
         self.terms.push_reserved(with.terms);
         self.price.push_reserved(with.price);
         self.revenue.push_reserved(with.revenue);
@@ -216,8 +202,7 @@ impl PlaceColumns {
         ensures unchanged { OnErr result (self.new ≡ self.old) }
     {
         self.reserve(other.len())?;
-        extend(&mut self.order, other.order.as_slice());
-        self.rows.append(&other.rows);
+        self.named.append(&other.named);
         extend(&mut self.terms, other.terms.as_slice());
         extend(&mut self.price, other.price.as_slice());
         extend(&mut self.revenue, other.revenue.as_slice());
@@ -238,8 +223,7 @@ impl PlaceColumns {
         ensures room { IfOk result (λ laid. laid.room ≡ 0) }
     {
         let PlaceColumns {
-            mut order,
-            mut rows,
+            mut named,
             mut terms,
             mut price,
             mut revenue,
@@ -250,10 +234,9 @@ impl PlaceColumns {
             mut date_class,
             capacity: _,
         } = self;
-        rows.lay(places);
-        lay_apart(&mut order, places, 0)?;
+        named.lay(places);
         lay_apart(&mut terms, places, 0)?;
-        let mut spare = vec![in *order.allocator(); 0u32; places.len()]?;
+        let mut spare = vec![in *terms.allocator(); 0u32; places.len()]?;
         lay(&mut price, places, &mut spare);
         lay(&mut revenue, places, &mut spare);
         lay(&mut cost, places, &mut spare);
@@ -262,8 +245,7 @@ impl PlaceColumns {
         lay(&mut part_class, places, &mut spare);
         lay(&mut date_class, places, &mut spare);
         Ok(PlaceColumns {
-            order,
-            rows,
+            named,
             terms,
             price,
             revenue,
@@ -302,12 +284,11 @@ impl PlaceColumns {
         ensures places { IfOk result (λ copy. copy.places ≡ self.now.places) }
         ensures room { IfOk result (λ copy. copy.room ≡ 0) }
     {
-        let alloc = *self.order.allocator();
-        let mut rows = NamedRows::new();
-        rows.append(&self.rows);
+        let alloc = *self.terms.allocator();
+        let mut named = NamedColumns::new();
+        named.append(&self.named);
         Ok(PlaceColumns {
-            order: self.order.to_vec(alloc)?,
-            rows,
+            named,
             terms: self.terms.to_vec(alloc)?,
             price: self.price.to_vec(alloc)?,
             revenue: self.revenue.to_vec(alloc)?,
@@ -316,7 +297,7 @@ impl PlaceColumns {
             supplier_class: self.supplier_class.to_vec(alloc)?,
             part_class: self.part_class.to_vec(alloc)?,
             date_class: self.date_class.to_vec(alloc)?,
-            capacity: self.order.len(),
+            capacity: self.terms.len(),
         })
     }
 }

@@ -1,29 +1,35 @@
 //! Lines put into places, and taken out of them.
 ghost use Rattle.std.specs.Prelude.{◌≡◌, ◌≢◌, ◌+◌, ◌<◌, ◌≤◌, ◌^◌, ℕ, true, All, length};
-ghost use Rattle.std.specs.Prelude.{Some, None, slice_index_or, option_map};
+ghost use Rattle.std.specs.Prelude.{Some, None, is_some, slice_index_or, option_map};
 ghost use Rattle.ssb_base.specs.Base.{Dimensions};
 ghost use Rattle.row_store.specs.State.{with_fact};
 ghost use Rattle.fact_columns.specs.declared.place.Place.{Place as PlainPlace};
 ghost use Rattle.fact_columns.specs.Places.{is_live, fact_at};
 ghost use Rattle.fact_columns.specs.Classed.{IsPlaceOf};
-ghost use Rattle.fact_columns.specs.Spans.{live_at, live_count, kept, is_of_other, AreFree, ReachesBy};
+ghost use Rattle.fact_columns.specs.LineOrders.{place_of};
+ghost use Rattle.fact_columns.specs.Spans.{live_at, live_count, AreFree, IsGone, IsGoneOrLeft, ReachesBy};
 ghost use Rattle.fact_columns.specs.Coded.{counts_at, with_places};
 ghost use Rattle.fact_columns.specs.Watching.{IsOneMore, FollowsOn, live_places};
 
 use crate::fact_table::FactTable;
 use crate::place::Place;
-use crate::span::{Span, Spans};
+use crate::span::Span;
 use crate::watch::Watch;
 
-/// The order key of the live line at a place; None where the place is free, or there is none.
-pub fn live_order(table: &FactTable, place: usize) -> Option<u64>
-    ensures { result ≡ option_map (λ (line : PlainPlace). line.order) (live_at table.now.places place) }
+// Whether a live line stands at a place.
+fn is_live(table: &FactTable, place: usize) -> bool
+    ensures { result ≡ is_some (live_at table.now.places place) }
 {
-    if place >= table.len() {
-        return None;
-    }
-    if table.scanned_line(place).is_live() {
-        Some(table.order(place))
+    place < table.len() && table.scanned_line(place).is_live()
+}
+
+// The order of the live line of a number; None where there is none.
+fn live_order(table: &FactTable, number: usize) -> Option<u64>
+    ensures { result ≡ option_map (λ (line : PlainPlace). line.order)
+        (live_at table.now.places (place_of table.now.loaded number)) }
+{
+    if is_live(table, table.place_of(number)) {
+        Some(table.order(number))
     } else {
         None
     }
@@ -39,7 +45,7 @@ pub fn are_free(table: &FactTable, first: usize, count: usize) -> bool
         return false;
     }
     for place in first..first + count {
-        if live_order(table, place).is_some() {
+        if is_live(table, place) {
             return false;
         }
     }
@@ -50,6 +56,7 @@ pub fn are_free(table: &FactTable, first: usize, count: usize) -> bool
 #[tactic(auto, using(crate::proofs::PlaceLaws::putting))]
 fn put(table: &mut FactTable, place: usize, line: Place)
     requires within { place ≤ length table.old.places }
+    requires behind { length table.old.loaded ≤ place }
     requires free { live_at table.old.places place ≡ None }
     requires room { 0 < table.old.room }
     requires live { is_live line ≡ true }
@@ -63,6 +70,7 @@ fn put(table: &mut FactTable, place: usize, line: Place)
         → All (IsPlaceOf dimensions) table.new.places }
     ensures len { (length table.old.places ≤ length table.new.places)
         × (length table.new.places ≤ length table.old.places + 1) }
+    ensures loaded { table.new.loaded ≡ table.old.loaded }
     ensures one { IsOneMore line (live_places table.old.places) (live_places table.new.places) }
     ensures reach { place < length table.new.places }
     ensures room { table.old.room ≤ table.new.room + 1 }
@@ -77,6 +85,7 @@ fn put(table: &mut FactTable, place: usize, line: Place)
 /// Puts lines into free or new places, from the first on.
 pub fn put_all<W: Watch>(table: &mut FactTable, watch: &mut W, first: usize, lines: &[Place])
     requires within { first ≤ length table.old.places }
+    requires behind { length table.old.loaded ≤ first }
     requires small { first + length lines.now < 2 ^ 63 }
     requires free { AreFree table.old.places first (length lines.now) }
     requires room { length lines.now ≤ table.old.room }
@@ -94,6 +103,7 @@ pub fn put_all<W: Watch>(table: &mut FactTable, watch: &mut W, first: usize, lin
         → All (IsPlaceOf dimensions) table.old.places → All (IsPlaceOf dimensions) table.new.places }
     ensures len { (length table.old.places ≤ length table.new.places)
         × (length table.new.places ≤ length table.old.places + length lines.now) }
+    ensures loaded { table.new.loaded ≡ table.old.loaded }
     ensures room { table.old.room ≤ table.new.room + length lines.now }
     ensures watched { FollowsOn W.follows watch.old watch.new table.old.places table.new.places }
 {
@@ -112,6 +122,7 @@ fn free<W: Watch>(table: &mut FactTable, watch: &mut W, place: usize)
     ensures inside { (dimensions : Dimensions) → All (IsPlaceOf dimensions) table.old.places
         → All (IsPlaceOf dimensions) table.new.places }
     ensures len { length table.new.places ≡ length table.old.places }
+    ensures loaded { table.new.loaded ≡ table.old.loaded }
     ensures room { table.new.room ≡ table.old.room }
     ensures watched { FollowsOn W.follows watch.old watch.new table.old.places table.new.places }
 {
@@ -121,29 +132,22 @@ fn free<W: Watch>(table: &mut FactTable, watch: &mut W, place: usize)
 }
 
 /// Frees the places that a span's numbers have where they hold live lines of an order, and answers how many they were.
-pub fn free_order<W: Watch>(
-    table: &mut FactTable,
-    spans: &Spans,
-    watch: &mut W,
-    key: u64,
-    span: Span,
-) -> usize
-    requires { (place : ℕ) (line : PlainPlace) → live_at table.old.places place ≡ Some line → line.order ≡ key
-        → ReachesBy span spans.now.loaded.value place }
-    ensures gone { (place : ℕ)
-        → live_at table.new.places place ≡ kept (is_of_other key) (live_at table.old.places place) }
+pub fn free_order<W: Watch>(table: &mut FactTable, watch: &mut W, key: u64, span: Span) -> usize
+    ensures gone { (place : ℕ) → ReachesBy span table.old.loaded place
+        → IsGone key table.old.places table.new.places place }
+    ensures others { (place : ℕ) → IsGoneOrLeft key table.old.places table.new.places place }
     ensures count { live_count table.old.places ≡ live_count table.new.places + result }
     ensures inside { (dimensions : Dimensions) → All (IsPlaceOf dimensions) table.old.places
         → All (IsPlaceOf dimensions) table.new.places }
     ensures len { length table.new.places ≡ length table.old.places }
+    ensures loaded { table.new.loaded ≡ table.old.loaded }
     ensures room { table.new.room ≡ table.old.room }
     ensures watched { FollowsOn W.follows watch.old watch.new table.old.places table.new.places }
 {
     let mut freed = 0;
     for number in span.first as usize..span.end as usize {
-        let place = spans.place_of(number);
-        if live_order(table, place) == Some(key) {
-            free(table, watch, place);
+        if live_order(table, number) == Some(key) {
+            free(table, watch, table.place_of(number));
             freed += 1;
         }
     }

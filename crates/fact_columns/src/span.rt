@@ -1,10 +1,9 @@
 //! Where the lines of an order lie.
-ghost use Rattle.std.specs.Prelude.{◌≡◌, ◌<◌, ◌≤◌, ◌+◌, ◌^◌, ℕ, OnOk, OnErr, IfOk, length, nat_eq};
+ghost use Rattle.std.specs.Prelude.{◌≡◌, ◌≤◌, ◌<◌, ◌+◌, ℕ, OnOk, IfOk, nat_eq};
 ghost use Rattle.std.specs.HashMap.{get, spare};
-ghost use Rattle.fact_columns.specs.Spans.{Covers, HasNumber, Reaches, ReachesBy, place_of};
+ghost use Rattle.fact_columns.specs.Spans.{Covers, HasNumber, IsNumberOf};
 
-use ssb_schema::Items;
-use std::alloc::{AllocError, Global};
+use std::alloc::AllocError;
 use std::collections::HashMap;
 use std::hash::RandomState;
 use std::sync::Arc;
@@ -20,60 +19,65 @@ pub struct Span {
 /// The span of each order, by its key.
 pub type SpansByKey = HashMap<u64, Span, RandomState>;
 
-/// The span of each order, by its key, and the place of each loaded line, by its number.
+/// The spans of the loaded orders, which copies share and nobody changes, and those of the orders that were added. A
+/// loaded order that was withdrawn keeps its span: at its places its lines are found to be gone.
+#[derive(Drop)]
 pub struct Spans {
-    pub by_key: SpansByKey,
-    pub loaded: Arc<Items<u32>>,
-}
-
-impl Drop for Spans {
-    fn drop(self) {
-        let Spans {
-            by_key: _,
-            loaded: _,
-        } = self;
-    }
+    pub loaded: Arc<SpansByKey>,
+    pub added: SpansByKey,
 }
 
 impl Spans {
-    /// Takes memory for so many orders more.
+    /// Takes memory for so many added orders more.
     pub fn reserve(&mut self, count: usize) -> Result<(), AllocError>
-        ensures room { OnOk result (count ≤ spare self.new.by_key) }
-        ensures reaches { (order place : ℕ) → Reaches self.old order place → Reaches self.new order place }
-        ensures loaded { self.new.loaded.value ≡ self.old.loaded.value }
+        ensures room { OnOk result (count ≤ spare self.new.added) }
+        ensures numbers { (order number : ℕ) → IsNumberOf self.old order number → IsNumberOf self.new order number }
     {
-        self.by_key.reserve(count)
+        self.added.reserve(count)
     }
 
-    /// How many lines were loaded: their places are the first.
-    pub fn loaded(&self) -> usize
-        ensures { result ≡ length self.now.loaded.value }
+    /// The span of an order's loaded lines; an empty one where it has none.
+    pub fn loaded_span(&self, key: u64) -> Span
+        ensures { (number : ℕ) → Covers (get nat_eq self.now.loaded.value key) number → HasNumber result number }
     {
-        let loaded: &Items<u32> = &self.loaded;
-        loaded.len()
-    }
-
-    /// The place of the line of a number.
-    #[inline(always)]
-    pub fn place_of(&self, number: usize) -> usize
-        ensures { result ≡ place_of self.now.loaded.value number }
-    {
-        let loaded: &Items<u32> = &self.loaded;
-        match loaded.get(number) {
-            Some(place) => *place as usize,
-            None => number,
+        let loaded: &SpansByKey = &self.loaded;
+        match loaded.get(&key) {
+            Some(span) => *span,
+            None => Span { first: 0, end: 0 },
         }
+    }
+
+    /// Takes out the span of an order's added lines; an empty one where it has none.
+    pub fn take_added(&mut self, key: u64) -> Span
+        ensures covers { (number : ℕ) → Covers (get nat_eq self.old.added key) number → HasNumber result number }
+        ensures others { (order number : ℕ) → (order ≡ key → ⊥) → IsNumberOf self.old order number
+            → IsNumberOf self.new order number }
+        ensures room { spare self.old.added ≤ spare self.new.added }
+    {
+        match self.added.remove(&key) {
+            Some(span) => span,
+            None => Span { first: 0, end: 0 },
+        }
+    }
+
+    /// Has the span of an order's added lines cover these numbers too. There is room for one order more.
+    pub fn widen(&mut self, key: u64, span: Span)
+        requires { 0 < spare self.old.added }
+        ensures own { (number : ℕ) → HasNumber span number → IsNumberOf self.new key number }
+        ensures grows { (order number : ℕ) → IsNumberOf self.old order number → IsNumberOf self.new order number }
+        ensures room { spare self.old.added ≤ spare self.new.added + 1 }
+    {
+        widen_by_key(&mut self.added, key, span);
     }
 
     /// The same spans.
     pub fn copy(&self) -> Result<Spans, AllocError>
-        ensures reaches { IfOk result (λ copy. (order place : ℕ) → Reaches self.now order place
-            → Reaches copy order place) }
-        ensures loaded { IfOk result (λ copy. copy.loaded.value ≡ self.now.loaded.value) }
+        ensures { IfOk result (λ copy. (order number : ℕ) → IsNumberOf self.now order number
+            → IsNumberOf copy order number) }
     {
         Ok(Spans {
-            by_key: self.by_key.clone()?,
             loaded: Arc::try_clone(&self.loaded)?,
+            added: self.added.clone()?,
         })
     }
 }
@@ -102,32 +106,5 @@ pub fn widen_by_key(by_key: &mut SpansByKey, key: u64, span: Span)
         if let Some(own) = by_key.get_mut(&key) {
             *own = hull(earlier, span);
         }
-    }
-}
-
-/// Has the span of the order cover these places too, none of which is a loaded line's. There is room for one order
-/// more.
-pub fn widen(spans: &mut Spans, key: u64, span: Span)
-    requires room { 0 < spare spans.old.by_key }
-    requires behind { length spans.old.loaded.value ≤ span.first }
-    ensures own { (place : ℕ) → span.first ≤ place → place < span.end → Reaches spans.new key place }
-    ensures grows { (order place : ℕ) → Reaches spans.old order place → Reaches spans.new order place }
-    ensures loaded { spans.new.loaded.value ≡ spans.old.loaded.value }
-    ensures room { spare spans.old.by_key ≤ spare spans.new.by_key + 1 }
-{
-    widen_by_key(&mut spans.by_key, key, span);
-}
-
-/// Takes out the span of the order; an empty one where it has none.
-pub fn take_span(spans: &mut Spans, key: u64) -> Span
-    ensures covers { (place : ℕ) → Reaches spans.old key place → ReachesBy result spans.old.loaded.value place }
-    ensures others { (order place : ℕ) → (order ≡ key → ⊥) → Reaches spans.old order place
-        → Reaches spans.new order place }
-    ensures loaded { spans.new.loaded.value ≡ spans.old.loaded.value }
-    ensures room { spare spans.old.by_key ≤ spare spans.new.by_key }
-{
-    match spans.by_key.remove(&key) {
-        Some(span) => span,
-        None => Span { first: 0, end: 0 },
     }
 }

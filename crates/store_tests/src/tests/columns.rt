@@ -14,7 +14,7 @@ use std::thread::Threads;
 use test_fixtures::{adding, refresh, standard_base};
 
 // What is told of the columns before any commit.
-const LOADED: &str = "1 970, 1 1980, 2 500, 3 760, rows 4 places 4 commits 0";
+const LOADED: &str = "500, 760, 970, 1980, rows 4 places 4 commits 0";
 
 // The columns over the small data set.
 fn columns<R: Threads + Sync + AllocGlobal + RandomSource>(rt: &R) -> Result<Columns, Fail> {
@@ -35,23 +35,24 @@ fn take(columns: &mut Columns, commit: &Commit) -> Result<(), Fail> {
     Ok(columns.absorb(commit)?)
 }
 
-// The order keys and revenues of the live lines. They are sorted, since no contract says at which place a line lies.
-fn live_lines(alloc: Global, columns: &Columns) -> Result<Vec<(u64, u32)>, Fail> {
-    let mut lines = Vec::new(alloc);
+// The revenues of the live lines. They are sorted, since no contract says at which place a line lies.
+fn live_revenues(alloc: Global, columns: &Columns) -> Result<Vec<u32>, Fail> {
+    let mut revenues = Vec::new(alloc);
     for place in 0..columns.places() {
-        if let Some(order) = columns.live_order(place) {
-            lines.push((order, columns.scanned_line(place).revenue))?;
+        let line = columns.scanned_line(place);
+        if line.is_live() {
+            revenues.push(line.revenue)?;
         }
     }
-    lines.sort()?;
-    Ok(lines)
+    revenues.sort()?;
+    Ok(revenues)
 }
 
-// The live lines, and how many rows, places and commits there are.
+// The revenues of the live lines, and how many rows, places and commits there are.
 fn told(alloc: Global, columns: &Columns) -> Result<String, Fail> {
     let mut told = String::new(alloc);
-    for (order, revenue) in &live_lines(alloc, columns)? {
-        write!(told, "{order} {revenue}, ")?;
+    for revenue in &live_revenues(alloc, columns)? {
+        write!(told, "{revenue}, ")?;
     }
     let (rows, places, commits) = (columns.rows(), columns.places(), columns.commits());
     write!(told, "rows {rows} places {places} commits {commits}")?;
@@ -81,7 +82,7 @@ fn take_nine_for_one(alloc: Global, columns: &mut Columns) -> Result<(), Fail> {
 fn show_nine_for_one<A: Abort>(rt: &A, alloc: Global, columns: &mut Columns) -> Result<(), Fail> {
     show(rt, alloc, columns, LOADED)?;
     take_nine_for_one(alloc, columns)?;
-    let wanted = "2 500, 3 760, 9 10, rows 3 places 5 commits 2";
+    let wanted = "10, 500, 760, rows 3 places 5 commits 2";
     show(rt, alloc, columns, wanted)
 }
 
@@ -120,7 +121,7 @@ const TURNOVER: &[&str] = &[
     "withdraw|7\n",
 ];
 
-const TURNED_OVER: &str = "1 970, 1 1980, 2 500, 3 760, rows 4 places 8 commits 6000";
+const TURNED_OVER: &str = "500, 760, 970, 1980, rows 4 places 8 commits 6000";
 
 // The commits of the turnover.
 fn turnover(alloc: Global) -> Result<Vec<Commit>, Fail> {

@@ -21,12 +21,12 @@ invariant-loop-action g l = record {
   inside : (dimensions : Dimensions) → All (IsPlaceOf dimensions) l.fresh
       → All (IsPlaceOf dimensions) l.initial.table.places → All (IsPlaceOf dimensions) l.table.places;
   left : (dimensions : Dimensions) → All (IsPlaceOf dimensions) l.fresh → All (IsPlaceOf dimensions) l.rest;
-  spanned : Spanned l.spans l.table.places;
-  loaded : l.spans.loaded.value ≡ l.initial.spans.loaded.value;
+  spanned : Spanned l.spans l.table;
+  loaded : l.table.loaded ≡ l.initial.table.loaded;
   longer : length l.initial.table.places ≤ length l.table.places;
   count : live_count l.table.places + l.freed + length l.rest ≡ live_count l.initial.table.places + length l.fresh;
   room : length l.rest ≤ l.table.room;
   len : length l.table.places + length l.rest ≤ length l.initial.table.places + length l.fresh;
-  spare : length l.actions ≤ spare l.spans.by_key + l.action-index;
+  spare : length l.actions ≤ spare l.spans.added + l.action-index;
   watched : FollowsOn g.W.Watch.follows l.initial.watch l.watch l.initial.table.places l.table.places;
 }

@@ -1,4 +1,4 @@
-use Rattle.std.proofs.Common.{arith, ◌∙◌}
+use Rattle.std.proofs.Common.{arith, ap, length, ◌∙◌}
 use Rattle.fact_columns.specs.declared.place.Place.{Place}
 use Rattle.fact_columns.specs.Coded.{counts_at}
 use Rattle.fact_columns.proofs.PlaceLaws.{mine_more, with_more, one_read}
@@ -22,6 +22,9 @@ none = record {
   date_class = 0;
 }
 
+pub put-requires-clause-behind : goal.put-requires-clause-behind
+put-requires-clause-behind g c = omega (arith, ap length c.loop-i.invariant.loaded, c.requires.behind)
+
 pub loop-i-preserved : goal.loop-i-preserved
 loop-i-preserved g c =
     let old = c.args.table.now.places in
@@ -44,6 +47,7 @@ loop-i-preserved g c =
           (so_far.inside dimensions fresh all);
       least = omega (arith, c.put.ensures.len, so_far.least);
       most = omega (arith, c.put.ensures.len, so_far.most);
+      loaded = c.put.ensures.loaded ∙ so_far.loaded;
       reach = omega (arith, c.put.ensures.reach);
       room = omega (arith, c.put.ensures.room, so_far.room);
       watched = λ base follows. c.come.ensures base _ _ (one_read mid later _ c.scanned_line.result

@@ -20,6 +20,7 @@ invariant-loop-i g l = record {
       → All (IsPlaceOf dimensions) l.initial.table.places → All (IsPlaceOf dimensions) l.table.places;
   least : length l.initial.table.places ≤ length l.table.places;
   most : length l.table.places ≤ length l.initial.table.places + l.i;
+  loaded : l.table.loaded ≡ l.initial.table.loaded;
   reach : l.first + l.i ≤ length l.table.places;
   room : l.initial.table.room ≤ l.table.room + l.i;
   watched : FollowsOn g.W.Watch.follows l.initial.watch l.watch l.initial.table.places l.table.places;

@@ -25,7 +25,7 @@ invariant_of-self-2 g c =
         arith,
         ap length c.apply_actions-freed.ensures.loaded,
         c.apply_actions-freed.ensures.longer,
-        ap length c.reserve-2.ensures.loaded,
+        ap length c.reserve.ensures.loaded,
         ap length c.reserve.ensures.places,
         c.self.invariant.behind,
       );
@@ -39,11 +39,11 @@ invariant_of-self-in_err-reserve-2 g c =
     let inside = c.self.inside in
     let dimensions : Dimensions = inside.index.value.dimensions in
     record {
-      spanned = spanned_on inside.spans c.reserve-2.new.self inside.table.places c.reserve.new.self.places
-          c.reserve-2.ensures.reaches c.reserve.ensures.places c.self.invariant.spanned;
+      spanned = spanned_on inside.spans c.reserve-2.new.self inside.table c.reserve.new.self
+          c.reserve-2.ensures.numbers c.reserve.ensures.places c.reserve.ensures.loaded c.self.invariant.spanned;
       behind = omega (
         arith,
-        ap length c.reserve-2.ensures.loaded,
+        ap length c.reserve.ensures.loaded,
         ap length c.reserve.ensures.places,
         c.self.invariant.behind,
       );
@@ -57,11 +57,11 @@ invariant_of-self-in_err-reserve-3 g c =
     let inside = c.self.inside in
     let dimensions : Dimensions = inside.index.value.dimensions in
     record {
-      spanned = spanned_on inside.spans c.reserve-2.new.self inside.table.places c.reserve.new.self.places
-          c.reserve-2.ensures.reaches c.reserve.ensures.places c.self.invariant.spanned;
+      spanned = spanned_on inside.spans c.reserve-2.new.self inside.table c.reserve.new.self
+          c.reserve-2.ensures.numbers c.reserve.ensures.places c.reserve.ensures.loaded c.self.invariant.spanned;
       behind = omega (
         arith,
-        ap length c.reserve-2.ensures.loaded,
+        ap length c.reserve.ensures.loaded,
         ap length c.reserve.ensures.places,
         c.self.invariant.behind,
       );
@@ -80,11 +80,11 @@ apply_actions-freed-requires g c =
       spare = search rules;
       dimensions = dimensions;
       coded = search rules;
-      spanned = spanned_on inside.spans c.reserve-2.new.self inside.table.places c.reserve.new.self.places
-          c.reserve-2.ensures.reaches c.reserve.ensures.places c.self.invariant.spanned;
+      spanned = spanned_on inside.spans c.reserve-2.new.self inside.table c.reserve.new.self
+          c.reserve-2.ensures.numbers c.reserve.ensures.places c.reserve.ensures.loaded c.self.invariant.spanned;
       behind = omega (
         arith,
-        ap length c.reserve-2.ensures.loaded,
+        ap length c.reserve.ensures.loaded,
         ap length c.reserve.ensures.places,
         c.self.invariant.behind,
       );

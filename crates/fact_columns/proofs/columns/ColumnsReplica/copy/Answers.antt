@@ -1,24 +1,25 @@
-use Rattle.std.proofs.Common.{rules, ◌≡◌, List, Some, length, sym, ap, subst, ◌∙◌, arith}
+use Rattle.std.proofs.Common.{rules, ◌≡◌, List, length, sym, ap, subst, ◌∙◌, arith}
 use Rattle.std.specs.List.{All}
 use Rattle.ssb_base.specs.Base.{Tables}
 use Rattle.fact_columns.specs.declared.place.Place.{Place}
 use Rattle.fact_columns.specs.Places.{live_facts}
 use Rattle.fact_columns.specs.Stored.{columns_state}
 use Rattle.fact_columns.specs.Classed.{IsPlaceOf}
-use Rattle.fact_columns.specs.Spans.{live_at, live_count}
+use Rattle.fact_columns.specs.Spans.{live_count}
+use Rattle.fact_columns.proofs.PlaceLaws.{spanned_on}
 use Rattle.fact_columns.proofs.columns.ColumnsReplica.copy.Goals as goal
 
 pub invariant_of-result : goal.invariant_of-result
 invariant_of-result c =
     let inside = c.self.inside in
     let places : c.in_ok-copy.field-0.places ≡ inside.table.places = search rules in
+    let loaded : c.in_ok-copy.field-0.loaded ≡ inside.table.loaded = search rules in
     let base : c.in_ok-try_clone.field-0.value ≡ inside.index.value = search rules in
     record {
-      spanned = λ i place live. c.in_ok-copy-2.ensures.reaches place.order i
-          (c.self.invariant.spanned i place (subst (λ ps. live_at ps i ≡ Some place) places live));
+      spanned = spanned_on inside.spans c.in_ok-copy-2.field-0 inside.table c.in_ok-copy.field-0 c.in_ok-copy-2.ensures places loaded c.self.invariant.spanned;
       behind = omega (
         arith,
-        ap length c.in_ok-copy-2.ensures.loaded,
+        ap length loaded,
         ap length places,
         c.self.invariant.behind,
       );

@@ -14,12 +14,12 @@ pub returns-clause-places : goal.returns-clause-places
 returns-clause-places c = λ other.
     let t = c.self.inside in
     let all = alike_long t c.self.invariant in
-    let within : c.args.place < vec_len t.order = omega (arith, long t c.args.self.now c.self.view_is, c.requires) in
-    free_place t.order.items t.rows.columns.customers t.rows.columns.suppliers t.rows.columns.parts t.rows.columns.dates t.terms.items t.price.items
+    let within : c.args.place < vec_len t.terms = omega (arith, long t c.args.self.now c.self.view_is, c.requires) in
+    free_place t.named.columns.orders t.named.columns.customers t.named.columns.suppliers t.named.columns.parts t.named.columns.dates t.terms.items t.price.items
     t.revenue.items t.cost.items t.customer_class.items t.supplier_class.items t.part_class.items t.date_class.items
-    (vec_len t.order) c.args.place all.terms_len within
+    (vec_len t.terms) c.args.place all.terms_len within
     ∙ ap (λ (h : Held). set h.places c.args.place (freed
-    (place_at t.order.items t.rows.columns.customers t.rows.columns.suppliers t.rows.columns.parts t.rows.columns.dates t.terms.items t.price.items
+    (place_at t.named.columns.orders t.named.columns.customers t.named.columns.suppliers t.named.columns.parts t.named.columns.dates t.terms.items t.price.items
     t.revenue.items t.cost.items t.customer_class.items t.supplier_class.items t.part_class.items t.date_class.items
     c.args.place))) c.self.view_is
     ∙ ap (λ (p : Place). set c.args.self.now.places c.args.place (freed p))

@@ -47,7 +47,7 @@ pub returns : goal.returns
 returns c = λ other.
     let t = c.self.inside in
     let all = alike_long t c.self.invariant in
-    let within : c.args.place < vec_len t.order = omega (arith, long t c.args.self.now c.self.view_is, c.requires) in
+    let within : c.args.place < vec_len t.terms = omega (arith, long t c.args.self.now c.self.view_is, c.requires) in
     let customer = element t.customer_class.items c.args.place c.index.result.now
     (omega (arith, within, all.customer_class_len)) c.index.ensures in
     let supplier = element t.supplier_class.items c.args.place c.index-2.result.now

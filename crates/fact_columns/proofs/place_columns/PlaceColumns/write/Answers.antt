@@ -2,7 +2,7 @@ use Rattle.std.proofs.Common.{arith, ◌≡◌, ◌∙◌, ap, length, map, set,
 use Rattle.std.specs.List.{range_with_len}
 use Rattle.std.proofs.lemmas.List.{length-set}
 use Rattle.fact_columns.specs.Columns.{Held, place_at}
-use Rattle.fact_columns.specs.RowColumns.{RowColumns, written}
+use Rattle.fact_columns.specs.Names.{Names, written}
 use Rattle.fact_columns.proofs.PlaceListLaws.{long, alike_long, write_places}
 use Rattle.fact_columns.proofs.place_columns.PlaceColumns.write.Goals as goal
 
@@ -46,42 +46,37 @@ index_mut-requires-8 c =
     let n = long c.self.inside c.args.self.now c.self.view_is in
     omega (arith, n, c.requires, c.self.invariant)
 
-pub index_mut-requires-9 : goal.index_mut-requires-9
-index_mut-requires-9 c =
-    let n = long c.self.inside c.args.self.now c.self.view_is in
-    omega (arith, n, c.requires, c.self.invariant)
-
 pub returns-clause-places : goal.returns-clause-places
 returns-clause-places c =
     let t = c.self.inside in
     let place = c.args.place in
     let with = c.args.with in
-    let rows : c.write.new.self.columns ≡ written t.rows.columns place with = c.write.ensures in
-    (λ i. map (place_at (set t.order.items place with.order) (rows i).customers (rows i).suppliers (rows i).parts
-    (rows i).dates (set t.terms.items place with.terms) (set t.price.items place with.price)
+    let names : c.write.new.self.columns ≡ written t.named.columns place with = c.write.ensures in
+    (λ i. map (place_at (names i).orders (names i).customers (names i).suppliers (names i).parts
+    (names i).dates (set t.terms.items place with.terms) (set t.price.items place with.price)
     (set t.revenue.items place with.revenue) (set t.cost.items place with.cost)
     (set t.customer_class.items place with.customer_class) (set t.supplier_class.items place with.supplier_class)
     (set t.part_class.items place with.part_class) (set t.date_class.items place with.date_class))
-    (range_with_len 0 (vec_len t.order)))
-    ∙ write_places t.order.items t.rows.columns.customers t.rows.columns.suppliers t.rows.columns.parts
-    t.rows.columns.dates t.terms.items t.price.items t.revenue.items t.cost.items t.customer_class.items
-    t.supplier_class.items t.part_class.items t.date_class.items (vec_len t.order) place with
+    (range_with_len 0 (vec_len t.terms)))
+    ∙ write_places t.named.columns.orders t.named.columns.customers t.named.columns.suppliers t.named.columns.parts
+    t.named.columns.dates t.terms.items t.price.items t.revenue.items t.cost.items t.customer_class.items
+    t.supplier_class.items t.part_class.items t.date_class.items (vec_len t.terms) place with
     (alike_long t c.self.invariant) (omega (arith, long t c.args.self.now c.self.view_is, c.requires))
     ∙ ap (λ (h : Held). set h.places place with) c.self.view_is
 
 pub invariant_of-self : goal.invariant_of-self
 invariant_of-self c =
     let own = c.self.invariant in
-    let rows = c.self.inside.rows.columns in
+    let names = c.self.inside.named.columns in
     let place = c.args.place in
     let with = c.args.with in
     let now = c.write.ensures in
     record {
-      customer = ap (λ (r : RowColumns). length r.customers) now ∙ length-set rows.customers place with.customer ∙ own.customer;
-      supplier = ap (λ (r : RowColumns). length r.suppliers) now ∙ length-set rows.suppliers place with.supplier ∙ own.supplier;
-      part = ap (λ (r : RowColumns). length r.parts) now ∙ length-set rows.parts place with.part ∙ own.part;
-      date = ap (λ (r : RowColumns). length r.dates) now ∙ length-set rows.dates place with.date ∙ own.date;
-      terms = own.terms;
+      order = ap (λ (n : Names). length n.orders) now ∙ length-set names.orders place with.order ∙ own.order;
+      customer = ap (λ (n : Names). length n.customers) now ∙ length-set names.customers place with.customer ∙ own.customer;
+      supplier = ap (λ (n : Names). length n.suppliers) now ∙ length-set names.suppliers place with.supplier ∙ own.supplier;
+      part = ap (λ (n : Names). length n.parts) now ∙ length-set names.parts place with.part ∙ own.part;
+      date = ap (λ (n : Names). length n.dates) now ∙ length-set names.dates place with.date ∙ own.date;
       price = own.price;
       revenue = own.revenue;
       cost = own.cost;
@@ -90,7 +85,6 @@ invariant_of-self c =
       part_class = own.part_class;
       date_class = own.date_class;
       within = own.within;
-      order_room = own.order_room;
       terms_room = own.terms_room;
       price_room = own.price_room;
       revenue_room = own.revenue_room;

@@ -1,6 +1,6 @@
 -- They own nothing, so any thread may share them.
 use denote.Param.Send.{IsSend, IsSync, part_keyless}
-use Rattle.fact_columns.specs.contracts.named_rows.NamedRows.{the_row}
+use Rattle.fact_columns.specs.contracts.named_columns.NamedColumns.{the_row}
 
 sent : IsSend the_row
 sent = record { owned = λ d vs. ((λ vss. (tt, ((λ uss. (tt, tt)), tt))), tt); leaving = λ k f vs. tt }

@@ -1,40 +1,41 @@
-//! Which rows the lines name.
+//! Which order and which rows the lines name.
 ghost use Rattle.std.specs.Prelude.{◌≡◌};
 ghost use Rattle.std.specs.Borrow.{ftrue};
-ghost use Rattle.fact_columns.specs.RowColumns.{RowColumns, appended, laid, no_rows, rows_of, written};
+ghost use Rattle.fact_columns.specs.Names.{Names, appended, laid, names_of, no_names, written};
 
 use crate::place::Place;
 use std::marker::{Model, PhantomData};
 
-/// The rows that the lines of places name, by position. A scan reads the rows' classes, so no memory holds these: they
-/// stand in clauses alone. Each method does nothing.
+/// The columns of what the lines of places name: their orders by key, and their rows by position. A scan reads the
+/// rows' classes, and the orders of lines stand elsewhere, so no memory holds these columns: they stand in clauses
+/// alone. Each method does nothing.
 #[derive(Drop)]
-pub struct NamedRows {
+pub struct NamedColumns {
     marker: PhantomData<u8>,
-    pub ghost columns: { RowColumns },
+    pub ghost columns: { Names },
 }
 
-impl Model for NamedRows {
+impl Model for NamedColumns {
     ghost also_owns = { λ _. ftrue };
 }
 
-impl NamedRows {
+impl NamedColumns {
     /// Of no place.
-    pub fn new() -> NamedRows
-        ensures { result.columns ≡ no_rows }
+    pub fn new() -> NamedColumns
+        ensures { result.columns ≡ no_names }
     {
-        NamedRows {
+        NamedColumns {
             marker: PhantomData,
         }
     }
 
     /// A place more.
     pub fn push(&mut self, _place: &Place)
-        ensures { self.new.columns ≡ appended self.old.columns (rows_of _place.now) }
+        ensures { self.new.columns ≡ appended self.old.columns (names_of _place.now) }
     {}
 
     /// Places more.
-    pub fn append(&mut self, _others: &NamedRows)
+    pub fn append(&mut self, _others: &NamedColumns)
         ensures { self.new.columns ≡ appended self.old.columns _others.now.columns }
     {}
 
@@ -49,6 +50,6 @@ impl NamedRows {
     {}
 }
 
-unsafe impl Send for NamedRows {}
+unsafe impl Send for NamedColumns {}
 
-unsafe impl Sync for NamedRows {}
+unsafe impl Sync for NamedColumns {}

@@ -15,12 +15,12 @@ use denote.Slice.{ShrSlice, shr_slice_vals, shr_slice_Tells}
 use denote.Signature.{plain}
 use denote.Steps.{nothing, opens, closes}
 use denote.Triple.Walked.{says, Stays, walk_of, stay_ref, stay_none_slice, Goes-ref, Goes-none_slice, ends_at}
-use Rattle.fact_columns.specs.RowColumns.{laid}
-use Rattle.fact_columns.specs.declared.named_rows.NamedRows.{NamedRows}
-use Rattle.fact_columns.specs.contracts.named_rows.NamedRows as T
-use Rattle.fact_columns.specs.contracts.named_rows.NamedRows.lay as f
-use Rattle.fact_columns.proofs.named_rows.NamedRows.lay.Statement.{statement}
-use Rattle.fact_columns.proofs.named_rows.NamedRows.lay.Code as code
+use Rattle.fact_columns.specs.Names.{laid}
+use Rattle.fact_columns.specs.declared.named_columns.NamedColumns.{NamedColumns}
+use Rattle.fact_columns.specs.contracts.named_columns.NamedColumns as T
+use Rattle.fact_columns.specs.contracts.named_columns.NamedColumns.lay as f
+use Rattle.fact_columns.proofs.named_columns.NamedColumns.lay.Statement.{statement}
+use Rattle.fact_columns.proofs.named_columns.NamedColumns.lay.Code as code
 
 abbrev stayed : Stays f.ended.signature.params f.ended.kept
 stayed = (stay_ref (0 ∷ []) tt (plain (λ _. T.the_row)), (stay_none_slice (1 ∷ []) tt (plain (λ _. u32)) yes, tt))
@@ -38,8 +38,8 @@ lay_spec 𝓤 𝓛 𝓜 𝓡 wired =
     (λ κs qs bounds a _ are.
     let κ = κs.0 in let q = qs.0 in let r = a.0 in let b = r.ref_ptr.0 in let o = r.ref_ptr.1 in let places = a.1.0 in
     let κ' = κs.1.0 in let q' = qs.1.0 in
-    let h : NamedRows = r.now in
-    let h' : NamedRows = record { marker = h.marker; columns = laid places.now h.columns } in
+    let h : NamedColumns = r.now in
+    let h' : NamedColumns = record { marker = h.marker; columns = laid places.now h.columns } in
     let y : W.Ghost = ((κs, qs, bounds, a, (mut_vals r, (shr_slice_vals places, tt))), tt) in
     qed 𝓛 (((‵ (flft κ q) ⊛ ‵ (flft κ' q') ⊛ ‵ ftrue)
     ⊛ ‵ ((MutRef (named 0) κ T.the_row).own_val r (mut_vals r)) ⊛ ‵ ((ShrSlice (named 1) κ' u32).own_val places (shr_slice_vals places))

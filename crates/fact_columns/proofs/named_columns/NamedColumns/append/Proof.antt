@@ -18,12 +18,12 @@ use denote.Signature.{types_at, plain}
 use denote.Steps.{nothing, opens, closes}
 use denote.Triple.Walked.{Stays, walk_of, stay_ref, stay_dropped, Goes-ref, Goes-dropped}
 use Rattle.std.proofs.raw_atomic.Walks.{proved, leaves}
-use Rattle.fact_columns.specs.RowColumns.{appended}
-use Rattle.fact_columns.specs.declared.named_rows.NamedRows.{NamedRows}
-use Rattle.fact_columns.specs.contracts.named_rows.NamedRows as T
-use Rattle.fact_columns.specs.contracts.named_rows.NamedRows.append as f
-use Rattle.fact_columns.proofs.named_rows.NamedRows.append.Statement.{statement}
-use Rattle.fact_columns.proofs.named_rows.NamedRows.append.Code as code
+use Rattle.fact_columns.specs.Names.{appended}
+use Rattle.fact_columns.specs.declared.named_columns.NamedColumns.{NamedColumns}
+use Rattle.fact_columns.specs.contracts.named_columns.NamedColumns as T
+use Rattle.fact_columns.specs.contracts.named_columns.NamedColumns.append as f
+use Rattle.fact_columns.proofs.named_columns.NamedColumns.append.Statement.{statement}
+use Rattle.fact_columns.proofs.named_columns.NamedColumns.append.Code as code
 
 pub append_spec : {M : Type 1} → statement M
 append_spec 𝓤 𝓛 𝓜 𝓡 wired =
@@ -32,8 +32,8 @@ append_spec 𝓤 𝓛 𝓜 𝓡 wired =
     let self = plain (λ _. Row) in let hs : Stays En.signature.params En.kept = (stay_ref (0 ∷ []) tt self, (stay_dropped (RefOf (1 ∷ []) tt (plain (λ _. R)) (λ _. tt)) yes, tt)) in
     proved 𝓛 En hs c 𝓜 𝓡 (Goes-ref 𝓛 2 0 tt self, (Goes-dropped 𝓛 2 (RefOf (1 ∷ []) tt (plain (λ _. R)) (λ _. tt)) yes (λ κs x f. refl), tt)) f.Key.name fn (code.unfolded 𝓤 𝓛.H 𝓜 𝓡 wired)
     (λ κs. (mut_vals, (shr_vals, tt))) (λ κs. (mut_Tells (named 0) κs.0 Row, (shr_Tells (named 1) κs.1.0 R, tt))) (λ κs qs bounds a gh are.
-    let b : ℕ = a.0.ref_ptr.0 in let o : ℕ = a.0.ref_ptr.1 in let h : NamedRows = a.0.now in
-    let h' : NamedRows = record { marker = h.marker; columns = appended h.columns a.1.0.now.columns } in let Told : Type 0 = h'.columns ≡ h'.columns in
+    let b : ℕ = a.0.ref_ptr.0 in let o : ℕ = a.0.ref_ptr.1 in let h : NamedColumns = a.0.now in
+    let h' : NamedColumns = record { marker = h.marker; columns = appended h.columns a.1.0.now.columns } in let Told : Type 0 = h'.columns ≡ h'.columns in
     let y : (walk_of 𝓛 En hs c).Ghost = ((κs, qs, bounds, a, (vptr b o ∷ [], (vptr a.1.0.ref_ptr.0 a.1.0.ref_ptr.1 ∷ [], tt))), gh) in let Post : Val → SProp 𝓤 = (walk_of 𝓛 En hs c).post y in
     let others : Fml = fsep (flft κs.1.0 qs.1.0) ftrue in
     qed 𝓛 (((‵ (flft κs.0 qs.0) ⊛ ‵ others) ⊛ ‵ (owns (types_at En.signature.params κs) a y.0.4)) ∷ raw ((c κs a).requires gh) ∷ []) ∵

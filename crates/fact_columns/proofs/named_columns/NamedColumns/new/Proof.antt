@@ -10,12 +10,12 @@ use types.ByLocal.{alloc_all, pass_all, free_all, look_at, get, sets}
 use denote.Shadow.{pure_i}
 use denote.Steps.{nothing}
 use denote.Triple.Walked.{says, Stays, walk_of, ends_at}
-use Rattle.fact_columns.specs.RowColumns.{no_rows}
-use Rattle.fact_columns.specs.declared.named_rows.NamedRows.{NamedRows}
-use Rattle.fact_columns.specs.contracts.named_rows.NamedRows as T
-use Rattle.fact_columns.specs.contracts.named_rows.NamedRows.new as f
-use Rattle.fact_columns.proofs.named_rows.NamedRows.new.Statement.{statement}
-use Rattle.fact_columns.proofs.named_rows.NamedRows.new.Code as code
+use Rattle.fact_columns.specs.Names.{no_names}
+use Rattle.fact_columns.specs.declared.named_columns.NamedColumns.{NamedColumns}
+use Rattle.fact_columns.specs.contracts.named_columns.NamedColumns as T
+use Rattle.fact_columns.specs.contracts.named_columns.NamedColumns.new as f
+use Rattle.fact_columns.proofs.named_columns.NamedColumns.new.Statement.{statement}
+use Rattle.fact_columns.proofs.named_columns.NamedColumns.new.Code as code
 
 abbrev v : Val
 v = vstruct (vcons (vstruct vnil) vnil)
@@ -29,7 +29,7 @@ new_spec 𝓤 𝓛 𝓜 𝓡 wired =
     proved 𝓛 f.ended stayed c 𝓜 𝓡 tt
     f.Key.name code.function (code.unfolded 𝓤 𝓛.H 𝓜 𝓡 wired)
     (λ κs. tt) (λ κs. tt) (λ κs qs bounds a _ are.
-    let r : NamedRows = record { marker = record {}; columns = no_rows } in
+    let r : NamedColumns = record { marker = record {}; columns = no_names } in
     let y : W.Ghost = ((κs, qs, bounds, a, tt), tt) in
     qed 𝓛 ((‵ ftrue ⊛ ‵ ftrue) ∷ ‵ ftrue ∷ []) ∵
     split ! $ keep ! (0 ∷ []) $
