@@ -9,6 +9,7 @@ use Rattle.std.proofs.Math.Dec.{eqb}
 use Rattle.std.proofs.lemmas.List.{length-map}
 use Rattle.std.proofs.lemmas.List.Elements.{All-nil, All-cons, All-head, All-tail, All-map}
 use Rattle.std.proofs.lemmas.List.FromFn.{length-range_with_len}
+use Rattle.std.proofs.lemmas.Slice.Zip.{all_zipped_more}
 use Rattle.row_store.proofs.FactCountLaws.{count_cons}
 use Rattle.history_core.specs.declared.event.Who.TheVariants.{Client, Dispatcher}
 use Rattle.history.specs.Closing.{AreNumbered}
@@ -20,17 +21,7 @@ use Rattle.ssb_serving.specs.Members.{IsStill, AreStill, IsReady}
 -- one member more
 pub still_push : (befores afters : List TokenRecord) (before after : TokenRecord) → AreStill befores afters → IsStill before after
     → AreStill (befores ++ before ∷ []) (afters ++ after ∷ [])
-still_push [] [] before after are is = (is, tt)
-still_push [] (a ∷ others) before after are is = absurd are
-still_push (b ∷ others) [] before after are is = absurd are
-still_push (b ∷ befores) (a ∷ afters) before after are is = (are.0, still_push befores afters before after are.1 is)
-
-pub still_longer : (befores longer afters more : List TokenRecord) (before after : TokenRecord) → AreStill befores afters
-    → IsStill before after → longer ≡ befores ++ before ∷ []
-    → more ≡ afters ++ after ∷ [] → AreStill longer more
-still_longer befores longer afters more before after are is here there =
-    subst (λ ts. AreStill ts more) (sym here) (subst (AreStill (befores ++ before ∷ [])) (sym there)
-    (still_push befores afters before after are is))
+still_push befores afters before after are is = all_zipped_more IsStill befores afters before after are is
 
 abbrev pub number_in : TokenRecord → ℕ
 number_in t = number_of t.who

@@ -1,5 +1,6 @@
 -- The members of a table, before and after the threads of a run.
-use Rattle.std.specs.Prelude.{◌≡◌, All, List, [], ◌∷◌}
+use Rattle.std.specs.Prelude.{◌≡◌, All, List}
+use Rattle.std.specs.List.{AllZip}
 use Rattle.history.specs.Tokens.{TableRecord, TokenRecord}
 use Rattle.ssb_clients.specs.Tickets.{IsQuiet, IsOf, AreAllThere}
 
@@ -8,12 +9,12 @@ pub record IsStill (before after : TokenRecord) : Type 0 where
   pub table : after.table ≡ before.table
   pub who : after.who ≡ before.who
 
--- the same members, in order
+-- the same members, in order, each known by its token
+abbrev pub AreStillBy : {D : Type 0} (token : D → TokenRecord) → List D → List D → Type 0
+AreStillBy token befores afters = AllZip (λ before after. IsStill (token before) (token after)) befores afters
+
 abbrev pub AreStill : List TokenRecord → List TokenRecord → Type 0
-AreStill [] [] = Unit {0}
-AreStill (before ∷ befores) (after ∷ afters) = IsStill before after × AreStill befores afters
-AreStill [] (after ∷ afters) = ⊥
-AreStill (before ∷ befores) [] = ⊥
+AreStill befores afters = AllZip IsStill befores afters
 
 -- the server can be closed with these: each client asks nothing, and each client and dispatcher is there once
 pub record IsReady (table : TableRecord) (clients dispatchers : List TokenRecord) : Type 0 where

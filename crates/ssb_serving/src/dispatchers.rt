@@ -2,7 +2,7 @@
 ghost use Rattle.std.specs.Prelude.{◌≡◌, ◌+◌, ◌≤◌, [], ◌++◌, All, IfOk, OnOk, map, length, vec_len, vec_capacity};
 ghost use Rattle.std.specs.Thread.{IsSync};
 ghost use Rattle.history.specs.Tokens.{TokenRecord};
-ghost use Rattle.ssb_serving.specs.Members.{IsStill, AreStill};
+ghost use Rattle.ssb_serving.specs.Members.{IsStill, AreStillBy};
 ghost use Rattle.ssb_clients.specs.Tickets.{IsOf};
 
 use ssb_server::{Dispatcher, OpenGate, Server, Turn};
@@ -60,7 +60,7 @@ impl<D: HasToken> Promise<D> for DispatchedBy<D> {
 }
 
 /// A dispatcher's thread.
-pub(crate) type Dispatching<W> = PromisedHandle<Dispatcher<W>, DispatchedBy<Dispatcher<W>>>;
+pub(crate) type Dispatching<D> = PromisedHandle<D, DispatchedBy<D>>;
 
 // How long ago that was, where the clock tells.
 fn time_since<C: Clock>(clock: &C, since: Option<Instant>) -> Option<Duration> {
@@ -107,7 +107,7 @@ fn start_dispatcher<'s, E, W, D, R>(
     server: &'s Server<W>,
     stop: &'s AtomicBool,
     dispatcher: D,
-) -> Result<PromisedHandle<D, DispatchedBy<D>>, AllocError>
+) -> Result<Dispatching<D>, AllocError>
 where
     W: Wait + Drop + Send,
     D: TakesTurns<W> + Drop + Send + 's,
@@ -135,7 +135,7 @@ pub(crate) fn start_dispatchers<'s, E, W: Wait + Drop + Send, R: Wait + Threads 
     server: &'s Server<W>,
     stop: &'s AtomicBool,
     dispatchers: Vec<Dispatcher<W>>,
-    dispatching: &mut Vec<Dispatching<W>>,
+    dispatching: &mut Vec<Dispatching<Dispatcher<W>>>,
 ) -> Result<(), AllocError>
     requires dispatchers { All (IsOf server.now) dispatchers.items }
     requires room { vec_len dispatching.old + vec_len dispatchers ≤ vec_capacity dispatching.old }
@@ -152,14 +152,14 @@ pub(crate) fn start_dispatchers<'s, E, W: Wait + Drop + Send, R: Wait + Threads 
 }
 
 /// Waits until all these dispatchers have ended, and adds them, in order.
-pub(crate) fn join_dispatchers<W: Wait + Drop, R: Threads>(
+pub(crate) fn join_dispatchers<D: HasToken + Drop, R: Threads>(
     rt: &R,
-    dispatching: Vec<Dispatching<W>>,
-    dispatchers: &mut Vec<Dispatcher<W>>,
+    dispatching: Vec<Dispatching<D>>,
+    dispatchers: &mut Vec<D>,
 )
     requires empty { dispatchers.old.items ≡ [] }
     requires room { vec_len dispatching ≤ vec_capacity dispatchers.old }
-    ensures { AreStill (map (λ h. h.promise.dispatcher.value) dispatching.items) dispatchers.new.items }
+    ensures { AreStillBy D.token (map (λ h. h.promise.dispatcher.value) dispatching.items) dispatchers.new.items }
 {
     for thread in dispatching {
         dispatchers.push_reserved(thread.join(rt));

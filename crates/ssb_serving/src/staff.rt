@@ -3,7 +3,7 @@ ghost use Rattle.std.specs.Prelude.{◌≡◌, All, IfOk, OnOk};
 ghost use Rattle.ssb_serving.specs.Members.{AreStill};
 ghost use Rattle.ssb_clients.specs.Tickets.{IsOf};
 
-use crate::dispatchers::{Dispatching, join_dispatchers, start_dispatchers};
+use crate::dispatchers::{Dispatching, HasToken, join_dispatchers, start_dispatchers};
 use ssb_server::{Dispatcher, Server};
 use std::alloc::{AllocError, Global};
 use std::marker::Model;
@@ -15,17 +15,16 @@ use std::time::Clock;
 /// Dispatchers that are to work, which are what contracts see, with room for their threads and for what these leave. The
 /// room is made before the first thread starts: a started thread can then be joined without memory.
 #[derive(Drop)]
-pub(crate) struct Staff<W: Wait + Drop> {
-    dispatchers: Vec<Dispatcher<W>>,
-    dispatching: Vec<Dispatching<W>>,
-    ended: Vec<Dispatcher<W>>,
+pub(crate) struct Staff<D: HasToken + Drop> {
+    dispatchers: Vec<D>,
+    dispatching: Vec<Dispatching<D>>,
+    ended: Vec<D>,
 }
 
-impl<W: Wait + Drop> Model for Staff<W> {
+impl<D: HasToken + Drop> Model for Staff<D> {
     ghost use Rattle.std.specs.Prelude.{◌≡◌, ◌≤◌, List, [], vec_len, vec_capacity};
-    ghost use Rattle.history.specs.Tokens.{TokenRecord};
 
-    ghost Value = { List TokenRecord };
+    ghost Value = { List D };
 
     ghost view = { λ staff. staff.dispatchers.items };
 
@@ -36,16 +35,15 @@ impl<W: Wait + Drop> Model for Staff<W> {
 
 /// Dispatchers at work. Contracts see each as it was when it began.
 #[derive(Drop)]
-pub(crate) struct StaffAtWork<W: Wait + Drop> {
-    dispatching: Vec<Dispatching<W>>,
-    ended: Vec<Dispatcher<W>>,
+pub(crate) struct StaffAtWork<D: HasToken + Drop> {
+    dispatching: Vec<Dispatching<D>>,
+    ended: Vec<D>,
 }
 
-impl<W: Wait + Drop> Model for StaffAtWork<W> {
+impl<D: HasToken + Drop> Model for StaffAtWork<D> {
     ghost use Rattle.std.specs.Prelude.{◌≡◌, ◌≤◌, List, [], map, vec_len, vec_capacity};
-    ghost use Rattle.history.specs.Tokens.{TokenRecord};
 
-    ghost Value = { List TokenRecord };
+    ghost Value = { List D };
 
     ghost view = { λ staff. map (λ h. h.promise.dispatcher.value) staff.dispatching.items };
 
@@ -53,11 +51,8 @@ impl<W: Wait + Drop> Model for StaffAtWork<W> {
         × (vec_len staff.dispatching ≤ vec_capacity staff.ended) };
 }
 
-impl<W: Wait + Drop> Staff<W> {
-    pub(crate) fn new(
-        alloc: Global,
-        dispatchers: Vec<Dispatcher<W>>,
-    ) -> Result<Staff<W>, AllocError>
+impl<D: HasToken + Drop> Staff<D> {
+    pub(crate) fn new(alloc: Global, dispatchers: Vec<D>) -> Result<Staff<D>, AllocError>
         ensures { IfOk result (λ staff. staff ≡ dispatchers.items) }
     {
         let dispatching = Vec::with_capacity(alloc, dispatchers.len())?;
@@ -68,7 +63,9 @@ impl<W: Wait + Drop> Staff<W> {
             ended,
         })
     }
+}
 
+impl<W: Wait + Drop> Staff<Dispatcher<W>> {
     /// Starts a thread for each dispatcher, in order. Where a thread can't be started, no later one is.
     pub(crate) fn start<'s, E, R: Wait + Threads + Sync + Clock>(
         self,
@@ -76,7 +73,7 @@ impl<W: Wait + Drop> Staff<W> {
         rt: &'s R,
         server: &'s Server<W>,
         stop: &'s AtomicBool,
-    ) -> (StaffAtWork<W>, Result<(), AllocError>)
+    ) -> (StaffAtWork<Dispatcher<W>>, Result<(), AllocError>)
     where
         W: Send,
         requires { All (IsOf server.now) self }
@@ -92,7 +89,7 @@ impl<W: Wait + Drop> Staff<W> {
     }
 }
 
-impl<W: Wait + Drop> StaffAtWork<W> {
+impl<W: Wait + Drop> StaffAtWork<Dispatcher<W>> {
     /// Tells the dispatchers to stop, and waits until all of them have ended.
     pub(crate) fn end<R: Threads>(
         self,

@@ -27,7 +27,7 @@ pub struct EndedThreads<W: Wait + Drop, P: Drop> {
 #[derive(Drop)]
 struct Crew<W: Wait + Drop, T: Leaves<P> + Drop, P: Drop> {
     seats: Vec<T>,
-    staff: Staff<W>,
+    staff: Staff<Dispatcher<W>>,
     speaking: Vec<Speaking<T, P>>,
     spoken: Vec<P>,
     ghost no_speaking: { speaking.items ≡ [] },

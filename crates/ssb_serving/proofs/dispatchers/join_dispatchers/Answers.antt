@@ -1,6 +1,6 @@
-use Rattle.std.proofs.Common.{rules, [], ◌∷◌, length, ap, arith}
+use Rattle.std.proofs.Common.{[], ◌∷◌, length, ap, arith}
 use Rattle.std.proofs.lemmas.List.{map-append}
-use Rattle.ssb_serving.proofs.MemberLaws.{still_longer}
+use Rattle.ssb_serving.proofs.StreamLaws.{zip_longer}
 use Rattle.ssb_serving.proofs.dispatchers.join_dispatchers.Goals as goal
 
 pub loop-thread-preserved : goal.loop-thread-preserved
@@ -8,6 +8,6 @@ loop-thread-preserved g c =
     let inv = c.loop-thread.invariant in
     let pushed = c.push_reserved.ensures in record {
       room = omega (arith, inv.room, pushed.len, pushed.capacity, ap length c.in-Some.ensures.steps.0);
-      joined = still_longer _ _ _ _ _ _ inv.joined (search rules)
+      joined = zip_longer _ _ _ _ _ _ _ inv.joined c.join.ensures
           (map-append _ c.loop-thread.yielded (c.in-Some.thread ∷ [])) pushed.items;
     }
