@@ -226,10 +226,3 @@ pub torn_to_the_end : {D T : Type 0} (bytes : T → List ℕ) (file : List ℕ) 
     → IsTornKept bytes file (disk ≡ found) torn
 torn_to_the_end bytes file found disk begun None same is = subst (λ b. IsUntouched b disk) is same
 torn_to_the_end bytes file found disk begun (Some kept) same is = is
-
--- and so it is as the sessions find it
-pub torn_at_first : {D T : Type 0} (bytes : T → List ℕ) (file : List ℕ) (found : D) (begun : BegunFile D)
-    (torn : Option T) → IsTornKept bytes file (begun ≡ ReadOnly found) torn
-    → IsTornKept bytes file (disk_of begun ≡ found) torn
-torn_at_first bytes file found begun None is = ap disk_of is
-torn_at_first bytes file found begun (Some kept) is = is

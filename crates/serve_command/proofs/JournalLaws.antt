@@ -2,7 +2,7 @@
 use Rattle.std.proofs.Common.{◌≡◌, ◌≤◌, ◌⊎◌, ℕ, List, [], ◌∷◌, Bool, Option, None, Some, Result, Ok, Err, inl, inr, ap}
 use Rattle.std.proofs.Common.{arith, sym, ◌∙◌}
 use Rattle.std.proofs.Common.{false, refl, subst, true}
-use Rattle.std.specs.Prelude.{◌≢◌, All, IfErr, IfSome, IsNone, IsSome, IsTrue, MatchOption, is_some, slice_get}
+use Rattle.std.specs.Prelude.{◌≢◌, All, IfOk, IfSome, IsNone, IsSome, IsTrue, MatchOption, is_some, slice_get}
 use Rattle.std.specs.Option.{option_map}
 use Rattle.journal.specs.Groups.{recovered}
 use Rattle.journal_opening.specs.Kept.{HasCommits}
@@ -15,10 +15,13 @@ use Rattle.journal_opening.specs.declared.start.JournalStart.{JournalStart}
 use Rattle.journal_opening.specs.declared.start.JournalStart.TheVariants as start
 use Rattle.row_store.specs.History.{CommitRecord}
 use Rattle.serve_command.specs.Journals.{AreOnDisk, AreRefused, IsRefusedFile, Journal, RefusesFile}
+use Rattle.serve_command.specs.KeptLogs.{KeptRecord}
 use Rattle.serve_command.specs.LeftFiles.{IsAsFound, IsLeftFile, KeepsFound, KeepsTornBytes}
+use Rattle.serve_command.specs.RunEnds.{AreTold, kept_in, log_of}
 use Rattle.serve_command.specs.declared.left_file.LeftFile.{LeftFile}
 use Rattle.serve_command.specs.declared.left_file.LeftFile.TheVariants.{Read, Unread}
-use Rattle.serve_command.specs.declared.runs.KeptLog.{KeptLog}
+use Rattle.serve_command.specs.declared.runs.RunEnd.{RunEnd}
+use Rattle.serve_command.specs.declared.runs.RunEnd.TheVariants.{Alone, Kept}
 use Rattle.ssb_base.specs.Base.{Tables}
 use Rattle.ssb_files.specs.Loaded.{AreRefusedToServe, IsLoadedToServe}
 use Rattle.ssb_files.specs.Standing.{MayNotStandToServe}
@@ -92,27 +95,14 @@ refused_file texts standing known NotOpened Begins base marks loaded marked chec
 refused_file texts standing known NotOpened Begins base marks loaded marked checked (inr file) =
     inr (inr (inr (record { base = base; loaded = loaded; marks = marks; marked = marked; checked = checked; file = file })))
 
--- the same of a run that failed, over the base that the texts spell
-pub each_refused : {X E : Type 0} (status : E → ℕ) (result : Result X E) (Are : (Table → List ℕ) → Type 0)
-    (standing : List (Query × List Value)) (known : Option (List ℕ)) (NotOpened Begins : Type 0) (base : Tables)
-    (marks : List TableMark) → ((texts : Table → List ℕ) → Are texts → IsLoadedToServe texts base)
-    → AreMarks base marks → ((texts : Table → List ℕ) → Are texts → HaveChecksums texts marks)
-    → IfErr result (λ why. status why ≡ 1 → NotOpened ⊎ RefusesFile base marks Begins known)
-    → IfErr result (λ why. status why ≡ 1 → (texts : Table → List ℕ) → Are texts
-    → AreRefused texts standing (Some known) NotOpened Begins)
-each_refused status (Ok run) Are standing known NotOpened Begins base marks loaded marked checked is = tt
-each_refused status (Err why) Are standing known NotOpened Begins base marks loaded marked checked is =
-    λ one texts are. refused_file texts standing known NotOpened Begins base marks (loaded texts are) marked
-    (checked texts are) (is one)
-
 -- of a journal at the end of the sessions, where there is one, and of one of those that were told
-pub told_is_kept_here : {D L : Type 0} (may_leave : D → List ℕ → Type 0) (seen : D → List ℕ) (told : L → ℕ)
-    (end : Option (KeptLog D)) (log : List CommitRecord) (left : List L) (place : ℕ) (one : L)
-    → IfSome end (λ k. IsLeft (may_leave k.disk) (seen k.disk) k.count log k.was_written)
-    → IfSome end (λ k. All (λ l. told l ≤ k.count) left) → slice_get left place ≡ Some one
-    → IfSome end (λ k. AreOnDisk (may_leave k.disk) (seen k.disk) (IsTrue k.was_written) log (told one))
-told_is_kept_here may_leave seen told None log left place one is few here = tt
-told_is_kept_here may_leave seen told (Some k) log left place one is few here =
+told_here : {D L : Type 0} (may_leave : D → List ℕ → Type 0) (seen : D → List ℕ) (told : L → ℕ) (took : L → Bool)
+    (end : RunEnd D) (left : List L) (place : ℕ) (one : L)
+    → IfSome (kept_in end) (λ k. IsLeft (may_leave k.disk) (seen k.disk) k.count k.log k.written)
+    → AreTold told took left end → slice_get left place ≡ Some one
+    → IfSome (kept_in end) (λ k. AreOnDisk (may_leave k.disk) (seen k.disk) (IsTrue k.written) (log_of end) (told one))
+told_here may_leave seen told took (Alone log) left place one is few here = tt
+told_here may_leave seen told took (Kept k) left place one is few here =
     let enough : told one ≤ k.count = all_at (λ l. told l ≤ k.count) left place one few here in
     record {
       crash = λ file leaves.
@@ -121,20 +111,19 @@ told_is_kept_here may_leave seen told (Some k) log left place one is few here =
       written = λ whole. record { count = k.count; enough = enough; first = is.written whole };
     }
 
--- the same of the only one
-pub told_alone : {D L : Type 0} (may_leave : D → List ℕ → Type 0) (seen : D → List ℕ) (told : L → ℕ)
-    (end : Option (KeptLog D)) (log : List CommitRecord) (left : List L) (one : L)
-    → IfSome end (λ k. IsLeft (may_leave k.disk) (seen k.disk) k.count log k.was_written)
-    → IfSome end (λ k. All (λ l. told l ≤ k.count) left) → left ≡ one ∷ []
-    → IfSome end (λ k. AreOnDisk (may_leave k.disk) (seen k.disk) (IsTrue k.was_written) log (told one))
-told_alone {L = L} may_leave seen told end log left one is few only =
-    told_is_kept_here may_leave seen told end log left 0 one is few (ap (λ (xs : List L). slice_get xs 0) only)
+-- without one, all refreshes were taken
+pub took_each : {D L X : Type 0} (told : L → ℕ) (took : L → Bool) (end : RunEnd D) (left : List L) (place : Option X)
+    → AreTold told took left end → is_some (kept_in end) ≡ is_some place → IsNone place
+    → All (λ one. took one ≡ true) left
+took_each told took (Alone log) left place few same none = few
+took_each told took (Kept k) left None few same none = absurd cc
+took_each told took (Kept k) left (Some x) few same none = absurd cc
 
 -- the same of its disk, with an end that says that it was written
-pub kept_on_disk : {D : Type 0} (may_leave : D → List ℕ → Type 0) (seen : D → List ℕ) (end : Option (KeptLog D))
+kept_on_disk : {D : Type 0} (may_leave : D → List ℕ → Type 0) (seen : D → List ℕ) (end : Option (KeptRecord D))
     (disk : Option D) (log : List CommitRecord) (told : ℕ) (Well : Type 0)
-    → IfSome end (λ k. AreOnDisk (may_leave k.disk) (seen k.disk) (IsTrue k.was_written) log told)
-    → disk ≡ option_map (λ k. k.disk) end → (Well → IfSome end (λ k. IsTrue k.was_written))
+    → IfSome end (λ k. AreOnDisk (may_leave k.disk) (seen k.disk) (IsTrue k.written) log told)
+    → disk ≡ option_map (λ k. k.disk) end → (Well → IfSome end (λ k. IsTrue k.written))
     → IfSome disk (λ d. AreOnDisk (may_leave d) (seen d) Well log told)
 kept_on_disk may_leave seen None disk log told Well is same well =
     subst (λ ds. IfSome ds (λ d. AreOnDisk (may_leave d) (seen d) Well log told)) (sym same) tt
@@ -143,29 +132,28 @@ kept_on_disk may_leave seen (Some k) disk log told Well is same well =
     (record { crash = is.crash; written = λ zero. is.written (well zero) })
 
 pub told_is_kept : {D L : Type 0} (may_leave : D → List ℕ → Type 0) (seen : D → List ℕ) (told : L → ℕ)
-    (end : Option (KeptLog D)) (disk : Option D) (log : List CommitRecord) (left : List L) (place : ℕ) (one : L)
-    (Well : Type 0)
-    → IfSome end (λ k. IsLeft (may_leave k.disk) (seen k.disk) k.count log k.was_written)
-    → IfSome end (λ k. All (λ l. told l ≤ k.count) left) → slice_get left place ≡ Some one
-    → disk ≡ option_map (λ k. k.disk) end → (Well → IfSome end (λ k. IsTrue k.was_written))
-    → IfSome disk (λ d. AreOnDisk (may_leave d) (seen d) Well log (told one))
-told_is_kept may_leave seen told end disk log left place one Well is few here same well =
-    kept_on_disk may_leave seen end disk log (told one) Well
-    (told_is_kept_here may_leave seen told end log left place one is few here) same well
+    (took : L → Bool) (end : RunEnd D) (disk : Option D) (left : List L) (place : ℕ) (one : L) (Well : Type 0)
+    → IfSome (kept_in end) (λ k. IsLeft (may_leave k.disk) (seen k.disk) k.count k.log k.written)
+    → AreTold told took left end → slice_get left place ≡ Some one → disk ≡ option_map (λ k. k.disk) (kept_in end)
+    → (Well → IfSome (kept_in end) (λ k. IsTrue k.written))
+    → IfSome disk (λ d. AreOnDisk (may_leave d) (seen d) Well (log_of end) (told one))
+told_is_kept may_leave seen told took end disk left place one Well is few here same well =
+    kept_on_disk may_leave seen (kept_in end) disk (log_of end) (told one) Well
+    (told_here may_leave seen told took end left place one is few here) same well
 
 false_not_true : false ≡ true → ⊥
 false_not_true is = absurd cc
 
 -- a journal was written to its end, where there is one
-pub all_written : {D : Type 0} (end : Option (KeptLog D)) (written took : Bool)
-    → MatchOption end (written ≡ took) (λ k. written ≡ true → k.was_written ≡ true) → IsTrue written
-    → IfSome end (λ k. IsTrue k.was_written)
+pub all_written : {D : Type 0} (end : Option (KeptRecord D)) (written took : Bool)
+    → MatchOption end (written ≡ took) (λ k. written ≡ true → k.written ≡ true) → IsTrue written
+    → IfSome end (λ k. IsTrue k.written)
 all_written None written took is whole = tt
 all_written (Some k) written took is whole = is whole
 
 -- or there is one
-pub one_unwritten : {D X Y : Type 0} (end : Option (KeptLog D)) (written took : Bool) (place : Option X) (f : X → Y)
-    → MatchOption end (written ≡ took) (λ k. written ≡ true → k.was_written ≡ true) → written ≡ false
+pub one_unwritten : {D X Y : Type 0} (end : Option (KeptRecord D)) (written took : Bool) (place : Option X) (f : X → Y)
+    → MatchOption end (written ≡ took) (λ k. written ≡ true → k.written ≡ true) → written ≡ false
     → (IsNone place → took ≡ true) → is_some end ≡ is_some place → IsSome (option_map f place)
 one_unwritten None written took None f is not all same = absurd (false_not_true (sym not ∙ is ∙ all refl))
 one_unwritten None written took (Some x) f is not all same = absurd cc
@@ -178,7 +166,7 @@ none_placed None f is = refl
 none_placed (Some x) f is = absurd cc
 
 -- the journal's disk is there, where a journal is
-pub disk_there : {D : Type 0} (end : Option (KeptLog D)) (disk : Option D) → disk ≡ option_map (λ k. k.disk) end
+pub disk_there : {D : Type 0} (end : Option (KeptRecord D)) (disk : Option D) → disk ≡ option_map (λ k. k.disk) end
     → is_some disk ≡ is_some end
 disk_there None disk same = ap is_some same
 disk_there (Some k) disk same = ap is_some same
@@ -200,3 +188,20 @@ pub found_has_torn : {U D T : Type 0} (WasUnread : U → Type 0) (seen : D → L
 found_has_torn WasUnread seen bytes marks known (Unread file) is = is
 found_has_torn WasUnread seen bytes marks known (Read disk) is =
     record { found = disk; commits = is.commits; is = is.is; kept = refl }
+
+-- a place that was read is the one that there is, or there is none
+pub some_placed : {X Y : Type 0} (f : X → Y) (read : Option X) (place : Option Y) (one : X) → option_map f read ≡ place
+    → read ≡ Some one → place ≡ Some (f one)
+some_placed f read place one same is = sym same ∙ ap (option_map f) is
+
+pub no_place : {X Y : Type 0} (f : X → Y) (read : Option X) (place : Option Y) → option_map f read ≡ place
+    → read ≡ None → place ≡ None
+no_place f read place same is = sym same ∙ ap (option_map f) is
+
+pub at_some : {X : Type 0} (P : X → Type 0) (option : Option X) (one : X) → option ≡ Some one → IfSome option P → P one
+at_some P option one is holds = subst (λ o. IfSome o P) is holds
+
+pub each_alone : {X K E : Type 0} (result : Result X E) (kept : X → Option K)
+    → IfOk result (λ run. kept run ≡ None) → IfOk result (λ run. is_some (kept run) ≡ false)
+each_alone (Ok run) kept none = ap is_some none
+each_alone (Err why) kept none = tt

@@ -1,7 +1,7 @@
 -- A journal's file that is read while its commits are made again: who takes part, and what is told of the file.
 use Rattle.std.proofs.Common.{◌≡◌, ℕ, List, [], ◌∷◌, ◌++◌, length, get_or, set, Option, None, Some, refl, sym, ap}
 use Rattle.std.proofs.Common.{◌∙◌, subst, arith, inl, inr, drop, append-nil}
-use Rattle.std.specs.Prelude.{All, IfSome, false, nat_eq}
+use Rattle.std.specs.Prelude.{◌≢◌, All, IfSome, false, nat_eq}
 use Rattle.std.proofs.Math.Seq.{drop-append_seam}
 use Rattle.std.proofs.lemmas.List.Elements.{All-nil, All-cons, All-head, All-tail}
 use Rattle.history.specs.Tokens.{TableRecord, TokenRecord, new_clients, new_dispatchers}
@@ -25,13 +25,16 @@ use Rattle.ssb_serving.specs.Members.{AreStill, IsStill}
 use Rattle.ssb_serving.specs.RunFaults.{IsRunFault}
 use Rattle.ssb_serving.specs.declared.run_fault.RunFault.{RunFault}
 use Rattle.serve_command.proofs.BeginningLaws.{begun_table, opened_dispatchers, opened_reader}
-use Rattle.serve_command.proofs.JournalLaws.{refused_open}
+use Rattle.serve_command.proofs.JournalLaws.{has_kept, refused_open}
 use Rattle.serve_command.proofs.RemakingLaws.{still_still}
 use Rattle.serve_command.proofs.SeatLaws.{new_are_seated}
 use Rattle.serve_command.specs.Journals.{RefusesFile}
-use Rattle.serve_command.specs.Remade.{AreAtLog, IsNotRemade, IsRemakeFault}
+use Rattle.serve_command.proofs.StatusLaws.{journaled_no_words, opening_no_words}
+use Rattle.serve_command.specs.LeftFiles.{IsFoundWith}
+use Rattle.serve_command.specs.Remade.{AreAtLog, IsNotRemade, IsRemade, IsRemakeFault, TellsOfFile}
+use Rattle.serve_command.specs.declared.remade.RemadeServer.{RemadeServer}
 use Rattle.serve_command.specs.Seated.{AreSeated}
-use Rattle.serve_command.specs.Status.{refusal_status}
+use Rattle.serve_command.specs.Status.{TellsRefused, refusal_status}
 use Rattle.serve_command.specs.declared.fault.ServeRefusal.{ServeRefusal}
 use Rattle.serve_command.specs.declared.fault.ServeRefusal.TheVariants as refusal
 use Rattle.serve_command.specs.declared.unserved.JournaledFault.{JournaledFault}
@@ -117,6 +120,7 @@ pub further : (table : TableRecord) (before commits : List CommitRecord) (client
     → AreAtLog table before clients reader dispatchers → AreSeated table commits later → read.seen ≡ commits
     → IsStill reader read → AreStill dispatchers after → AreAtLog table commits later read after
 further table before commits clients later reader read dispatchers after at seated seen still all_still = record {
+  full = at.full;
   seated = seated;
   seen = seen;
   made_with = at.made_with;
@@ -141,9 +145,10 @@ reader_at table commits clients reader dispatchers at =
 
 -- at a new table
 pub new_at_log : (table : TableRecord) (clients : List TokenRecord) (reader : TokenRecord)
-    (dispatchers : List TokenRecord) → clients ≡ new_clients table
+    (dispatchers : List TokenRecord) → table.clients ≡ most_clients → clients ≡ new_clients table
     → dispatchers ++ reader ∷ [] ≡ new_dispatchers table → AreAtLog table [] clients reader dispatchers
-new_at_log table clients reader dispatchers new_ones new = record {
+new_at_log table clients reader dispatchers full new_ones new = record {
+  full = full;
   seated = new_are_seated table clients new_ones;
   seen = (opened_reader table dispatchers reader new).1.1;
   made_with = dispatchers;
@@ -187,7 +192,7 @@ pub refused_reading : (base : Tables) (marks : List TableMark) (start : JournalS
     (known now : Option (List ℕ)) (taken : List ℕ) (Ended : Type 0) (why : OpeningFault) → now ≡ known
     → IfSome now (BeginsAsRead taken Ended)
     → ((file : List ℕ) → BeginsAsRead taken Ended file → TellsStartFault start path marks file why)
-    → IsNotRemade base marks start path dispatchers known (refusal.Journal why)
+    → IsNotRemade base marks (TellsStartFault start path marks) dispatchers known (refusal.Journal why)
 refused_reading base marks start path dispatchers known now taken Ended why same as_known tells =
     let read = file_read now taken Ended as_known in
     record {
@@ -201,7 +206,7 @@ pub refused_making : (base : Tables) (marks : List TableMark) (start : JournalSt
     (known now : Option (List ℕ)) (taken : List ℕ) (Ended : Type 0) (commits : List CommitRecord) (why : JournaledFault)
     → now ≡ known → IfSome now (BeginsAsRead taken Ended)
     → ((file : List ℕ) → BeginsAsRead taken Ended file → BeginsWithCommits marks commits file)
-    → IsRemakeFault base commits why → IsNotRemade base marks start path dispatchers known (refusal.NotServed why)
+    → IsRemakeFault base commits why → IsNotRemade base marks (TellsStartFault start path marks) dispatchers known (refusal.NotServed why)
 refused_making base marks start path dispatchers known now taken Ended commits (fault.NotRun why) same as_known begins is =
     absurd is
 refused_making base marks start path dispatchers known now taken Ended commits (fault.Replay why) same as_known begins is =
@@ -222,24 +227,24 @@ refused_making base marks start path dispatchers known now taken Ended commits f
 -- what tells nothing of a file
 pub tells_nothing : (base : Tables) (marks : List TableMark) (start : JournalStart) (path : List ℕ) (dispatchers : ℕ)
     (known : Option (List ℕ)) (why : JournaledFault) → why ≡ fault.Disturbed
-    → IsNotRemade base marks start path dispatchers known (refusal.NotServed why)
+    → IsNotRemade base marks (TellsStartFault start path marks) dispatchers known (refusal.NotServed why)
 tells_nothing base marks start path dispatchers None why is =
-    subst (λ w. IsNotRemade base marks start path dispatchers None (refusal.NotServed w)) (sym is)
+    subst (λ w. IsNotRemade base marks (TellsStartFault start path marks) dispatchers None (refusal.NotServed w)) (sym is)
     (record { file = []; is_file = tt; tells = tt })
 tells_nothing base marks start path dispatchers (Some file) why is =
-    subst (λ w. IsNotRemade base marks start path dispatchers (Some file) (refusal.NotServed w)) (sym is)
+    subst (λ w. IsNotRemade base marks (TellsStartFault start path marks) dispatchers (Some file) (refusal.NotServed w)) (sym is)
     (record { file = file; is_file = refl; tells = tt })
 
 -- no server was opened
 pub not_opened : (base : Tables) (marks : List TableMark) (start : JournalStart) (path : List ℕ) (dispatchers : ℕ)
     (known : Option (List ℕ)) (why : RunFault) → IsRunFault most_clients dispatchers why
-    → IsNotRemade base marks start path dispatchers known (refusal.NotServed (fault.NotRun why))
+    → IsNotRemade base marks (TellsStartFault start path marks) dispatchers known (refusal.NotServed (fault.NotRun why))
 not_opened base marks start path dispatchers None why is = record { file = []; is_file = tt; tells = is }
 not_opened base marks start path dispatchers (Some file) why is = record { file = file; is_file = refl; tells = is }
 
 -- what is told with status 1 is of a refused file
 pub refused_remade : (base : Tables) (marks : List TableMark) (start : JournalStart) (path : List ℕ) (dispatchers : ℕ)
-    (known : Option (List ℕ)) (why : ServeRefusal) → IsNotRemade base marks start path dispatchers known why
+    (known : Option (List ℕ)) (why : ServeRefusal) → IsNotRemade base marks (TellsStartFault start path marks) dispatchers known why
     → refusal_status why ≡ 1 → RefusesFile base marks (start ≡ Begins) known
 refused_remade base marks start path dispatchers known refusal.TooManyClients is status = absurd is.tells
 refused_remade base marks start path dispatchers known (refusal.Journal why) is status = record {
@@ -270,3 +275,29 @@ refused_remade base marks start path dispatchers known (refusal.NotServed fault.
     absurd (omega (arith, status))
 refused_remade base marks start path dispatchers known (refusal.NotServed fault.OutOfMemory) is status =
     absurd (omega (arith, status))
+
+-- and none of it is a wrong word
+remade_no_words : (base : Tables) (marks : List TableMark) (TellsStart : List ℕ → OpeningFault → Type 0)
+    (dispatchers : ℕ) (file : List ℕ) (why : ServeRefusal) → TellsOfFile base marks TellsStart dispatchers file why
+    → refusal_status why ≢ 2
+remade_no_words base marks TellsStart dispatchers file refusal.TooManyClients tells = absurd tells
+remade_no_words base marks TellsStart dispatchers file (refusal.Journal why) tells = opening_no_words why
+remade_no_words base marks TellsStart dispatchers file (refusal.NotServed why) tells = journaled_no_words why
+
+pub told_remade : (base : Tables) (marks : List TableMark) (start : JournalStart) (path : List ℕ) (dispatchers : ℕ)
+    (known : Option (List ℕ)) (why : ServeRefusal)
+    → IsNotRemade base marks (TellsStartFault start path marks) dispatchers known why
+    → TellsRefused (refusal_status why) (RefusesFile base marks (start ≡ Begins) known)
+told_remade base marks start path dispatchers known why is = record {
+  refused = refused_remade base marks start path dispatchers known why is;
+  words = remade_no_words base marks (TellsStartFault start path marks) dispatchers is.file why is.tells;
+}
+
+-- a journal's file was found with the commits that were made again
+pub found_with : {W D : Type 0} (seen : D → List ℕ) (marks : List TableMark) (known : Option (List ℕ))
+    (remade : RemadeServer W D) → IsRemade seen marks remade → IsKnown known (seen remade.opened.found)
+    → IsFoundWith seen marks known remade.opened.kept.commits.items remade.opened.found
+found_with seen marks known remade is file = record {
+  is_file = file;
+  has = has_kept marks (seen remade.opened.found) remade.opened.kept is.kept;
+}

@@ -1,7 +1,8 @@
 -- What the sessions of a server with a journal leave is as its definition says.
 use Rattle.std.proofs.Common.{◌≡◌, ℕ, ◌+◌, ◌≤◌, Bool, List, [], ◌∷◌, ◌++◌, length, take, drop, map, Some}
+use Rattle.std.proofs.Common.{Err, Ok, Result}
 use Rattle.std.proofs.Common.{refl, sym, ap, ◌∙◌, subst, arith, length-append}
-use Rattle.std.specs.Prelude.{All, slice_get}
+use Rattle.std.specs.Prelude.{All, IfOk, IsOk, slice_get}
 use Rattle.std.specs.List.{AllZip, range_with_len}
 use Rattle.std.proofs.lemmas.List.{length-take-le, take-append-drop}
 use Rattle.std.proofs.lemmas.Option.{slice_get_within}
@@ -146,7 +147,7 @@ served_after : {S L : Type 0} (Spoken : S → TokenRecord → TokenRecord → L 
     → AreParted table recovered (length speakers) seated resting → AreSpoken Spoken speakers seated closed left
     → IsClosedWith table (closed ++ resting) ended log → slice_get speakers i ≡ Some speaker
     → slice_get (closed ++ resting) i ≡ Some client → slice_get left i ≡ Some one
-    → IsServedAfter Spoken table recovered log (i + 1) speaker client one
+    → IsServedAfter Spoken (record { table = table; recovered = recovered; log = log }) (i + 1) speaker client one
 served_after Spoken table recovered log speakers seated resting closed left ended i speaker client one parted spoken
     closed_with at_speaker at_client at_left =
     let within = slice_get_within speakers i speaker at_speaker in
@@ -243,3 +244,16 @@ pub told_each : {X A : Type 0} (xs seen : List X) (made : List A) (left_in : X �
 told_each xs seen made left_in told count is same all =
     subst (All (λ a. told a ≤ count)) (sym is)
     (All-map (λ a. told a ≤ count) left_in xs (subst (All (λ x. told (left_in x) ≤ count)) same all))
+
+-- what went well gave something
+pub ok_of : {A E : Type 0} (result : Result A E) → IsOk result → (one : A) × (result ≡ Ok one)
+ok_of (Ok one) is = (one, refl)
+ok_of (Err why) is = absurd is
+
+pub at_ok : {A E : Type 0} (result : Result A E) (P : A → Type 0) (one : A) → result ≡ Ok one → IfOk result P → P one
+at_ok result P one is holds = subst (λ r. IfOk r P) is holds
+
+pub both_ok : {A E : Type 0} (result : Result A E) (P Q R : A → Type 0) → ((one : A) → P one → Q one → R one)
+    → IfOk result P → IfOk result Q → IfOk result R
+both_ok (Ok one) P Q R means is also = means one is also
+both_ok (Err why) P Q R means is also = tt

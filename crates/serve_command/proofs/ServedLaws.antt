@@ -15,7 +15,7 @@ use Rattle.row_store.proofs.PrefixLaws.{prefix_empty}
 use Rattle.row_store.specs.History.{CommitRecord}
 use Rattle.row_store.specs.Legal.{IsLegal}
 use Rattle.serve_command.specs.Journals.{GoesOnFrom, IsMet, Journal, clients_in}
-use Rattle.serve_command.specs.Served.{EndsAlone, HasEndedAlone, HasHadSessions, IsRunOver, IsServedBy, IsServer}
+use Rattle.serve_command.specs.Served.{EndsAlone, HasHadSessions, IsRunOver, IsServedBy, IsServer}
 use Rattle.serve_command.specs.Served.{ServesClients}
 use Rattle.serve_command.specs.Sessions.{HasLeft, HasStreamed, SessionRecord}
 use Rattle.serve_command.specs.declared.speakers.PathLeft.{PathLeft}
@@ -25,18 +25,9 @@ use Rattle.ssb_journal.specs.declared.head.TableMark.{TableMark}
 use Rattle.ssb_schema.specs.declared.table.Table.{Table}
 use Rattle.ssb_serving.proofs.PlaceLaws.{all_at, get_below}
 use Rattle.ssb_serving.specs.Streams.{IsStreamRun}
-use Rattle.stream_sessions.specs.Events.{Event}
-use Rattle.stream_sessions.specs.Speaking.{terms_of}
-use Rattle.stream_sessions.specs.declared.manner.Terms.{Terms}
-use Rattle.stream_sessions.specs.declared.outcome.Served.{Served}
-use Rattle.stream_sessions.specs.declared.outcome.SessionError.{SessionError}
 use Rattle.stream_sessions.specs.declared.past.Past.{Past}
 
--- what is pushed to an empty list, and what is popped from a list of one, is all of it
-pub first_pushed : {X : Type 0} (before after : List X) (x : X) → before ≡ [] → after ≡ before ++ x ∷ []
-    → after ≡ x ∷ []
-first_pushed before after x none pushed = pushed ∙ ap (λ xs. xs ++ x ∷ []) none
-
+-- what is popped from a list of one is all of it
 pub only_popped : {X : Type 0} (front whole : List X) (x : X) → whole ≡ front ++ x ∷ [] → length whole ≡ 1
     → whole ≡ x ∷ []
 only_popped [] whole x popped one = popped
@@ -44,7 +35,7 @@ only_popped (y ∷ front) whole x popped one =
     absurd (omega (arith, one, ap length popped, length-append front (x ∷ [])))
 
 -- a run without a journal goes on from no commits
-pub over_none : {S L : Type 0} (Spoken : S → TokenRecord → TokenRecord → L → Type 0) (texts : Table → List ℕ)
+over_none : {S L : Type 0} (Spoken : S → TokenRecord → TokenRecord → L → Type 0) (texts : Table → List ℕ)
     (base : Tables) (speakers : List S) (dispatchers : ℕ) (left : List L) (log : List CommitRecord)
     → IsLoadedToServe texts base → IsStreamRun Spoken base speakers dispatchers left log
     → IsRunOver Spoken None texts speakers dispatchers left log
@@ -87,20 +78,20 @@ pub over_journal : {S L : Type 0} (Spoken : S → TokenRecord → TokenRecord �
     → HaveChecksums texts marks → GoesOnFrom Spoken known base marks speakers dispatchers left log
     → IsRunOver Spoken (Some known) texts speakers dispatchers left log
 over_journal Spoken texts known base marks speakers dispatchers left log loaded marked checked from =
-    let run = from.goes_on.run in record {
+    let run = from.run in record {
       server = record {
         table = run.table;
         loaded = subst (IsLoadedToServe texts) (sym run.base_is) loaded;
         clients_are = run.clients_are;
         dispatchers_are = run.dispatchers_are;
-        kept = from.goes_on.kept;
+        kept = from.kept;
         goes_on = record {
           marks = marks;
           marked = subst (λ (b : Tables). AreMarks b marks) (sym run.base_is) marked;
           checked = checked;
           file = from.file;
           is_file = from.is_file;
-          has = from.goes_on.has;
+          has = from.has;
         };
         log = log;
         begins = run.goes_on;
@@ -125,7 +116,7 @@ over_journal Spoken texts known base marks speakers dispatchers left log loaded 
           };
     }
 
--- the same of a run that may have failed, over the base that the texts spell
+-- the same of a run without one, of which it is said whether it failed
 pub each_over_none : {S L X E : Type 0} (Spoken : S → TokenRecord → TokenRecord → L → Type 0) (left_in : X → List L)
     (log_in : X → List CommitRecord) (result : Result X E) (Are : (Table → List ℕ) → Type 0) (base : Tables)
     (speakers : List S) (dispatchers : ℕ) → ((texts : Table → List ℕ) → Are texts → IsLoadedToServe texts base)
@@ -135,20 +126,6 @@ pub each_over_none : {S L X E : Type 0} (Spoken : S → TokenRecord → TokenRec
 each_over_none Spoken left_in log_in (Ok run) Are base speakers dispatchers loaded is = λ texts are.
     over_none Spoken texts base speakers dispatchers (left_in run) (log_in run) (loaded texts are) is
 each_over_none Spoken left_in log_in (Err why) Are base speakers dispatchers loaded is = tt
-
-pub each_over_journal : {S L X E : Type 0} (Spoken : S → TokenRecord → TokenRecord → L → Type 0)
-    (left_in : X → List L) (log_in : X → List CommitRecord) (result : Result X E) (Are : (Table → List ℕ) → Type 0)
-    (known : Option (List ℕ)) (base : Tables) (marks : List TableMark) (speakers : List S) (dispatchers : ℕ)
-    → ((texts : Table → List ℕ) → Are texts → IsLoadedToServe texts base) → AreMarks base marks
-    → ((texts : Table → List ℕ) → Are texts → HaveChecksums texts marks)
-    → IfOk result (λ run. GoesOnFrom Spoken known base marks speakers dispatchers (left_in run) (log_in run))
-    → IfOk result (λ run. (texts : Table → List ℕ) → Are texts
-    → IsRunOver Spoken (Some known) texts speakers dispatchers (left_in run) (log_in run))
-each_over_journal Spoken left_in log_in (Ok run) Are known base marks speakers dispatchers loaded marked checked is =
-    λ texts are. over_journal Spoken texts known base marks speakers dispatchers (left_in run) (log_in run)
-    (loaded texts are) marked (checked texts are) is
-each_over_journal Spoken left_in log_in (Err why) Are known base marks speakers dispatchers loaded marked checked is =
-    tt
 
 -- the number of a client that a session finds
 met_number : (journal : Journal) (table : TableRecord) (kept : List CommitRecord) (number : ℕ) (client : TokenRecord)
@@ -168,7 +145,7 @@ pub record IsAlone {S L : Type 0} (Spoken : S → TokenRecord → TokenRecord �
   pub log_is : server.log ≡ log
   pub closed : TokenRecord
   pub is_closed : slice_get server.closed 0 ≡ Some closed
-  pub by : IsServedBy Spoken journal server.table server.kept server.log 1 speaker closed one
+  pub by : IsServedBy Spoken server 1 speaker closed one
 
 alone_of : {S L : Type 0} (Spoken : S → TokenRecord → TokenRecord → L → Type 0) (journal : Journal)
     (texts : Table → List ℕ) (speaker : S) (dispatchers : ℕ) (one : L) (log : List CommitRecord)
@@ -193,62 +170,36 @@ is_alone {L = L} Spoken journal texts speakers speaker dispatchers left one log 
     (subst (λ (ls : List L). IsRunOver Spoken journal texts (speaker ∷ []) dispatchers ls log) left_one
     (subst (λ xs. IsRunOver Spoken journal texts xs dispatchers left log) of_one over))
 
--- its session, by its number
-pub ended_alone : {S L : Type 0} (Spoken : S → TokenRecord → TokenRecord → L → Type 0)
-    (outcome : Result Served SessionError) (terms : Terms) (journal : Journal) (texts : Table → List ℕ)
-    (dispatchers told : ℕ) (unread before after : Option (List ℕ)) (AreKept : List CommitRecord → ℕ → Type 0)
-    (log : List CommitRecord)
-    (speaker : S) (one : L) (events : List Event) (alone : IsAlone Spoken journal texts dispatchers log speaker one)
-    → HasStreamed (number_of alone.by.client.who) alone.by.client alone.closed unread before after outcome events told terms
-    → AreKept log told → HasEndedAlone outcome terms journal texts dispatchers unread before after AreKept
-ended_alone Spoken outcome terms journal texts dispatchers told unread before after AreKept log speaker one events alone had
-    kept =
+-- its session, by its number, with an exit status
+pub ends_alone : {S L : Type 0} (Spoken : S → TokenRecord → TokenRecord → L → Type 0) (status : ℕ) (journal : Journal)
+    (texts : Table → List ℕ) (dispatchers told : ℕ) (Was : SessionRecord → Type 0)
+    (AreKept : List CommitRecord → ℕ → Type 0) (log : List CommitRecord) (speaker : S) (one : L)
+    (session : SessionRecord) (alone : IsAlone Spoken journal texts dispatchers log speaker one)
+    → HasStreamed (number_of alone.by.client.who) alone.by.client alone.closed session told → Was session
+    → AreKept log told → ((status ≡ 0) ⊎ IsNone journal → session.terms.takes_refreshes ≡ true)
+    → (status ≡ 0 → IsOk session.outcome) → (status ≢ 0 → IsErr session.outcome ⊎ IsSome journal)
+    → EndsAlone status journal texts dispatchers Was AreKept
+ends_alone Spoken status journal texts dispatchers told Was AreKept log speaker one session alone had was kept took well
+    broke =
     let by = alone.by in
-    let streamed = subst
-    (λ (w : Who). HasStreamed (number_of w) by.client alone.closed unread before after outcome events told terms)
+    let streamed = subst (λ (w : Who). HasStreamed (number_of w) by.client alone.closed session told)
     (met_number journal alone.server.table alone.server.kept 1 by.client by.met) had in record {
       server = alone.server;
       client = by.client;
       closed = alone.closed;
       is_closed = alone.is_closed;
       met = by.met;
-      ended = streamed.ended;
-      events = events;
-      conversed = streamed.conversed;
+      session = session;
+      is = streamed.is;
+      was = was;
       begins = by.begins;
       made = by.made;
       kept = subst (AreKept alone.server.log) streamed.told_is
           (subst (λ (l : List CommitRecord). AreKept l told) (sym alone.log_is) kept);
+      took = took;
+      well = well;
+      broke = broke;
     }
-
--- with an exit status
-pub ends_alone : (outcome : Result Served SessionError) (takes : Bool) (past : Past) (status : ℕ) (journal : Journal)
-    (texts : Table → List ℕ) (dispatchers : ℕ) (unread before after : Option (List ℕ))
-    (AreKept AreThen : List CommitRecord → ℕ → Type 0)
-    → HasEndedAlone outcome (terms_of takes past) journal texts dispatchers unread before after AreKept
-    → ((log : List CommitRecord) (told : ℕ) → AreKept log told → AreThen log told) → (status ≡ 0 → IsOk outcome)
-    → (status ≢ 0 → IsErr outcome ⊎ IsSome journal) → ((status ≡ 0) ⊎ IsNone journal → takes ≡ true)
-    → EndsAlone status past journal texts dispatchers unread before after AreThen
-ends_alone outcome takes past status journal texts dispatchers unread before after AreKept AreThen is still well broke took = record {
-  outcome = outcome;
-  takes = takes;
-  took = took;
-  alone = record {
-    server = is.server;
-    client = is.client;
-    closed = is.closed;
-    is_closed = is.is_closed;
-    met = is.met;
-    ended = is.ended;
-    events = is.events;
-    conversed = is.conversed;
-    begins = is.begins;
-    made = is.made;
-    kept = still is.server.log _ is.kept;
-  };
-  well = well;
-  broke = broke;
-}
 
 -- what is left of all clients says that they were served
 pub all_served : (shown all : List PathLeft) (result : Bool) → result ≡ list_all (λ left. left.was_served) shown
@@ -258,19 +209,19 @@ all_served shown all result is well same =
     (AllPass-from_list_all (λ (left : PathLeft). left.was_served) shown (sym is ∙ well))
 
 -- one of the clients of a run, by its place
-had_at : {S : Type 0} (past_of : S → Past) (Was : Past → SessionRecord → Type 0) (past : Past) (status : ℕ)
-    (journal : Journal) (table : TableRecord) (kept log : List CommitRecord)
-    (AreKept : List CommitRecord → ℕ → Type 0) (place : ℕ) (speaker : S) (closed : TokenRecord) (left : PathLeft)
-    → past_of speaker ≡ past
-    → IsServedBy (λ (s : S) old new one. HasLeft (Was (past_of s)) (number_of old.who) old new one) journal table kept log
+had_at : {S : Type 0} {journal : Journal} {texts : Table → List ℕ} {clients dispatchers : ℕ} (past_of : S → Past)
+    (Was : Past → SessionRecord → Type 0) (past : Past) (status : ℕ)
+    (server : IsServer journal texts clients dispatchers) (AreKept : List CommitRecord → ℕ → Type 0) (place : ℕ)
+    (speaker : S) (closed : TokenRecord) (left : PathLeft) → past_of speaker ≡ past
+    → IsServedBy (λ (s : S) old new one. HasLeft (Was (past_of s)) (number_of old.who) old new one) server
     (place + 1) speaker closed left
-    → AreKept log left.told → (status ≡ 0 → IsTrue left.was_served)
+    → AreKept server.log left.told → (status ≡ 0 → IsTrue left.was_served)
     → ((status ≡ 0) ⊎ IsNone journal → left.took_refreshes ≡ true)
-    → HasHadSessions status journal table kept log (Was past) AreKept (place + 1) closed
-had_at past_of Was past status journal table kept log AreKept place speaker closed left same by told well took =
+    → HasHadSessions status server (Was past) AreKept (place + 1) closed
+had_at {journal = journal} past_of Was past status server AreKept place speaker closed left same by told well took =
     let had = subst (λ (p : Past). HasLeft (Was p) (place + 1) by.client closed left) same
     (subst (λ (w : Who). HasLeft (Was (past_of speaker)) (number_of w) by.client closed left)
-    (met_number journal table kept (place + 1) by.client by.met) by.spoken) in record {
+    (met_number journal server.table server.kept (place + 1) by.client by.met) by.spoken) in record {
       client = by.client;
       met = by.met;
       sessions = had.sessions;
@@ -280,7 +231,7 @@ had_at past_of Was past status journal table kept log AreKept place speaker clos
       took = λ so. had.took_are (took so);
       begins = by.begins;
       made = by.made;
-      told = subst (AreKept log) had.told_is told;
+      told = subst (AreKept server.log) had.told_is told;
     }
 
 serves_all : {S : Type 0} (past_of : S → Past) (Was : Past → SessionRecord → Type 0) (past : Past) (status : ℕ)
@@ -297,8 +248,8 @@ serves_all past_of Was past status journal texts speakers dispatchers left log A
   served = λ i client within here.
       let speaker = get_below speakers i within in
       let one = get_below left i (omega (arith, within, over.one_left)) in
-      had_at past_of Was past status journal over.server.table over.server.kept over.server.log AreKept i speaker.0 client
-      one.0 (all_at (λ s. past_of s ≡ past) speakers i speaker.0 same speaker.1)
+      had_at past_of Was past status over.server AreKept i speaker.0 client one.0
+      (all_at (λ s. past_of s ≡ past) speakers i speaker.0 same speaker.1)
       (over.served i speaker.0 client one.0 speaker.1 here one.1)
       (subst (λ (l : List CommitRecord). AreKept l one.0.told) (sym over.log_is) (told i one.0 one.1))
       (λ zero. all_at (λ (l : PathLeft). IsTrue l.was_served) left i one.0 (well zero) one.1)

@@ -7,14 +7,13 @@ use Rattle.std.specs.Io.Buffered.{reader_buffer, reader_capacity, reader_inner, 
 use Rattle.std.specs.Io.KnownBytes.{Consumes, prepend_known}
 use Rattle.std.specs.declared.io.buffered.BufReader.{BufReader}
 use Rattle.history.specs.Tokens.{TokenRecord}
-use Rattle.serve_command.specs.Sessions.{AreSessions, HasEnded, HasHad, HasLeft, HasServedOnce}
+use Rattle.serve_command.specs.Sessions.{AreSessions, HasConversed, HasEnded, HasHad, HasLeft, HasServedOnce}
 use Rattle.serve_command.specs.Sessions.{HasStreamed, IsBetween, SessionRecord, most_told}
 use Rattle.serve_command.specs.declared.speakers.OnceLeft.{OnceLeft}
 use Rattle.serve_command.specs.declared.speakers.SessionEnd.TheVariants.{Last}
 use Rattle.ssb_script.proofs.RequestLaws.{nothing_is_unfinished}
 use Rattle.ssb_text.proofs.WrittenLaws.{appends_none}
-use Rattle.stream_sessions.specs.Conversation.{ConversesTo}
-use Rattle.stream_sessions.specs.Events.{Event, most_covered}
+use Rattle.stream_sessions.specs.Events.{most_covered}
 use Rattle.stream_sessions.specs.Session.{Serves, Breaks}
 use Rattle.stream_sessions.specs.Speaking.{InSession, first_format, manner_of, speaking, terms_of}
 use Rattle.stream_sessions.specs.declared.manner.Terms.{Terms}
@@ -38,111 +37,109 @@ nothing_read : (unread : Option (List ℕ)) → Consumes unread unread []
 nothing_read None = tt
 nothing_read (Some bytes) = refl
 
-not_begun : (terms : Terms) (number : ℕ) (client : TokenRecord) (unread before : Option (List ℕ))
-    → HasEnded (Err (record { answered = 0; fault = fault.OutOfMemory })) terms number client client unread before before
-not_begun terms number client unread before = (
-  unread,
-  (
-    first_format,
-    record {
-      text = [];
-      is = record {
-        bytes = [];
-        read = nothing_read unread;
-        requests = [];
-        rest = [];
-        cut = record { joined = refl; each = tt; unfinished = nothing_is_unfinished };
-        between = speaking client (manner_of terms first_format);
-        replies = [];
-        answered = refl;
-        count = refl;
-        line = [];
-        breaks = (omega arith, inl refl, refl);
-        told = refl;
-      };
-      written = (
-        record { part = []; rest = []; begins = refl; appends = appends_none before },
-        λ other. appends_none before,
-      );
-    },
-  ),
-)
-
 -- nothing was read, written or done
 pub nothing_streamed : (terms : Terms) (number : ℕ) (client : TokenRecord) (unread before : Option (List ℕ))
-    → HasStreamed number client client unread before before
-    (Err (record { answered = 0; fault = fault.OutOfMemory })) [] 0 terms
+    → HasStreamed number client client (record {
+      outcome = Err (record { answered = 0; fault = fault.OutOfMemory });
+      terms = terms;
+      unread = unread;
+      before = before;
+      after = before;
+      events = [];
+    }) 0
 nothing_streamed terms number client unread before = record {
-  ended = not_begun terms number client unread before;
-  conversed = (first_format, (false, [], (refl, refl, refl), λ other. refl));
+  is = record {
+    ended = (
+      unread,
+      (
+        first_format,
+        record {
+          text = [];
+          is = record {
+            bytes = [];
+            read = nothing_read unread;
+            requests = [];
+            rest = [];
+            cut = record { joined = refl; each = tt; unfinished = nothing_is_unfinished };
+            between = speaking client (manner_of terms first_format);
+            replies = [];
+            answered = refl;
+            count = refl;
+            line = [];
+            breaks = (omega arith, inl refl, refl);
+            told = refl;
+          };
+          written = (
+            record { part = []; rest = []; begins = refl; appends = appends_none before },
+            λ other. appends_none before,
+          );
+        },
+      ),
+    );
+    conversed = (first_format, (false, [], (refl, refl, refl), λ other. refl));
+  };
   told_is = refl;
 }
 
 -- how a session ended over a wire, of which the other bytes are known
-has_ended : (outcome : Result Served SessionError) (terms : Terms) (number : ℕ) (old new : TokenRecord)
-    (unread was rest before began after now : Option (List ℕ)) → was ≡ unread → began ≡ before → now ≡ after
-    → IfOk outcome (λ served. InSession terms old new (λ first last. Serves served number first last was rest began now))
-    → IfErr outcome (λ error. InSession terms old new (λ first last. Breaks error number first last was rest began now))
-    → HasEnded outcome terms number old new unread before after
-has_ended (Ok served) terms number old new unread was rest before began after now same same_too same_then serves breaks = (
-  rest,
-  subst (λ (w : Option (List ℕ)). InSession terms old new (λ first last. Serves served number first last w rest before after))
-      same
-      (subst
-      (λ (w : Option (List ℕ)). InSession terms old new (λ first last. Serves served number first last was rest w after))
-      same_too
-      (subst
-      (λ (w : Option (List ℕ)). InSession terms old new (λ first last. Serves served number first last was rest began w))
-      same_then serves)),
-)
-has_ended (Err error) terms number old new unread was rest before began after now same same_too same_then serves breaks = (
-  rest,
-  subst (λ (w : Option (List ℕ)). InSession terms old new (λ first last. Breaks error number first last w rest before after))
-      same
-      (subst
-      (λ (w : Option (List ℕ)). InSession terms old new (λ first last. Breaks error number first last was rest w after))
-      same_too
-      (subst
-      (λ (w : Option (List ℕ)). InSession terms old new (λ first last. Breaks error number first last was rest began w))
-      same_then breaks)),
-)
+has_ended : (outcome : Result Served SessionError) (session : SessionRecord) (number : ℕ) (old new : TokenRecord)
+    (was rest began now : Option (List ℕ)) → was ≡ session.unread → began ≡ session.before → now ≡ session.after
+    → IfOk outcome (λ served. InSession session.terms old new (λ first last.
+    Serves served number first last was rest began now))
+    → IfErr outcome (λ error. InSession session.terms old new (λ first last.
+    Breaks error number first last was rest began now)) → HasEnded outcome number old new session
+has_ended (Ok served) session number old new was rest began now same same_too same_then serves breaks =
+    let Is : Option (List ℕ) → Option (List ℕ) → Option (List ℕ) → Type 0 = λ w b n. InSession session.terms old new (λ first last.
+    Serves served number first last w rest b n) in (
+      rest,
+      subst (λ w. Is w session.before session.after) same
+          (subst (λ b. Is was b session.after) same_too (subst (λ n. Is was began n) same_then serves)),
+    )
+has_ended (Err error) session number old new was rest began now same same_too same_then serves breaks =
+    let Is : Option (List ℕ) → Option (List ℕ) → Option (List ℕ) → Type 0 = λ w b n. InSession session.terms old new (λ first last.
+    Breaks error number first last w rest b n) in (
+      rest,
+      subst (λ w. Is w session.before session.after) same
+          (subst (λ b. Is was b session.after) same_too (subst (λ n. Is was began n) same_then breaks)),
+    )
 
 -- a session over a reader and a writer
-pub has_streamed : (outcome : Result Served SessionError) (terms : Terms) (number told : ℕ) (old new : TokenRecord)
-    (unread before after was rest now : Option (List ℕ)) (events : List Event) → was ≡ unread → after ≡ now
-    → IfOk outcome (λ served. InSession terms old new (λ first last. Serves served number first last was rest before now))
-    → IfErr outcome (λ error. InSession terms old new (λ first last. Breaks error number first last was rest before now))
-    → InSession terms old new (λ first last. ConversesTo outcome number first last events)
-    → told ≡ most_covered events → HasStreamed number old new unread before after outcome events told terms
-has_streamed outcome terms number told old new unread before after was rest now events same same_then serves breaks
-    conversed told_is = record {
-      ended = has_ended outcome terms number old new unread was rest before before after now same refl (sym same_then)
-          serves breaks;
-      conversed = conversed;
-      told_is = told_is;
-    }
+pub has_streamed : (session : SessionRecord) (number told : ℕ) (old new : TokenRecord) (was rest now : Option (List ℕ))
+    → was ≡ session.unread → session.after ≡ now
+    → IfOk session.outcome (λ served. InSession session.terms old new (λ first last.
+    Serves served number first last was rest session.before now))
+    → IfErr session.outcome (λ error. InSession session.terms old new (λ first last.
+    Breaks error number first last was rest session.before now))
+    → HasConversed number old new session → told ≡ most_covered session.events
+    → HasStreamed number old new session told
+has_streamed session number told old new was rest now same same_then serves breaks conversed told_is = record {
+  is = record {
+    ended = has_ended session.outcome session number old new was rest session.before now same refl (sym same_then) serves
+        breaks;
+    conversed = conversed;
+  };
+  told_is = told_is;
+}
 
 -- and what follows it
-pub served_once : {F : Type 0} (remaining contents : F → Option (List ℕ)) (input output : F)
-    (outcome : Result Served SessionError) (number : ℕ) (old new : TokenRecord) (after : Option (List ℕ))
-    (events : List Event) (past : Past) (once : OnceLeft)
-    → HasStreamed number old new (remaining input) (contents output) after outcome events once.told
-    (terms_of once.took_refreshes past) → (once.end ≡ Last → IsOk outcome)
-    → HasServedOnce (IsBetween remaining contents past) number old new once
-served_once remaining contents input output outcome number old new after events past once streamed last = inl (
-  record {
-    outcome = outcome;
-    terms = terms_of once.took_refreshes past;
-    unread = remaining input;
-    before = contents output;
-    after = after;
-    events = events;
-  },
-  record { ended = streamed.ended; conversed = streamed.conversed },
+pub served_once : {F : Type 0} (remaining contents : F → Option (List ℕ)) (input output : F) (number : ℕ)
+    (old new : TokenRecord) (session : SessionRecord) (past : Past) (once : OnceLeft)
+    → HasStreamed number old new session once.told → (once.end ≡ Last → IsOk session.outcome)
+    → session.terms ≡ terms_of once.took_refreshes past → session.unread ≡ remaining input
+    → session.before ≡ contents output → HasServedOnce (IsBetween remaining contents past) number old new once
+served_once remaining contents input output number old new session past once streamed last terms unread before = inl (
+  session,
+  streamed.is,
   last,
   streamed.told_is,
-  refl,
-  record { past_is = refl; input = input; output = output; unread_is = refl; before_is = refl },
+  ap (λ (t : Terms). t.takes_refreshes) terms,
+  record {
+    past_is = ap (λ (t : Terms). t.past) terms;
+    input = input;
+    output = output;
+    unread_is = unread;
+    before_is = before;
+  },
 )
 
 both_true : (a b : Bool) → (a && b) ≡ true → (a ≡ true) × (b ≡ true)

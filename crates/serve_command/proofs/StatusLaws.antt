@@ -1,6 +1,6 @@
 -- The exit statuses that there are.
-use Rattle.std.proofs.Common.{◌≡◌, ℕ, ◌⊎◌, inl, inr, refl, arith}
-use Rattle.std.specs.Prelude.{◌≢◌}
+use Rattle.std.proofs.Common.{◌≡◌, ℕ, ◌⊎◌, Err, Ok, Result, inl, inr, refl, arith}
+use Rattle.std.specs.Prelude.{◌≢◌, IfErr}
 use Rattle.ssb_files.specs.Status.{data_status, questions_status, script_status, status_of}
 use Rattle.ssb_files.specs.declared.fault.Fault.{Fault}
 use Rattle.ssb_files.specs.declared.fault.Fault.TheVariants as fault
@@ -21,7 +21,7 @@ use Rattle.journal_opening.specs.declared.fault.OpeningFault.TheVariants as open
 use Rattle.serve_command.specs.JournaledRun.{IsUnservedFault}
 use Rattle.serve_command.specs.declared.unserved.JournaledFault.{JournaledFault}
 use Rattle.serve_command.specs.declared.unserved.JournaledFault.TheVariants as journaled
-use Rattle.serve_command.specs.Status.{journaled_status, serving_status}
+use Rattle.serve_command.specs.Status.{TellsRefused, journaled_status, serving_status}
 use Rattle.serve_command.specs.declared.fault.ServeRefusal.{ServeRefusal}
 use Rattle.serve_command.specs.declared.fault.ServeRefusal.TheVariants as refusal
 use Rattle.ssb_journal.specs.declared.fault.JournalFault.TheVariants as journal
@@ -142,6 +142,30 @@ is_not_opened Taken Missing (file.Io error) is taken missing = absurd (omega (ar
 -- what is wrong with a journal is no wrong word
 pub opening_no_words : (why : OpeningFault) → opening_status why ≢ 2
 opening_no_words why = no_words (opening_status why) (of_opening why)
+
+pub journaled_no_words : (why : JournaledFault) → journaled_status why ≢ 2
+journaled_no_words why = no_words (journaled_status why) (of_journaled why)
+
+-- where nobody was served behind commits that were made again, or not to the end
+pub unserved_told : {Refused : Type 0} (why : JournaledFault) → IsUnservedFault why
+    → TellsRefused (journaled_status why) Refused
+unserved_told why is = record {
+  refused = λ one. absurd (unserved_not_refused why is one);
+  words = journaled_no_words why;
+}
+
+-- with a failure nothing is refused
+pub failed_told : {Refused : Type 0} (status : ℕ) → status ≡ 4 → TellsRefused status Refused
+failed_told status is = record { refused = λ one. absurd (omega (arith, is, one)); words = λ two. omega (arith, is, two) }
+
+pub failed_each : {X E Refused : Type 0} (result : Result X E) (status : E → ℕ)
+    → IfErr result (λ why. status why ≡ 4) → IfErr result (λ why. TellsRefused (status why) Refused)
+failed_each (Ok run) status is = tt
+failed_each (Err why) status is = failed_told (status why) is
+
+-- what is refused, said of what it means
+pub refused_for : {Was Is : Type 0} (status : ℕ) → (Was → Is) → TellsRefused status Was → TellsRefused status Is
+refused_for status means told = record { refused = λ one. means (told.refused one); words = told.words }
 
 a_fault : (status : ℕ) → IsJournalStatus status → IsFaultStatus status
 a_fault status (inl is) = inl is

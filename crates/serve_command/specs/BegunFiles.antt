@@ -4,7 +4,8 @@ use Rattle.journal.specs.Groups.{AreTorn}
 use Rattle.row_store.specs.History.{CommitRecord}
 use Rattle.serve_command.specs.declared.journaled_run.BegunFile.{BegunFile}
 use Rattle.serve_command.specs.declared.journaled_run.BegunFile.TheVariants.{Open, ReadOnly}
-use Rattle.ssb_journal.specs.Counts.{HaveFirst, IsLeft, KeepsFirst}
+use Rattle.serve_command.specs.JournaledRun.{IsBegunOn}
+use Rattle.ssb_journal.specs.Counts.{Begun, HaveFirst, IsLeft, KeepsFirst}
 
 abbrev pub disk_of : {D : Type 0} → BegunFile D → D
 disk_of (Open journal) = journal
@@ -17,6 +18,10 @@ abbrev pub KeepsBegun : {D : Type 0} → (D → List ℕ → Type 0) → (D → 
 KeepsBegun may_leave seen promised count log (Open journal) = KeepsFirst count log (seen journal)
 KeepsBegun may_leave seen promised count log (ReadOnly disk) =
     IsLeft (may_leave disk) (seen disk) count log false × HaveFirst count log (promised disk)
+
+-- a journal was begun with this file, and so many commits
+abbrev pub IsBegunWith : {D : Type 0} → (D → ℕ) → (D → ℕ → List ℕ → Type 0) → Begun → BegunFile D → ℕ → Type 0
+IsBegunWith moment left_since begun file count = IsBegunOn moment left_since begun (disk_of file) count
 
 -- where it is read alone, it is as it was
 abbrev pub IsUntouched : {D : Type 0} → BegunFile D → D → Type 0

@@ -51,18 +51,24 @@ pub record HasKept {D : Type 0} (moment : D → ℕ) (left_since : D → ℕ →
   pub begins : IsPrefix recovered log
   pub since : KeepsSince (begun_on moment left_since begun least) (moment disk) (left_since disk) count log
 
--- the client of this number of the table, which had seen all that was recovered and no more, was served by its speaker,
--- which kept what it promises; what it sees at the end is a beginning of the log, and the commits that it made, those
--- of the journal among them, are those of its number in the log
-pub record IsServedAfter {S L : Type 0} (Spoken : S → TokenRecord → TokenRecord → L → Type 0) (table : TableRecord)
-    (recovered log : List CommitRecord) (number : ℕ) (speaker : S) (closed : TokenRecord) (left : L) : Type 0 where
+-- a server that was closed: its table, the commits that its log began with, and the log
+pub record ClosedServer : Type 0 where
+  pub table : TableRecord
+  pub recovered : List CommitRecord
+  pub log : List CommitRecord
+
+-- the client of this number, which had seen all that was recovered and no more, was served by its speaker, which kept
+-- what it promises; what it sees at the end is a beginning of the log, and the commits that it made, those of the journal
+-- among them, are those of its number in the log
+pub record IsServedAfter {S L : Type 0} (Spoken : S → TokenRecord → TokenRecord → L → Type 0) (server : ClosedServer)
+    (number : ℕ) (speaker : S) (closed : TokenRecord) (left : L) : Type 0 where
   pub client : TokenRecord
-  pub table_is : client.table ≡ table
+  pub table_is : client.table ≡ server.table
   pub who_is : client.who ≡ Client number
-  pub seen : client.seen ≡ recovered
+  pub seen : client.seen ≡ server.recovered
   pub spoken : IsSpoken Spoken speaker client closed left
-  pub begins : IsPrefix closed.seen log
-  pub made : closed.mine ≡ commits_of number log
+  pub begins : IsPrefix closed.seen server.log
+  pub made : closed.mine ≡ commits_of number server.log
 
 -- the client of this number of the table had no speaker: it saw all that was recovered and no more, and the commits
 -- that it made are those of its number in the log
@@ -89,7 +95,7 @@ pub record IsJournaledRun {S L : Type 0} (Spoken : S → TokenRecord → TokenRe
   pub one_left : length left ≡ length speakers
   pub served : (i : ℕ) (speaker : S) (client : TokenRecord) (one : L) → slice_get speakers i ≡ Some speaker
       → slice_get closed i ≡ Some client → slice_get left i ≡ Some one
-      → IsServedAfter Spoken table recovered log (i + 1) speaker client one
+      → IsServedAfter Spoken (record { table = table; recovered = recovered; log = log }) (i + 1) speaker client one
   pub rested : (i : ℕ) (client : TokenRecord) → length speakers ≤ i → slice_get closed i ≡ Some client
       → HasRested table recovered log (i + 1) client
   pub ended : List TokenRecord

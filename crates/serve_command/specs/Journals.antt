@@ -28,23 +28,17 @@ use Rattle.history_core.specs.Counts.{most_clients}
 abbrev pub Journal : Type 0
 Journal = Option (Option (List ℕ))
 
--- a server over the base, whose tables have these marks, went on from the commits that its journal's file kept, and
--- served these speakers by so many dispatchers and one more, who read the log for the journal: this is what they left,
--- and the log
-pub record GoesOn {S L : Type 0} (Spoken : S → TokenRecord → TokenRecord → L → Type 0) (base : Tables)
-    (marks : List TableMark) (file : List ℕ) (speakers : List S) (dispatchers : ℕ) (left : List L)
-    (log : List CommitRecord) : Type 0 where
-  pub kept : List CommitRecord
-  pub has : HasCommits marks kept file
-  pub run : IsJournaledRun Spoken base kept speakers (dispatchers + 1) left log
-
--- the same of the journal over the tables of the base; its file is the known one, where one is known
+-- a server over the base, whose tables have these marks, went on from the commits that its journal's file kept, the known
+-- one, where one is known, and served these speakers by so many dispatchers and one more, who read the log for the
+-- journal: this is what they left, and the log
 pub record GoesOnFrom {S L : Type 0} (Spoken : S → TokenRecord → TokenRecord → L → Type 0) (known : Option (List ℕ))
     (base : Tables) (marks : List TableMark) (speakers : List S) (dispatchers : ℕ) (left : List L)
     (log : List CommitRecord) : Type 0 where
   pub file : List ℕ
   pub is_file : IsKnown known file
-  pub goes_on : GoesOn Spoken base marks file speakers dispatchers left log
+  pub kept : List CommitRecord
+  pub has : HasCommits marks kept file
+  pub run : IsJournaledRun Spoken base kept speakers (dispatchers + 1) left log
 
 -- a journal's file, the known one where one is known, keeps these commits over the tables of the base, which the texts
 -- spell

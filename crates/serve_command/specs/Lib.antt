@@ -1,3 +1,4 @@
+pub mod KeptLogs
 pub mod BegunFiles
 pub mod Status
 pub mod Reading
@@ -6,5 +7,7 @@ pub mod Remade
 pub mod JournaledRun
 pub mod LeftFiles
 pub mod Journals
+pub mod Places
+pub mod RunEnds
 pub mod Sessions
 pub mod Served

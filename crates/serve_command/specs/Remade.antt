@@ -2,31 +2,34 @@
 use Rattle.std.specs.Prelude.{◌≡◌, ℕ, ◌+◌, List, [], ◌∷◌, ◌++◌, length, Option, Some}
 use Rattle.history.specs.Tokens.{TableRecord, TokenRecord, new_dispatchers}
 use Rattle.history_core.specs.Counts.{most_clients}
+use Rattle.journal.specs.Groups.{AreTorn, recovered}
 use Rattle.journal_opening.specs.Kept.{IsKnown}
-use Rattle.journal_opening.specs.Opens.{TellsStartFault}
-use Rattle.journal_opening.specs.declared.start.JournalStart.{JournalStart}
+use Rattle.journal_opening.specs.declared.fault.OpeningFault.{OpeningFault}
 use Rattle.row_store.specs.History.{CommitRecord}
 use Rattle.row_store.specs.Legal.{IsLegal}
 use Rattle.row_store.specs.Refusals.{refusal_of}
 use Rattle.row_store.specs.declared.refusal.Cause.{Cause}
 use Rattle.ssb_base.specs.Base.{Tables}
 use Rattle.ssb_journal.specs.Kept.{BeginsWithCommits}
+use Rattle.ssb_journal.specs.Opening.{IsKept}
 use Rattle.ssb_journal.specs.Replays.{IsReplayFault}
 use Rattle.ssb_journal.specs.declared.head.TableMark.{TableMark}
 use Rattle.ssb_journal.specs.declared.replaying.ReplayFault.{ReplayFault}
 use Rattle.ssb_journal.specs.declared.replaying.ReplayFault.TheVariants as replay
 use Rattle.ssb_serving.specs.Members.{AreStill, IsStill}
 use Rattle.ssb_serving.specs.RunFaults.{IsRunFault}
-use Rattle.serve_command.specs.Seated.{AreSeated}
+use Rattle.serve_command.specs.Seated.{AllHaveSeen, AreSeated}
+use Rattle.serve_command.specs.declared.remade.RemadeServer.{RemadeServer}
 use Rattle.serve_command.specs.declared.fault.ServeRefusal.{ServeRefusal}
 use Rattle.serve_command.specs.declared.fault.ServeRefusal.TheVariants as refusal
 use Rattle.serve_command.specs.declared.unserved.JournaledFault.{JournaledFault}
 use Rattle.serve_command.specs.declared.unserved.JournaledFault.TheVariants as fault
 
--- these are the clients, the reader of the log and the dispatchers that the table was made with; the reader has seen
--- these commits and no others, and no client has seen more
+-- these are the clients, as many as there can be, the reader of the log and the dispatchers that the table was made with;
+-- the reader has seen these commits and no others, and no client has seen more
 pub record AreAtLog (table : TableRecord) (commits : List CommitRecord) (clients : List TokenRecord)
     (reader : TokenRecord) (dispatchers : List TokenRecord) : Type 0 where
+  pub full : table.clients ≡ most_clients
   pub seated : AreSeated table commits clients
   pub seen : reader.seen ≡ commits
   pub made_with : List TokenRecord
@@ -34,6 +37,17 @@ pub record AreAtLog (table : TableRecord) (commits : List CommitRecord) (clients
   pub are_new : made_with ++ made_reader ∷ [] ≡ new_dispatchers table
   pub still : AreStill made_with dispatchers
   pub reader_still : IsStill made_reader reader
+
+-- a server whose log is the commits of a journal over tables of these marks, and the journal's file, as it was found: all
+-- who take part have seen these commits and no others
+pub record IsRemade {W D : Type 0} (seen : D → List ℕ) (marks : List TableMark) (remade : RemadeServer W D) : Type 0
+  where
+    pub at_log : AreAtLog remade.server remade.opened.kept.commits.items remade.seats.clients.items remade.seats.reader
+        remade.seats.dispatchers.items
+    pub shown : AllHaveSeen remade.opened.kept.commits.items remade.seats.clients.items
+    pub marks_are : remade.marks.now ≡ marks
+    pub kept : IsKept marks (recovered (seen remade.opened.found)) remade.opened.kept
+    pub torn : AreTorn (seen remade.opened.found) remade.opened.torn.items
 
 -- behind these commits, which are legal, the next one is refused with this action and cause; it has this number,
 -- counted from 1
@@ -69,23 +83,23 @@ pub record TellsOfCommits (base : Tables) (marks : List TableMark) (file : List 
   pub begins : BeginsWithCommits marks commits file
   pub tells : IsRemakeFault base commits why
 
--- why a server over the base did not get the commits of this file, as its journal is gone on with or begins: it was not
--- opened for as many clients as there can be and so many dispatchers; the file is no journal over the tables of these
--- marks, or none begins with it; or a commit is refused, the first that is. The others tell nothing of the file
-abbrev pub TellsOfFile : Tables → List TableMark → JournalStart → List ℕ → ℕ → List ℕ → ServeRefusal → Type 0
-TellsOfFile base marks start path dispatchers file refusal.TooManyClients = ⊥
-TellsOfFile base marks start path dispatchers file (refusal.Journal why) = TellsStartFault start path marks file why
-TellsOfFile base marks start path dispatchers file (refusal.NotServed (fault.NotRun why)) =
+-- why a server over the base did not get the commits of this file: it was not opened for as many clients as there can be
+-- and so many dispatchers; its journal cannot start so, as is told; or a commit is refused, the first that is. The others
+-- tell nothing of the file
+abbrev pub TellsOfFile : Tables → List TableMark → (List ℕ → OpeningFault → Type 0) → ℕ → List ℕ → ServeRefusal → Type 0
+TellsOfFile base marks TellsStart dispatchers file refusal.TooManyClients = ⊥
+TellsOfFile base marks TellsStart dispatchers file (refusal.Journal why) = TellsStart file why
+TellsOfFile base marks TellsStart dispatchers file (refusal.NotServed (fault.NotRun why)) =
     IsRunFault most_clients dispatchers why
-TellsOfFile base marks start path dispatchers file (refusal.NotServed (fault.Replay why)) =
+TellsOfFile base marks TellsStart dispatchers file (refusal.NotServed (fault.Replay why)) =
     TellsOfCommits base marks file (fault.Replay why)
-TellsOfFile base marks start path dispatchers file (refusal.NotServed fault.Disturbed) = Unit {0}
-TellsOfFile base marks start path dispatchers file (refusal.NotServed fault.Write) = ⊥
-TellsOfFile base marks start path dispatchers file (refusal.NotServed fault.OutOfMemory) = Unit {0}
+TellsOfFile base marks TellsStart dispatchers file (refusal.NotServed fault.Disturbed) = Unit {0}
+TellsOfFile base marks TellsStart dispatchers file (refusal.NotServed fault.Write) = ⊥
+TellsOfFile base marks TellsStart dispatchers file (refusal.NotServed fault.OutOfMemory) = Unit {0}
 
 -- the same of a journal's file, which is the known one, where one is known
-pub record IsNotRemade (base : Tables) (marks : List TableMark) (start : JournalStart) (path : List ℕ) (dispatchers : ℕ)
-    (known : Option (List ℕ)) (why : ServeRefusal) : Type 0 where
+pub record IsNotRemade (base : Tables) (marks : List TableMark) (TellsStart : List ℕ → OpeningFault → Type 0)
+    (dispatchers : ℕ) (known : Option (List ℕ)) (why : ServeRefusal) : Type 0 where
   pub file : List ℕ
   pub is_file : IsKnown known file
-  pub tells : TellsOfFile base marks start path dispatchers file why
+  pub tells : TellsOfFile base marks TellsStart dispatchers file why

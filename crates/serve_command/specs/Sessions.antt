@@ -14,23 +14,6 @@ use Rattle.stream_sessions.specs.declared.outcome.Served.{Served}
 use Rattle.stream_sessions.specs.declared.outcome.SessionError.{SessionError}
 use Rattle.stream_sessions.specs.declared.past.Past.{Past}
 
--- of what the client's input had left, the session of these terms read the beginning, and left something; it was served
--- to its end, or it broke, and the client and the known bytes of its output are as that says
-abbrev pub HasEnded : Result Served SessionError → Terms → ℕ → TokenRecord → TokenRecord → Option (List ℕ)
-    → Option (List ℕ) → Option (List ℕ) → Type 0
-HasEnded (Ok served) terms number old new unread before after =
-    (left : Option (List ℕ))
-    × InSession terms old new (λ first last. Serves served number first last unread left before after)
-HasEnded (Err error) terms number old new unread before after =
-    (left : Option (List ℕ))
-    × InSession terms old new (λ first last. Breaks error number first last unread left before after)
-
--- what went over its wire is a conversation, to its end or until it broke; no reply is held any more, but where writing
--- failed
-abbrev pub HasConversed : Result Served SessionError → Terms → ℕ → TokenRecord → TokenRecord → List Event → Type 0
-HasConversed outcome terms number old new events =
-    InSession terms old new (λ first last. ConversesTo outcome number first last events)
-
 -- a session over ends that were opened for it: how it ended, its terms, what its input had, the known bytes of its
 -- output before and after, and what went over its wire, the newest first
 pub record SessionRecord : Type 0 where
@@ -41,10 +24,26 @@ pub record SessionRecord : Type 0 where
   pub after : Option (List ℕ)
   pub events : List Event
 
+-- of what the client's input had left, a session that ended so read the beginning, and left something; it was served to
+-- its end, or it broke, and the client and the known bytes of its output are as that says
+abbrev pub HasEnded : Result Served SessionError → ℕ → TokenRecord → TokenRecord → SessionRecord → Type 0
+HasEnded (Ok served) number old new session =
+    (left : Option (List ℕ)) × InSession session.terms old new (λ first last.
+    Serves served number first last session.unread left session.before session.after)
+HasEnded (Err error) number old new session =
+    (left : Option (List ℕ)) × InSession session.terms old new (λ first last.
+    Breaks error number first last session.unread left session.before session.after)
+
+-- what went over its wire is a conversation, to its end or until it broke; no reply is held any more, but where writing
+-- failed
+abbrev pub HasConversed : ℕ → TokenRecord → TokenRecord → SessionRecord → Type 0
+HasConversed number old new session =
+    InSession session.terms old new (λ first last. ConversesTo session.outcome number first last session.events)
+
 -- it took the client of this number from old to new
 pub record IsSession (number : ℕ) (old new : TokenRecord) (session : SessionRecord) : Type 0 where
-  pub ended : HasEnded session.outcome session.terms number old new session.unread session.before session.after
-  pub conversed : HasConversed session.outcome session.terms number old new session.events
+  pub ended : HasEnded session.outcome number old new session
+  pub conversed : HasConversed number old new session
 
 -- sessions of one client, the newest first: each found the client as the one before it left it
 abbrev pub AreSessions : ℕ → TokenRecord → List SessionRecord → TokenRecord → Type 0
@@ -60,6 +59,14 @@ pub record IsBetween {F : Type 0} (remaining contents : F → Option (List ℕ))
   pub output : F
   pub unread_is : session.unread ≡ remaining input
   pub before_is : session.before ≡ contents output
+
+-- it read an input that had so much left, and wrote an output that had these known bytes before and after; and this came
+-- before the log
+pub record IsOver (past : Past) (unread before after : Option (List ℕ)) (session : SessionRecord) : Type 0 where
+  pub past_is : session.terms.past ≡ past
+  pub unread_is : session.unread ≡ unread
+  pub before_is : session.before ≡ before
+  pub after_is : session.after ≡ after
 
 -- the last of them was served to its end
 abbrev pub EndWell : List SessionRecord → Type 0
@@ -96,13 +103,10 @@ pub record HasLeft (Was : SessionRecord → Type 0) (number : ℕ) (old new : To
   pub took_are : left.took_refreshes ≡ true → TookRefreshes sessions
   pub ended : left.was_served ≡ true → EndWell sessions
 
--- a client was served over a reader and a writer: its session, of these terms, ended so, what went over the wire
--- between them is a conversation, and it told of so many commits at most
-pub record HasStreamed (number : ℕ) (old new : TokenRecord) (unread before after : Option (List ℕ))
-    (outcome : Result Served SessionError) (events : List Event) (told : ℕ) (terms : Terms) : Type 0 where
-  pub ended : HasEnded outcome terms number old new unread before after
-  pub conversed : HasConversed outcome terms number old new events
-  pub told_is : told ≡ most_covered events
+-- a client had just this session, which told of so many commits at most
+pub record HasStreamed (number : ℕ) (old new : TokenRecord) (session : SessionRecord) (told : ℕ) : Type 0 where
+  pub is : IsSession number old new session
+  pub told_is : told ≡ most_covered session.events
 
 -- a session was such a one, told of so many commits at most, took refreshes or did not, and what follows it: nothing does
 -- where it was served to its end over ends that are not opened again; or there was none, since its ends could not be

@@ -1,5 +1,5 @@
 -- The exit status of serving.
-use Rattle.std.specs.Prelude.{ℕ}
+use Rattle.std.specs.Prelude.{◌≡◌, ◌≢◌, ℕ}
 use Rattle.ssb_files.specs.Status.{job_status}
 use Rattle.ssb_files.specs.declared.job.JobFault.{JobFault}
 use Rattle.serve_command.specs.declared.fault.ServeRefusal.{ServeRefusal}
@@ -24,3 +24,8 @@ refusal_status (refusal.NotServed why) = journaled_status why
 
 abbrev pub serving_status : JobFault ServeRefusal → ℕ
 serving_status fault = job_status refusal_status fault
+
+-- a fault with this status is no wrong word, and with status 1 this is refused
+pub record TellsRefused (status : ℕ) (Refused : Type 0) : Type 0 where
+  pub refused : status ≡ 1 → Refused
+  pub words : status ≢ 2

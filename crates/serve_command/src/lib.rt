@@ -30,7 +30,7 @@
 //! own. A server without one goes on from no commits. That of [`run_source`] (`specs/JournaledRun.antt`): it opens a
 //! server of sixteen clients with a reader of its log, and has the clients make the journal's commits again, as its file
 //! is read part by part ([`remake_journal`]): the copies of the columns follow, and the log forgets what they have. Then
-//! it cuts off what a crash has torn, and runs the sessions ([`run_journaled`]); clients without a session rest. Nothing
+//! it cuts off what a crash has torn, and runs the sessions; clients without a session rest. Nothing
 //! is written before all commits are made again: the first that is refused is a fault. One session writes all new
 //! commits as a group, the others wait for it, and what comes meanwhile is the next group. No thread is the journal's
 //! own.
@@ -54,10 +54,12 @@
 
 mod acknowledging;
 mod attendant;
+mod bounds;
 mod ends;
 mod fault;
 mod journal_source;
 mod journaled_run;
+mod kept_log;
 mod left_file;
 mod opening;
 mod pipe_locks;
@@ -72,10 +74,12 @@ mod unserved;
 
 pub use acknowledging::Durable;
 pub use attendant::Attendant;
+pub use bounds::{ConfirmsOn, KeepsJournal, Machine, SpeaksApart};
 pub use ends::{EndPaths, report_no_pipes};
 pub use fault::{ServeFault, ServeRefusal};
 pub use journal_source::{JournalPlace, JournalSource, run_source};
 pub use journaled_run::JournaledRun;
+pub use kept_log::KeptLog;
 pub use left_file::{LeftFile, UnservedFile, UnservedSource};
 pub use pipe_locks::{PipeFault, PipeInUse, PipeLocks};
 pub use ready::ReadyLine;

@@ -1,17 +1,15 @@
 //! A server whose clients have made the commits of a journal again, as its file was read.
 
 ghost use Rattle.std.specs.Prelude.{◌≡◌, ◌⊎◌, ◌<◌, ◌^◌, ◌+◌, ◌∷◌, ◌++◌, [], All, IfOk, IfErr, OnOk, ℕ};
-ghost use Rattle.std.specs.Prelude.{true, false};
+ghost use Rattle.std.specs.Prelude.{true, false, length};
 ghost use Rattle.std.specs.Option.{is_some};
-ghost use Rattle.history_core.specs.Counts.{most_clients};
-ghost use Rattle.journal.specs.Groups.{recovered as recovered_groups, AreTorn};
 ghost use Rattle.journal_opening.specs.Kept.{IsKnown};
+ghost use Rattle.journal_opening.specs.Opens.{TellsStartFault};
 ghost use Rattle.journal_opening.specs.declared.start.JournalStart.TheVariants.{Begins};
 ghost use Rattle.ssb_clients.specs.Tickets.{IsOf, with_reader};
-ghost use Rattle.ssb_journal.specs.Opening.{IsKept};
 ghost use Rattle.ssb_serving.specs.Members.{AreStill, IsStill};
 ghost use Rattle.serve_command.specs.LeftFiles.{IsAsFound, IsLeftFile};
-ghost use Rattle.serve_command.specs.Remade.{AreAtLog, IsNotRemade, IsRemakeFault};
+ghost use Rattle.serve_command.specs.Remade.{AreAtLog, IsNotRemade, IsRemade, IsRemakeFault};
 ghost use Rattle.serve_command.specs.Seated.{AllHaveSeen};
 ghost use Rattle.serve_command.specs.declared.unserved.JournaledFault.TheVariants.{Disturbed, OutOfMemory};
 
@@ -42,7 +40,7 @@ pub(crate) struct Seats<W: Wait + Drop> {
 /// A server whose log is the commits of a journal, and the journal's file, which was read to its end and is as it was.
 /// All who take part have seen these commits and no others.
 #[derive(Drop)]
-pub struct RemadeServer<'a, W: Wait + Drop, D: Disk + Drop> {
+pub(crate) struct RemadeServer<'a, W: Wait + Drop, D: Disk + Drop> {
     pub(crate) server: Server<W>,
     pub(crate) seats: Seats<W>,
     pub(crate) marks: &'a [TableMark],
@@ -148,7 +146,8 @@ fn read_next<'a, W: Wait + Drop, R: Wait + Threads + Sync, U: UnreadDisk + Drop>
         × (next.0.reader.texts < 2 ^ 60)) }
     ensures end { IfOk result (λ next. next.1 ≡ false → next.0.reader.is_done ≡ true) }
     ensures fault { IfErr result (λ e. (dispatchers : ℕ) → IsNotRemade server.now.base journal.entry.reader.marks
-        journal.entry.start journal.entry.path.now dispatchers (U.holds journal.entry.reader.unread) e.0) }
+        (TellsStartFault journal.entry.start journal.entry.path.now journal.entry.reader.marks) dispatchers
+        (U.holds journal.entry.reader.unread) e.0) }
     ensures known_err { IfErr result (λ e. U.holds e.1 ≡ U.holds journal.entry.reader.unread) }
 {
     let (journal, found) = match journal.next(rt, alloc) {
@@ -185,7 +184,8 @@ fn read_all<'a, W: Wait + Drop, R: Wait + Threads + Sync, U: UnreadDisk + Drop>(
     ensures known { IfOk result (λ read. U.holds read.reader.unread ≡ U.holds journal.entry.reader.unread) }
     ensures end { IfOk result (λ read. read.reader.is_done ≡ true) }
     ensures fault { IfErr result (λ e. (dispatchers : ℕ) → IsNotRemade server.now.base journal.entry.reader.marks
-        journal.entry.start journal.entry.path.now dispatchers (U.holds journal.entry.reader.unread) e.0) }
+        (TellsStartFault journal.entry.start journal.entry.path.now journal.entry.reader.marks) dispatchers
+        (U.holds journal.entry.reader.unread) e.0) }
     ensures known_err { IfErr result (λ e. U.holds e.1 ≡ U.holds journal.entry.reader.unread) }
 {
     let mut journal = journal;
@@ -196,6 +196,32 @@ fn read_all<'a, W: Wait + Drop, R: Wait + Threads + Sync, U: UnreadDisk + Drop>(
             Err(refused) => return Err(refused),
         }
     }
+}
+
+// Lets each client see all that was made again, so many commits: no answer is older.
+fn show_seats<W: Wait + Drop>(
+    server: &Server<W>,
+    seats: Seats<W>,
+    count: u64,
+) -> Result<Seats<W>, JournaledFault>
+    requires at_log { AreAtLog server.now seats.reader.seen seats.clients.items seats.reader seats.dispatchers.items }
+    requires count { count ≡ length seats.reader.seen }
+    ensures at_log { IfOk result (λ shown. AreAtLog server.now seats.reader.seen shown.clients.items shown.reader
+        shown.dispatchers.items) }
+    ensures shown { IfOk result (λ shown. AllHaveSeen seats.reader.seen shown.clients.items) }
+    ensures fault { IfErr result (λ fault. fault ≡ Disturbed) }
+{
+    let Seats {
+        mut clients,
+        mut reader,
+        dispatchers,
+    } = seats;
+    show_all(server, &mut clients, &mut reader, count)?;
+    Ok(Seats {
+        clients,
+        reader,
+        dispatchers,
+    })
 }
 
 // The server behind a journal's file that was read to its end, once each client has seen all its commits: no answer is
@@ -210,27 +236,15 @@ fn behind_file<'a, W: Wait + Drop, U: UnreadDisk + Drop>(
     requires marks { journal.reader.marks ≡ marks.now }
     requires end { journal.reader.is_done ≡ true }
     ensures server { IfOk result (λ remade. remade.server ≡ server) }
-    ensures marks { IfOk result (λ remade. remade.marks.now ≡ marks.now) }
-    ensures at_log { IfOk result (λ remade. AreAtLog remade.server remade.opened.kept.commits.items
-        remade.seats.clients.items remade.seats.reader remade.seats.dispatchers.items) }
-    ensures shown { IfOk result (λ remade. AllHaveSeen remade.opened.kept.commits.items remade.seats.clients.items) }
-    ensures kept { IfOk result (λ remade. IsKept remade.marks.now (recovered_groups
-        (U.Whole.seen remade.opened.found)) remade.opened.kept) }
-    ensures torn { IfOk result (λ remade. AreTorn (U.Whole.seen remade.opened.found) remade.opened.torn.items) }
+    ensures remade { IfOk result (λ remade. IsRemade U.Whole.seen marks.now remade) }
     ensures known { IfOk result (λ remade. IsKnown (U.holds journal.entry.reader.unread) (U.Whole.seen remade.opened.found)) }
     ensures new { IfOk result (λ remade. journal.entry.start ≡ Begins → remade.opened.kept.commits.items ≡ []) }
     ensures fault { IfErr result (λ e. e.0 ≡ Disturbed) }
     ensures file { IfErr result (λ e. IsAsFound U.Whole.seen marks.now (U.holds journal.entry.reader.unread) e.1) }
 {
-    let mut seats = seats;
     let opened = journal.finish();
-    match show_all(
-        &server,
-        &mut seats.clients,
-        &mut seats.reader,
-        opened.kept.count,
-    ) {
-        Ok(()) => Ok(RemadeServer {
+    match show_seats(&server, seats, opened.kept.count) {
+        Ok(seats) => Ok(RemadeServer {
             server,
             seats,
             marks,
@@ -244,7 +258,7 @@ fn behind_file<'a, W: Wait + Drop, U: UnreadDisk + Drop>(
 /// clients make the commits of a journal's file again, as that is read: the log, and both copies of the columns, get
 /// them some after some, and they are forgotten. Of two faults the first in the file is told. Nothing is written. Of the
 /// file only its head was read. An `Err` hands the file back.
-pub fn remake_journal<'a, 'r, R, U>(
+pub(crate) fn remake_journal<'a, 'r, R, U>(
     rt: &'r R,
     alloc: Global,
     loaded: Loaded,
@@ -259,18 +273,11 @@ where
     requires none { journal.reader.commits ≡ [] }
     ensures base { IfOk result (λ remade. remade.server.base ≡ loaded) }
     ensures dispatchers { IfOk result (λ remade. remade.server.dispatchers ≡ dispatchers + 1) }
-    ensures clients { IfOk result (λ remade. remade.server.clients ≡ most_clients) }
-    ensures marks { IfOk result (λ remade. remade.marks.now ≡ marks.now) }
-    ensures at_log { IfOk result (λ remade. AreAtLog remade.server remade.opened.kept.commits.items
-        remade.seats.clients.items remade.seats.reader remade.seats.dispatchers.items) }
-    ensures shown { IfOk result (λ remade. AllHaveSeen remade.opened.kept.commits.items remade.seats.clients.items) }
-    ensures kept { IfOk result (λ remade. IsKept remade.marks.now (recovered_groups
-        (U.Whole.seen remade.opened.found)) remade.opened.kept) }
-    ensures torn { IfOk result (λ remade. AreTorn (U.Whole.seen remade.opened.found) remade.opened.torn.items) }
+    ensures remade { IfOk result (λ remade. IsRemade U.Whole.seen marks.now remade) }
     ensures known { IfOk result (λ remade. IsKnown (U.holds journal.entry.reader.unread) (U.Whole.seen remade.opened.found)) }
     ensures new { IfOk result (λ remade. journal.entry.start ≡ Begins → remade.opened.kept.commits.items ≡ []) }
-    ensures fault { IfErr result (λ unserved. IsNotRemade loaded marks.now journal.entry.start journal.entry.path.now
-        dispatchers (U.holds journal.entry.reader.unread) unserved.refusal) }
+    ensures fault { IfErr result (λ unserved. IsNotRemade loaded marks.now (TellsStartFault journal.entry.start
+        journal.entry.path.now marks.now) dispatchers (U.holds journal.entry.reader.unread) unserved.refusal) }
     // Nothing was written.
     ensures file { IfErr result (λ unserved. IsLeftFile (λ file. U.holds file ≡ U.holds journal.entry.reader.unread)
         (IsAsFound U.Whole.seen marks.now (U.holds journal.entry.reader.unread)) unserved.file) }

@@ -1,15 +1,16 @@
 //! The sessions of a server over the base of five tables, with a journal or without one.
 
-ghost use Rattle.std.specs.Prelude.{◌≡◌, ◌≢◌, ◌⊎◌, ◌≤◌, ℕ, List, All, None, Some, IfOk, IfErr, IfSome, IsNone, OnOk};
+ghost use Rattle.std.specs.Prelude.{◌≡◌, ◌≤◌, ℕ, List, All, None, IfOk, IfErr, IfSome, IsNone, MatchOption, OnOk};
 ghost use Rattle.std.specs.Prelude.{is_some, true, vec_len};
 ghost use Rattle.std.specs.Option.{option_map};
 ghost use Rattle.journal_opening.specs.Marks.{AreMarks, HaveChecksums};
-ghost use Rattle.journal_opening.specs.declared.start.JournalStart.TheVariants.{Begins};
-ghost use Rattle.serve_command.specs.Journals.{AreRefused, GoesOnFrom, RefusesFile};
+ghost use Rattle.serve_command.specs.Journals.{AreRefused};
+ghost use Rattle.serve_command.specs.Places.{IsNotOpened, IsToBegin, journal_at};
+ghost use Rattle.serve_command.specs.RunEnds.{AreTold, kept_in, log_of};
 ghost use Rattle.serve_command.specs.Served.{IsRunOver};
-ghost use Rattle.serve_command.specs.Status.{serving_status};
+ghost use Rattle.serve_command.specs.Status.{TellsRefused, serving_status};
 ghost use Rattle.ssb_files.specs.Loaded.{AreRefusedToServe, IsLoadedToServe};
-ghost use Rattle.ssb_files.specs.Standing.{MayNotStandToServe};
+ghost use Rattle.ssb_files.specs.Standing.{MayHaveTooManyGroups};
 ghost use Rattle.ssb_files.specs.Status.{status_of};
 ghost use Rattle.ssb_journal.specs.Counts.{IsLeft};
 ghost use Rattle.ssb_schema.specs.declared.table.Table.{Table};
@@ -18,18 +19,19 @@ ghost use Rattle.ssb_server.specs.Opening.{AreCounts};
 ghost use Rattle.ssb_text.specs.Layouts.{AreRows};
 ghost use Rattle.ssb_serving.specs.Streams.{IsStreamRun};
 
-use crate::acknowledging::Durable;
+use crate::bounds::{ConfirmsOn, KeepsJournal, Machine, SpeaksApart};
 use crate::fault::{ServeFault, ServeRefusal};
 use crate::journal_source::{JournalPlace, JournalSource, open_file, run_source};
 use crate::journaled_run::JournaledRun;
+use crate::kept_log::KeptLog;
 use crate::ready::{ReadyLine, tell_ready};
 use crate::unserved::JournaledFault;
-use confirmed_commits::Confirms;
-use journal::KeepsTorn;
-use journal_opening::{OpensJournal, table_marks};
+use journal::Disk;
+use journal_opening::table_marks;
 use row_store::Log;
 use server_figures::LiveFigures;
-use ssb_files::{Fault, LoadedFor, TableBytes, base_of, checked_base_of};
+use ssb_base::Base;
+use ssb_files::{Fault, LoadedFor, base_of, checked_base_of};
 use ssb_journal::TableMark;
 use ssb_questions::Question;
 use ssb_server::Loaded;
@@ -37,10 +39,9 @@ use ssb_serving::serve_streams;
 use ssb_text::TableFiles;
 use std::hash::RandomState;
 use std::io::{Print, Read};
-use std::sync::{Arc, Wait};
+use std::sync::Arc;
 use std::thread::Threads;
-use std::time::Clock;
-use stream_sessions::{Nothing, Past, Speaker, Speaks};
+use stream_sessions::{Nothing, Past, Speaker};
 
 /// How clients are served, whoever they are.
 #[derive(Drop)]
@@ -59,101 +60,107 @@ pub struct ServeSettings {
     pub figures: Arc<LiveFigures>,
 }
 
-/// A journal at the end of the sessions: its disk, how many commits of the log are on that, and whether it was written to
-/// the end.
+/// The log at the end of the sessions, and the journal that keeps it, where there is one.
 #[derive(Drop)]
-pub(crate) struct KeptLog<D: Drop> {
-    pub(crate) disk: D,
-    pub(crate) count: u64,
-    pub(crate) was_written: bool,
+pub(crate) enum RunEnd<D: Disk + Drop> {
+    /// Without a journal.
+    Alone(Log),
+    Kept(KeptLog<D>),
 }
 
-/// What sessions leave: what each speaker left, in their order, the log, and the journal, where there is one.
+impl<D: Disk + Drop> RunEnd<D> {
+    /// Whether all refreshes were taken, and the journal was written to its end, where there is one.
+    pub(crate) fn was_written(&self, took_refreshes: bool) -> bool
+        ensures took { result ≡ true → took_refreshes ≡ true }
+        ensures written { MatchOption (kept_in self.now) (result ≡ took_refreshes)
+            (λ kept. result ≡ true → kept.written ≡ true) }
+    {
+        match self {
+            RunEnd::Alone(_) => took_refreshes,
+            RunEnd::Kept(kept) => kept.was_written() && took_refreshes,
+        }
+    }
+
+    /// The journal's disk, where there is one.
+    pub(crate) fn into_disk(self) -> Option<D>
+        ensures same { result ≡ option_map (λ kept. kept.disk) (kept_in self) }
+        ensures left { IfSome (kept_in self) (λ kept. IsLeft (D.may_leave kept.disk) (D.seen kept.disk) kept.count
+            kept.log kept.written) }
+    {
+        match self {
+            RunEnd::Alone(_) => None,
+            RunEnd::Kept(kept) => Some(kept.into_disk()),
+        }
+    }
+}
+
+/// What sessions leave: what each speaker left, in their order, and the log.
 #[derive(Drop)]
-pub(crate) struct SessionsRun<L: Drop, D: Drop> {
+pub(crate) struct SessionsRun<L: Drop, D: Disk + Drop> {
     pub(crate) left: Vec<L>,
-    pub(crate) log: Log,
-    pub(crate) kept: Option<KeptLog<D>>,
+    pub(crate) end: RunEnd<D>,
 }
 
-// What a server takes of five tables, and what is told when it serves.
+// Where a server's journal is, and by what it knows the tables.
 #[derive(Drop)]
-struct LoadedTables {
-    loaded: Loaded,
-    ready: Option<ReadyLine>,
-}
-
-// The same, and by what its journal knows the tables.
-#[derive(Drop)]
-struct MarkedTables {
-    loaded: Loaded,
+struct MarkedPlace<'a, P, X> {
+    place: JournalPlace<'a, P, X>,
     marks: [TableMark; 5],
-    ready: Option<ReadyLine>,
 }
 
-// What is seen of a server: for how many clients it is told that it is ready, if it is, and the figures that it counts in.
+// The base that five tables spell, and the journal over them, where there is one.
 #[derive(Drop)]
-struct WatchedServer {
-    told: Option<usize>,
-    figures: Arc<LiveFigures>,
+struct ReadTables<'a, P, X> {
+    base: Base,
+    behind: Option<MarkedPlace<'a, P, X>>,
 }
 
-// What a server takes of the base that the tables spell, with the questions that stand from then on.
-fn load_tables<R: Threads + Sync + AllocGlobal, I: Read + Drop>(
+// Reads the tables. Where there is a journal, their texts are hashed, since it knows them by their checksums.
+fn read_tables<'a, R: Threads + Sync + AllocGlobal, I: Read + Drop, P, X>(
     rt: &R,
-    hashing: RandomState,
-    standing: &[Question],
     tables: TableFiles<I>,
-    watched: WatchedServer,
-) -> Result<LoadedTables, Fault>
-    ensures base { IfOk result (λ made. (texts : Table → List ℕ) → AreRows I.remaining tables texts
-        → IsLoadedToServe texts made.loaded) }
-    ensures refused { IfErr result (λ fault. status_of fault ≡ 1 → (texts : Table → List ℕ)
-        → AreRows I.remaining tables texts → AreRefusedToServe texts ⊎ MayNotStandToServe texts standing.now) }
-    ensures words { IfErr result (λ fault. status_of fault ≢ 2) }
-{
-    let WatchedServer { told, figures } = watched;
-    let base = base_of(rt, rt.alloc(), tables, LoadedFor::Serving)?;
-    let ready = ReadyLine::of(&base, told);
-    let base = Arc::new(rt.alloc(), base)?;
-    let loaded = Loaded::new(rt, rt.alloc(), hashing, &base, standing)?;
-    Ok(LoadedTables {
-        loaded: loaded.counted_in(figures),
-        ready,
-    })
-}
-
-// The same, and the marks of the tables, whose bytes are hashed.
-fn load_marked<R: Threads + Sync + AllocGlobal, I: Read + Drop>(
-    rt: &R,
-    hashing: RandomState,
-    standing: &[Question],
-    tables: TableFiles<I>,
-    bytes: &TableBytes,
-    watched: WatchedServer,
-) -> Result<MarkedTables, Fault>
-    ensures base { IfOk result (λ made. (texts : Table → List ℕ) → AreRows I.remaining tables texts
-        → IsLoadedToServe texts made.loaded) }
-    ensures marked { IfOk result (λ made. AreMarks made.loaded made.marks) }
-    ensures checked { IfOk result (λ made. (texts : Table → List ℕ) → AreRows I.remaining tables texts
-        → HaveChecksums texts made.marks) }
-    ensures refused { IfErr result (λ fault. status_of fault ≡ 1 → (texts : Table → List ℕ)
-        → AreRows I.remaining tables texts → AreRefusedToServe texts ⊎ MayNotStandToServe texts standing.now) }
-    ensures words { IfErr result (λ fault. status_of fault ≢ 2) }
+    place: Option<JournalPlace<'a, P, X>>,
+) -> Result<ReadTables<'a, P, X>, Fault>
+    ensures base { IfOk result (λ read. (texts : Table → List ℕ) → AreRows I.remaining tables texts
+        → IsLoadedToServe texts read.base) }
+    ensures marked { IfOk result (λ read. IfSome read.behind (λ behind. AreMarks read.base behind.marks)) }
+    ensures checked { IfOk result (λ read. IfSome read.behind (λ behind. (texts : Table → List ℕ)
+        → AreRows I.remaining tables texts → HaveChecksums texts behind.marks)) }
+    ensures place { IfOk result (λ read. option_map (λ behind. behind.place) read.behind ≡ place.entry) }
+    ensures refused { IfErr result (λ fault. TellsRefused (status_of fault) ((texts : Table → List ℕ)
+        → AreRows I.remaining tables texts → AreRefusedToServe texts)) }
 {
     let layout = tables.layout;
-    let WatchedServer { told, figures } = watched;
+    let place = match place {
+        Some(place) => place,
+        None => {
+            let base = base_of(rt, rt.alloc(), tables, LoadedFor::Serving)?;
+            return Ok(ReadTables { base, behind: None });
+        },
+    };
     let read = checked_base_of(rt, rt.alloc(), tables, LoadedFor::Serving)?;
     let (base, checksums) = read;
-    let marks = table_marks(&base, layout, bytes, &checksums);
-    let ready = ReadyLine::of(&base, told);
+    let marks = table_marks(&base, layout, place.bytes, &checksums);
+    Ok(ReadTables {
+        base,
+        behind: Some(MarkedPlace { place, marks }),
+    })
+}
+
+// What a server takes of a base, with the questions that stand from then on. It counts what it does in these figures.
+fn loaded_over<R: Threads + Sync + AllocGlobal>(
+    rt: &R,
+    base: Base,
+    hashing: RandomState,
+    standing: &[Question],
+    figures: Arc<LiveFigures>,
+) -> Result<Loaded, Fault>
+    ensures base { IfOk result (λ loaded. loaded ≡ base) }
+    ensures refused { IfErr result (λ fault. TellsRefused (status_of fault) (MayHaveTooManyGroups base standing.now)) }
+{
     let base = Arc::new(rt.alloc(), base)?;
     let loaded = Loaded::new(rt, rt.alloc(), hashing, &base, standing)?;
-    Ok(MarkedTables {
-        loaded: loaded.counted_in(figures),
-        marks,
-        ready,
-    })
+    Ok(loaded.counted_in(figures))
 }
 
 /// Whether the sessions of all speakers took refreshes.
@@ -169,21 +176,18 @@ pub(crate) fn all_took<S: Speaker>(all_left: &[S::Left]) -> bool
 }
 
 // Serves clients at once, one for each speaker, without a journal.
-fn run_without<R, S, D: Drop>(
+fn run_without<R: Machine, S: SpeaksApart<R, Nothing>, D: Disk + Drop>(
     rt: &R,
     dispatchers: u32,
     loaded: Loaded,
     speakers: Vec<S>,
 ) -> Result<SessionsRun<S::Left, D>, ServeFault>
-where
-    R: Threads + Sync + Wait + Clock + AllocGlobal,
-    S: Speaks<R, Nothing> + Drop + Send,
-    S::Left: Drop + Send,
-    ensures run { IfOk result (λ run. IsStreamRun S.spoken loaded speakers.items dispatchers run.left.items run.log) }
+    ensures run { IfOk result (λ run. IsStreamRun S.spoken loaded speakers.items dispatchers run.left.items
+        (log_of run.end)) }
     ensures left { IfOk result (λ run. vec_len run.left ≡ vec_len speakers) }
     ensures counts { OnOk result (AreCounts (vec_len speakers) dispatchers) }
-    ensures kept { IfOk result (λ run. run.kept ≡ None) }
-    ensures took { IfOk result (λ run. All (λ left. S.took left ≡ true) run.left.items) }
+    ensures told { IfOk result (λ run. AreTold S.told S.took run.left.items run.end) }
+    ensures alone { IfOk result (λ run. kept_in run.end ≡ None) }
     ensures failed { IfErr result (λ fault. serving_status fault ≡ 4) }
 {
     let run = match serve_streams(rt, rt.alloc(), loaded, speakers, dispatchers) {
@@ -191,7 +195,7 @@ where
         Err(fault) => {
             let fault = JournaledFault::NotRun(fault);
             return Err(ServeFault::Found(ServeRefusal::NotServed(fault)));
-        }
+        },
     };
     if !all_took::<S>(&run.left) {
         let fault = JournaledFault::Disturbed;
@@ -199,119 +203,36 @@ where
     }
     Ok(SessionsRun {
         left: run.left,
-        log: run.log,
-        kept: None,
-    })
-}
-
-// Serves clients at once, one for each speaker, behind the commits of the journal at this place.
-fn run_behind<R, P, X, S, E>(
-    rt: &R,
-    dispatchers: u32,
-    place: &JournalPlace<'_, P, X>,
-    tables: MarkedTables,
-    speakers: Vec<S>,
-    screen: &E,
-) -> Result<SessionsRun<S::Left, P::Disk>, ServeFault>
-where
-    R: Threads + Sync + Wait + Clock + AllocGlobal,
-    P: OpensJournal + KeepsTorn,
-    P::Disk: Send,
-    P::Kept: Drop,
-    X: Confirms<Durable<P::Disk>> + Sync,
-    X::Told: Send,
-    S: Speaks<R, X::Told> + Drop + Send,
-    S::Left: Drop + Send,
-    E: Print,
-    requires few { vec_len speakers ≤ most_clients }
-    ensures run { IfOk result (λ run. GoesOnFrom S.spoken (P.holds place.now.file.now) tables.loaded tables.marks
-        speakers.items dispatchers run.left.items run.log) }
-    ensures left { IfOk result (λ run. vec_len run.left ≡ vec_len speakers) }
-    ensures kept { IfOk result (λ run. IfSome run.kept (λ kept. IsLeft (P.Disk.may_leave kept.disk)
-        (P.Disk.seen kept.disk) kept.count run.log kept.was_written)) }
-    ensures told { IfOk result (λ run. IfSome run.kept (λ kept. All (λ left. S.told left ≤ kept.count)
-        run.left.items)) }
-    ensures journal { IfOk result (λ run. is_some run.kept ≡ true) }
-    ensures refused { IfErr result (λ fault. serving_status fault ≡ 1
-        → (P.is_taken place.now.file.now ⊎ P.is_missing place.now.file.now)
-        ⊎ RefusesFile tables.loaded tables.marks (P.starts place.now.file.now ≡ Begins)
-        (P.holds place.now.file.now)) }
-    ensures words { IfErr result (λ fault. serving_status fault ≢ 2) }
-{
-    let MarkedTables {
-        loaded,
-        marks,
-        ready,
-    } = tables;
-    let file = open_file(rt.alloc(), place.file)?;
-    let source = JournalSource {
-        loaded,
-        marks: &marks,
-        file,
-        ready,
-    };
-    let run = match run_source(rt, dispatchers, place, source, speakers, screen) {
-        Ok(run) => run,
-        Err(unserved) => return Err(ServeFault::Found(unserved.refusal)),
-    };
-    let JournaledRun {
-        left,
-        log,
-        disk,
-        count,
-        was_written,
-        torn: _,
-    } = run;
-    Ok(SessionsRun {
-        left,
-        log,
-        kept: Some(KeptLog {
-            disk,
-            count,
-            was_written,
-        }),
+        end: RunEnd::Alone(run.log),
     })
 }
 
 /// Serves clients at once, one for each speaker, over the base that the tables spell, behind the commits of the journal
 /// where there is one.
-pub(crate) fn run_over<R, P, X, I, S, E>(
+pub(crate) fn run_over<R, P, X, I, S>(
     rt: &R,
     settings: ServeSettings,
     tables: TableFiles<I>,
     place: Option<JournalPlace<'_, P, X>>,
     speakers: Vec<S>,
-    screen: &E,
+    screen: &impl Print,
 ) -> Result<SessionsRun<S::Left, P::Disk>, ServeFault>
 where
-    R: Threads + Sync + Wait + Clock + AllocGlobal,
-    P: OpensJournal + KeepsTorn,
-    P::Disk: Send,
-    P::Kept: Drop,
-    X: Confirms<Durable<P::Disk>> + Sync,
-    X::Told: Send,
+    R: Machine,
+    P: KeepsJournal,
+    X: ConfirmsOn<P::Disk>,
     I: Read + Drop,
-    S: Speaks<R, Nothing> + Speaks<R, X::Told> + Drop + Send,
-    S::Left: Drop + Send,
-    E: Print,
+    S: SpeaksApart<R, Nothing> + SpeaksApart<R, X::Told>,
     requires few { vec_len speakers ≤ most_clients }
-    ensures run { IfOk result (λ run. (texts : Table → List ℕ) → AreRows I.remaining tables texts
-        → IsRunOver S.spoken (option_map (λ place. P.holds place.file.now) place.entry) texts speakers.items
-        settings.dispatchers run.left.items run.log) }
+    ensures run { IfOk result (λ run. (texts : Table → List ℕ) → AreRows I.remaining tables texts → IsRunOver S.spoken
+        (journal_at P.holds place.entry) texts speakers.items settings.dispatchers run.left.items (log_of run.end)) }
     ensures left { IfOk result (λ run. vec_len run.left ≡ vec_len speakers) }
     ensures counts { OnOk result (IsNone place.entry → AreCounts (vec_len speakers) settings.dispatchers) }
-    ensures kept { IfOk result (λ run. IfSome run.kept (λ kept. IsLeft (P.Disk.may_leave kept.disk)
-        (P.Disk.seen kept.disk) kept.count run.log kept.was_written)) }
-    ensures told { IfOk result (λ run. IfSome run.kept (λ kept. All (λ left. S.told left ≤ kept.count)
-        run.left.items)) }
-    ensures journal { IfOk result (λ run. is_some run.kept ≡ is_some place.entry) }
-    ensures took { IfOk result (λ run. IsNone place.entry → All (λ left. S.took left ≡ true) run.left.items) }
-    ensures refused { IfErr result (λ fault. serving_status fault ≡ 1 → (texts : Table → List ℕ)
-        → AreRows I.remaining tables texts → AreRefused texts settings.standing.items
-        (option_map (λ place. P.holds place.file.now) place.entry)
-        (IfSome place.entry (λ place. P.is_taken place.file.now ⊎ P.is_missing place.file.now))
-        (IfSome place.entry (λ place. P.starts place.file.now ≡ Begins))) }
-    ensures words { IfErr result (λ fault. serving_status fault ≢ 2) }
+    ensures told { IfOk result (λ run. AreTold S.told S.took run.left.items run.end) }
+    ensures journal { IfOk result (λ run. is_some (kept_in run.end) ≡ is_some place.entry) }
+    ensures refused { IfErr result (λ fault. TellsRefused (serving_status fault) ((texts : Table → List ℕ)
+        → AreRows I.remaining tables texts → AreRefused texts settings.standing.items (journal_at P.holds place.entry)
+        (IsNotOpened P.is_taken P.is_missing place.entry) (IsToBegin P.starts place.entry))) }
 {
     let ServeSettings {
         hashing,
@@ -321,19 +242,38 @@ where
         tells_ready,
         figures,
     } = settings;
-    let watched = WatchedServer {
-        told: tells_ready.then_some(speakers.len()),
-        figures,
-    };
-    match place {
-        Some(place) => {
-            let tables = load_marked(rt, hashing, &standing, tables, place.bytes, watched)?;
-            run_behind(rt, dispatchers, &place, tables, speakers, screen)
-        },
+    let told = tells_ready.then_some(speakers.len());
+    let read = read_tables(rt, tables, place)?;
+    let ReadTables { base, behind } = read;
+    let ready = ReadyLine::of(&base, told);
+    let loaded = loaded_over(rt, base, hashing, &standing, figures)?;
+    let behind = match behind {
+        Some(behind) => behind,
         None => {
-            let served = load_tables(rt, hashing, &standing, tables, watched)?;
-            tell_ready(served.ready, screen);
-            run_without(rt, dispatchers, served.loaded, speakers)
+            tell_ready(ready, screen);
+            return run_without(rt, dispatchers, loaded, speakers);
         },
+    };
+    let MarkedPlace { place, marks } = behind;
+    let file = open_file(rt.alloc(), place.file)?;
+    let source = JournalSource {
+        loaded,
+        marks: &marks,
+        file,
+        ready,
+    };
+    match run_source(rt, dispatchers, &place, source, speakers, screen) {
+        Ok(run) => {
+            let JournaledRun {
+                left,
+                kept,
+                torn: _,
+            } = run;
+            Ok(SessionsRun {
+                left,
+                end: RunEnd::Kept(kept),
+            })
+        },
+        Err(unserved) => Err(ServeFault::Found(unserved.refusal)),
     }
 }

@@ -1,39 +1,30 @@
 //! The word `serve`: clients over the base of five table files, with a journal or without one.
 
-ghost use Rattle.std.specs.Prelude.{◌≡◌, ◌≢◌, ◌⊎◌, ◌↔◌, ◌<◌, ℕ, List, true, false, IfOk, IfErr, IfSome, IsErr, IsNone};
+ghost use Rattle.std.specs.Prelude.{◌≡◌, ◌≢◌, ◌⊎◌, ◌↔◌, ◌<◌, ◌∷◌, [], ℕ, List, false, IfOk, IfSome, IsErr, IsNone};
 ghost use Rattle.std.specs.Prelude.{All, IsOk, IsSome, IsTrue, MatchOption, None, is_some, vec_len};
 ghost use Rattle.std.specs.List.{list_all};
-ghost use Rattle.std.specs.Option.{option_map};
-ghost use Rattle.journal_opening.specs.declared.start.JournalStart.TheVariants.{Begins};
 ghost use Rattle.serve_command.specs.Journals.{AreOnDisk, AreRefused};
-ghost use Rattle.serve_command.specs.Served.{EndsAlone, HasEndedAlone, ServesClients};
-ghost use Rattle.serve_command.specs.Sessions.{IsBetween};
-ghost use Rattle.serve_command.specs.Status.{serving_status};
+ghost use Rattle.serve_command.specs.Places.{IsNotOpened, IsToBegin, journal_at};
+ghost use Rattle.serve_command.specs.Served.{EndsAlone, ServesClients};
+ghost use Rattle.serve_command.specs.Sessions.{IsBetween, IsOver};
 ghost use Rattle.ssb_schema.specs.declared.table.Table.{Table};
 ghost use Rattle.history_core.specs.Counts.{most_clients};
 ghost use Rattle.ssb_server.specs.Opening.{AreCounts};
-ghost use Rattle.stream_sessions.specs.Speaking.{terms_of};
 ghost use Rattle.ssb_text.specs.Layouts.{AreRows};
 
-use crate::acknowledging::Durable;
 use crate::attendant::Attendant;
+use crate::bounds::{ConfirmsOn, KeepsJournal, Machine};
 use crate::ends::EndPaths;
 use crate::fault::{ServeFault, ServeRefusal};
 use crate::journal_source::JournalPlace;
-use crate::runs::{KeptLog, ServeSettings, SessionsRun, all_took, run_over};
+use crate::runs::{ServeSettings, SessionsRun, all_took, run_over};
 use crate::speakers::{PathClient, PathLeft, StreamClient, StreamLeft, StreamSpeaker};
-use confirmed_commits::Confirms;
-use journal::KeepsTorn;
-use journal_opening::OpensJournal;
 use ssb_files::Fault;
 use ssb_text::TableFiles;
-use std::alloc::AllocError;
+use std::alloc::{AllocError, Global};
 use std::io;
 use std::io::{Print, Read, Write};
 use std::rt::Files;
-use std::sync::Wait;
-use std::thread::Threads;
-use std::time::Clock;
 use stream_sessions::{Past, Served, SessionError};
 
 /// How many clients a server has at most.
@@ -60,84 +51,27 @@ fn was_unasked(ended: &Result<Served, SessionError>) -> bool {
     }
 }
 
-// What the only client's session left, and the journal, where there is one.
-#[derive(Drop)]
-struct AloneLeft<J: Read + Drop, O: Write + Drop, D: Drop> {
-    one: StreamLeft<J, O>,
-    kept: Option<KeptLog<D>>,
-}
-
-// Serves one client alone.
-fn run_alone<R, P, X, I, J, O, E>(
-    rt: &R,
-    settings: ServeSettings,
-    tables: TableFiles<I>,
-    place: Option<JournalPlace<'_, P, X>>,
-    client: StreamClient<J, O>,
-    screen: &E,
-) -> Result<AloneLeft<J, O, P::Disk>, ServeFault>
-where
-    R: Threads + Sync + Wait + Clock + AllocGlobal,
-    P: OpensJournal + KeepsTorn,
-    P::Disk: Send,
-    P::Kept: Drop,
-    X: Confirms<Durable<P::Disk>> + Sync,
-    X::Told: Send,
-    I: Read + Drop,
-    J: Read + Drop + Send,
-    O: Write + Drop + Send,
-    E: Print,
-    ensures ended { IfOk result (λ left. (texts : Table → List ℕ) → AreRows I.remaining tables texts
-        → HasEndedAlone left.one.ended (terms_of left.one.took_refreshes settings.past)
-        (option_map (λ place. P.holds place.file.now) place.entry) texts settings.dispatchers
-        (J.remaining client.input) (O.contents client.output) (O.contents left.one.wire.output)
-        (λ log told. IfSome left.kept (λ kept. AreOnDisk (P.Disk.may_leave kept.disk)
-        (P.Disk.seen kept.disk) (IsTrue kept.was_written) log told))) }
-    ensures journal { IfOk result (λ left. is_some left.kept ≡ is_some place.entry) }
-    ensures took { IfOk result (λ left. IsNone place.entry → left.one.took_refreshes ≡ true) }
-    ensures refused { IfErr result (λ fault. serving_status fault ≡ 1 → (texts : Table → List ℕ)
-        → AreRows I.remaining tables texts → AreRefused texts settings.standing.items
-        (option_map (λ place. P.holds place.file.now) place.entry)
-        (IfSome place.entry (λ place. P.is_taken place.file.now ⊎ P.is_missing place.file.now))
-        (IfSome place.entry (λ place. P.starts place.file.now ≡ Begins))) }
-    ensures words { IfErr result (λ fault. serving_status fault ≢ 2) }
-{
-    let mut speakers = Vec::new(rt.alloc());
-    speakers.push(StreamSpeaker {
-        ends: client,
-        past: settings.past,
-    })?;
-    let run = run_over(rt, settings, tables, place, speakers, screen)?;
-    let SessionsRun {
-        mut left,
-        log: _,
-        kept,
-    } = run;
-    let Some(one) = left.pop() else {
-        unreachable!()
-    };
-    Ok(AloneLeft { one, kept })
-}
-
-// Whether all refreshes were taken, and the journal was written to its end, where there is one.
-fn was_written<D: Drop>(kept: &Option<KeptLog<D>>, took_refreshes: bool) -> bool
-    ensures took { result ≡ true → took_refreshes ≡ true }
-    ensures written { MatchOption kept.now (result ≡ took_refreshes) (λ kept. result ≡ true → kept.was_written ≡ true) }
-{
-    match kept {
-        Some(kept) => kept.was_written && took_refreshes,
-        None => took_refreshes,
+impl<O: Drop, D: Drop> StreamEnd<O, D> {
+    // Of a client that was not served.
+    fn unserved(status: u8) -> StreamEnd<O, D>
+        ensures { result ≡ record { status = status; output = None; disk = None; was_unasked = false } }
+    {
+        StreamEnd {
+            status,
+            output: None,
+            disk: None,
+            was_unasked: false,
+        }
     }
 }
 
-// The journal's disk, where there is one.
-fn disk_of<D: Drop>(kept: Option<KeptLog<D>>) -> Option<D>
-    ensures { result ≡ option_map (λ kept. kept.disk) kept }
+// The only speaker.
+fn only<S: Drop>(alloc: Global, speaker: S) -> Result<Vec<S>, AllocError>
+    ensures { IfOk result (λ speakers. speakers.items ≡ speaker ∷ []) }
 {
-    match kept {
-        Some(kept) => Some(kept.disk),
-        None => None,
-    }
+    let mut speakers = Vec::new(alloc);
+    speakers.push(speaker)?;
+    Ok(speakers)
 }
 
 // Tells that the journal could not be written, and gives the exit status.
@@ -182,53 +116,53 @@ pub fn serve_stream<R, P, X, I, J, O, E>(
     screen: &E,
 ) -> StreamEnd<O, P::Disk>
 where
-    R: Threads + Sync + Wait + Clock + AllocGlobal,
-    P: OpensJournal + KeepsTorn,
-    P::Disk: Send,
-    P::Kept: Drop,
-    X: Confirms<Durable<P::Disk>> + Sync,
-    X::Told: Send,
+    R: Machine,
+    P: KeepsJournal,
+    X: ConfirmsOn<P::Disk>,
     I: Read + Drop,
     J: Read + Drop + Send,
     O: Write + Drop + Send,
     E: Print,
     ensures ended { IfSome result.output (λ output. (texts : Table → List ℕ) → AreRows I.remaining tables texts
-        → EndsAlone result.status settings.past (option_map (λ place. P.holds place.file.now) place.entry) texts
-        settings.dispatchers (J.remaining client.input) (O.contents client.output) (O.contents output)
+        → EndsAlone result.status (journal_at P.holds place.entry) texts settings.dispatchers
+        (IsOver settings.past (J.remaining client.input) (O.contents client.output) (O.contents output))
         (λ log told. IfSome result.disk (λ disk. AreOnDisk (P.Disk.may_leave disk)
         (P.Disk.seen disk) (result.status ≡ 0) log told))) }
     ensures closed { result.status ≡ 0 → IsSome result.output }
     ensures disk { MatchOption result.output (result.disk ≡ None) (λ _. is_some result.disk ≡ is_some place.entry) }
     ensures refused { result.status ≡ 1 → (texts : Table → List ℕ) → AreRows I.remaining tables texts
-        → AreRefused texts settings.standing.items (option_map (λ place. P.holds place.file.now) place.entry)
-        (IfSome place.entry (λ place. P.is_taken place.file.now ⊎ P.is_missing place.file.now))
-        (IfSome place.entry (λ place. P.starts place.file.now ≡ Begins)) }
+        → AreRefused texts settings.standing.items (journal_at P.holds place.entry)
+        (IsNotOpened P.is_taken P.is_missing place.entry) (IsToBegin P.starts place.entry) }
     ensures others { result.status ≢ 0 → result.status ≢ 1 → result.status ≡ 4 }
 {
     let mut err = io::writer(screen);
-    match run_alone(rt, settings, tables, place, client, screen) {
-        Ok(left) => {
-            let AloneLeft { one, kept } = left;
-            let StreamLeft {
-                wire,
-                ended,
-                told: _,
-                took_refreshes,
-            } = one;
-            let written = was_written(&kept, took_refreshes);
-            StreamEnd {
-                status: tell_end(&ended, written, &mut err),
-                output: Some(wire.into_output()),
-                disk: disk_of(kept),
-                was_unasked: was_unasked(&ended),
-            }
-        }
-        Err(fault) => StreamEnd {
-            status: fault.tell(&mut err),
-            output: None,
-            disk: None,
-            was_unasked: false,
-        },
+    let speaker = StreamSpeaker {
+        ends: client,
+        past: settings.past,
+    };
+    let Ok(speakers) = only(rt.alloc(), speaker) else {
+        return StreamEnd::unserved(Fault::OutOfMemory.tell(&mut err));
+    };
+    let run = match run_over(rt, settings, tables, place, speakers, screen) {
+        Ok(run) => run,
+        Err(fault) => return StreamEnd::unserved(fault.tell(&mut err)),
+    };
+    let SessionsRun { mut left, end } = run;
+    let Some(one) = left.pop() else {
+        unreachable!()
+    };
+    let StreamLeft {
+        wire,
+        ended,
+        told: _,
+        took_refreshes,
+    } = one;
+    let written = end.was_written(took_refreshes);
+    StreamEnd {
+        status: tell_end(&ended, written, &mut err),
+        output: Some(wire.into_output()),
+        disk: end.into_disk(),
+        was_unasked: was_unasked(&ended),
     }
 }
 
@@ -320,20 +254,17 @@ pub fn serve_clients<R, F, P, X, I, E>(
     screen: &E,
 ) -> ClientsEnd<P::Disk>
 where
-    R: Threads + Sync + Wait + Clock + AllocGlobal,
+    R: Machine,
     F: Files + Sync + AllocGlobal,
     F::File: Send,
     F::Dir: Send,
-    P: OpensJournal + KeepsTorn,
-    P::Disk: Send,
-    P::Kept: Drop,
-    X: Confirms<Durable<P::Disk>> + Sync,
-    X::Told: Send,
+    P: KeepsJournal,
+    X: ConfirmsOn<P::Disk>,
     I: Read + Drop,
     E: Print + Sync,
     ensures served { (result.status ≡ 0) ⊎ IsSome result.disk → (texts : Table → List ℕ)
         → AreRows I.remaining tables texts
-        → ServesClients result.status (option_map (λ place. P.holds place.file.now) place.entry) texts
+        → ServesClients result.status (journal_at P.holds place.entry) texts
         (vec_len clients.entry.ends) settings.dispatchers (IsBetween F.File.remaining F.File.contents settings.past)
         (λ log told. IfSome result.disk (λ disk. AreOnDisk (P.Disk.may_leave disk)
         (P.Disk.seen disk) (result.status ≡ 0) log told)) }
@@ -341,9 +272,8 @@ where
     ensures counts { result.status ≡ 0 → IsNone place.entry
         → AreCounts (vec_len clients.entry.ends) settings.dispatchers }
     ensures refused { result.status ≡ 1 → (texts : Table → List ℕ) → AreRows I.remaining tables texts
-        → AreRefused texts settings.standing.items (option_map (λ place. P.holds place.file.now) place.entry)
-        (IfSome place.entry (λ place. P.is_taken place.file.now ⊎ P.is_missing place.file.now))
-        (IfSome place.entry (λ place. P.starts place.file.now ≡ Begins)) }
+        → AreRefused texts settings.standing.items (journal_at P.holds place.entry)
+        (IsNotOpened P.is_taken P.is_missing place.entry) (IsToBegin P.starts place.entry) }
     ensures many { (result.status ≡ 2) ↔ (most_clients < vec_len clients.entry.ends) }
     ensures others { result.status ≢ 0 → result.status ≢ 1 → result.status ≢ 2 → result.status ≡ 4 }
 {
@@ -362,11 +292,11 @@ where
     };
     match run_over(rt, settings, tables, place, speakers, screen) {
         Ok(run) => {
-            let SessionsRun { left, log: _, kept } = run;
-            let written = was_written(&kept, all_took::<PathClient<'_, F, E>>(&left));
+            let SessionsRun { left, end } = run;
+            let written = end.was_written(all_took::<PathClient<'_, F, E>>(&left));
             ClientsEnd {
                 status: tell_clients(written, were_served(&left), &mut err),
-                disk: disk_of(kept),
+                disk: end.into_disk(),
             }
         }
         Err(fault) => ClientsEnd {

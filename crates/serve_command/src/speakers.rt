@@ -1,11 +1,12 @@
 //! The clients: each opens its ends, is served its sessions, and tells what broke them.
 
-ghost use Rattle.std.specs.Prelude.{◌≡◌, ◌⊎◌, ℕ, false, true, IsOk, IsTrue};
+ghost use Rattle.std.specs.Prelude.{◌≡◌, ◌⊎◌, ℕ, Err, [], false, true, IsOk, IsTrue};
 ghost use Rattle.std.specs.Option.{is_some};
 ghost use Rattle.history.specs.Members.{number_of};
 ghost use Rattle.serve_command.specs.Sessions.{HasLeft, HasServedOnce, HasStreamed, IsBetween};
 ghost use Rattle.stream_sessions.specs.OneRequest.{AreAlike};
 ghost use Rattle.stream_sessions.specs.Speaking.{terms_of};
+ghost use Rattle.stream_sessions.specs.declared.outcome.SessionFault.TheVariants.{OutOfMemory};
 
 use crate::attendant::Attendant;
 use crate::ends::{EndFault, EndPaths, Ends};
@@ -29,6 +30,22 @@ const READ_AHEAD: usize = 65_536;
 // How many milliseconds both pipes of a client stay closed where its session broke, or nobody attends to it.
 const BETWEEN_SESSIONS: u64 = 50;
 
+/// What serves a client of this server, who is told of commits as that acknowledges them.
+pub(crate) fn service_of<'a, W: Follower + Drop, R: AllocGlobal, K>(
+    rt: &'a R,
+    acknowledger: &'a K,
+    server: &'a Server<W>,
+) -> Service<'a, W, R, K>
+    ensures { result.server.now ≡ server.now }
+{
+    Service {
+        rt,
+        alloc: rt.alloc(),
+        acknowledger,
+        server,
+    }
+}
+
 /// A client whose ends are open: what it is read from, and what it is answered to.
 #[derive(Drop)]
 pub struct StreamClient<I: Read + Drop, O: Write + Drop> {
@@ -46,64 +63,25 @@ pub struct StreamLeft<I: Read + Drop, O: Write + Drop> {
     pub took_refreshes: bool,
 }
 
-// Serves a session to a client whose ends are open, who is told of this past too, and closes the one that is read.
-fn speak_over<
-    W: Follower + Drop,
-    R: Wait,
-    I: Read + Drop,
-    O: Write + Drop,
-    Y: Evidence,
-    K: Acknowledges<Y>,
->(
-    service: &Service<'_, W, R, K>,
-    client: &mut Client<W>,
-    ends: StreamClient<I, O>,
-    past: Past,
-) -> (StreamLeft<I, O>, ToldWith<Y>)
-    requires table { client.old.table ≡ service.now.server.now }
-    requires quiet { is_some client.old.asked ≡ false }
-    ensures same { AreAlike client.old client.new }
-    ensures streamed { HasStreamed (number_of client.old.who) client.old client.new (I.remaining ends.input)
-        (O.contents ends.output) (O.contents result.0.wire.output) result.0.ended result.0.wire.events.list result.0.told
-        (terms_of result.0.took_refreshes past) }
-    ensures told { result.1 ≡ result.0.told }
-{
-    let StreamClient { input, output } = ends;
-    let took_refreshes = service.acknowledger.takes_refreshes();
-    let input = match BufReader::with_capacity(service.alloc, READ_AHEAD, input) {
-        Ok(input) => input,
-        Err(_) => {
-            let left = StreamLeft {
-                wire: ClosedWire::unused(output),
-                ended: Err(SessionError {
-                    answered: 0,
-                    fault: SessionFault::OutOfMemory,
-                }),
-                told: 0,
-                took_refreshes,
-            };
-            return (left, ToldWith::nothing());
+impl<I: Read + Drop, O: Write + Drop> StreamLeft<I, O> {
+    // Of a session that had not begun when memory ran out.
+    fn not_begun(output: O, took_refreshes: bool) -> StreamLeft<I, O>
+        ensures output { result.wire.output ≡ output }
+        ensures events { result.wire.events.list ≡ [] }
+        ensures ended { result.ended ≡ Err (record { answered = 0; fault = OutOfMemory }) }
+        ensures told { result.told ≡ 0 }
+        ensures took { result.took_refreshes ≡ took_refreshes }
+    {
+        StreamLeft {
+            wire: ClosedWire::unused(output),
+            ended: Err(SessionError {
+                answered: 0,
+                fault: SessionFault::OutOfMemory,
+            }),
+            told: 0,
+            took_refreshes,
         }
-    };
-    let terms = Terms {
-        takes_refreshes: took_refreshes,
-        past,
-    };
-    service.server.figures().session_begins();
-    let left: SessionLeft<I, O, Y> = serve_session(service, client, input, output, terms);
-    service.server.figures().session_ends(left.outcome.is_err());
-    let SessionLeft {
-        wire,
-        outcome: ended,
-    } = left;
-    let (wire, told_with) = wire.close();
-    let left = StreamLeft {
-        wire,
-        ended,
-        told: told_with.commits(),
-        took_refreshes,
-    };
-    (left, told_with)
+    }
 }
 
 /// A client whose ends are open, and what it is told of besides the log.
@@ -116,9 +94,14 @@ pub(crate) struct StreamSpeaker<I: Read + Drop, O: Write + Drop> {
 impl<I: Read + Drop, O: Write + Drop> Speaker for StreamSpeaker<I, O> {
     type Left = StreamLeft<I, O>;
 
-    ghost spoken = { λ speaker old new left. HasStreamed (number_of old.who) old new (I.remaining speaker.ends.input)
-        (O.contents speaker.ends.output) (O.contents left.wire.output) left.ended left.wire.events.list left.told
-        (terms_of left.took_refreshes speaker.past) };
+    ghost spoken = { λ speaker old new left. HasStreamed (number_of old.who) old new (record {
+      outcome = left.ended;
+      terms = terms_of left.took_refreshes speaker.past;
+      unread = I.remaining speaker.ends.input;
+      before = O.contents speaker.ends.output;
+      after = O.contents left.wire.output;
+      events = left.wire.events.list;
+    }) left.told };
 
     ghost told = { λ left. left.told };
 
@@ -134,6 +117,7 @@ impl<I: Read + Drop, O: Write + Drop> Speaker for StreamSpeaker<I, O> {
 }
 
 impl<R: Wait, I: Read + Drop, O: Write + Drop, Y: Evidence> Speaks<R, Y> for StreamSpeaker<I, O> {
+    // The end that is read is closed behind the session.
     fn speak<W: Follower + Drop, K: Acknowledges<Y>>(
         self,
         rt: &R,
@@ -142,14 +126,38 @@ impl<R: Wait, I: Read + Drop, O: Write + Drop, Y: Evidence> Speaks<R, Y> for Str
         server: &Server<W>,
         client: &mut Client<W>,
     ) -> (StreamLeft<I, O>, ToldWith<Y>) {
+        let StreamSpeaker { ends, past } = self;
+        let StreamClient { input, output } = ends;
+        let takes_refreshes = acknowledger.takes_refreshes();
+        let input = match BufReader::with_capacity(alloc, READ_AHEAD, input) {
+            Ok(input) => input,
+            Err(_) => {
+                let left = StreamLeft::not_begun(output, takes_refreshes);
+                return (left, ToldWith::nothing());
+            },
+        };
+        let terms = Terms {
+            takes_refreshes,
+            past,
+        };
         let service = Service {
             rt,
             alloc,
             acknowledger,
             server,
         };
-        let StreamSpeaker { ends, past } = self;
-        speak_over::<W, R, I, O, Y, K>(&service, client, ends, past)
+        server.figures().session_begins();
+        let left: SessionLeft<I, O, Y> = serve_session(&service, client, input, output, terms);
+        server.figures().session_ends(left.outcome.is_err());
+        let SessionLeft { wire, outcome } = left;
+        let (wire, told_with) = wire.close();
+        let left = StreamLeft {
+            wire,
+            ended: outcome,
+            told: told_with.commits(),
+            took_refreshes: takes_refreshes,
+        };
+        (left, told_with)
     }
 }
 
@@ -313,10 +321,18 @@ impl<'a, F: Files, E: Print> PathClient<'a, F, E> {
             attendant: self.attendant,
             number: self.number,
         };
-        let ends = StreamClient { input, output };
-        let (left, told_with) = speak_over::<W, R, AttendedInput<'a, F::File>, F::File, Y, K>(
-            service, client, ends, self.past,
-        );
+        let speaker = StreamSpeaker {
+            ends: StreamClient { input, output },
+            past: self.past,
+        };
+        let (left, told_with): (StreamLeft<AttendedInput<'a, F::File>, F::File>, ToldWith<Y>) =
+            speaker.speak(
+                service.rt,
+                service.alloc,
+                service.acknowledger,
+                service.server,
+                client,
+            );
         let StreamLeft {
             wire,
             ended,

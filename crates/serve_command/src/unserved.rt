@@ -43,12 +43,3 @@ impl<T: Drop> From<AllocFailed<T>> for JournaledFault {
         JournaledFault::OutOfMemory
     }
 }
-
-/// Why the sessions were not served, or not to their end, and the journal's disk.
-#[derive(Drop)]
-pub struct UnservedSessions<D: Drop, T: Drop> {
-    pub fault: JournaledFault,
-    pub disk: D,
-    /// The evidence that what a crash had torn was kept; without it the disk is as it was found.
-    pub torn: Option<T>,
-}

@@ -1,4 +1,4 @@
-use Rattle.std.proofs.Common.{Option, ap, subst, sym}
+use Rattle.std.proofs.Common.{Option, ap, refl, subst, sym}
 use Rattle.journal.specs.Groups.{recovered as recovered_groups}
 use Rattle.serve_command.specs.BegunFiles.{KeepsBegun}
 use Rattle.serve_command.specs.declared.journaled_run.BegunFile.{BegunFile}
@@ -19,18 +19,18 @@ returns-clause-kept g c =
     let kept = c.args.opened.kept in
     let found = c.args.opened.found in
     elim c.match-begin_file.branch [
-      | in-Ok w ↦ subst (KeepsBegun g.D.Disk.may_leave g.D.Disk.seen g.D.Disk.promised kept.count c.args.reader.seen) (ap (λ (p : BegunFile g.row.D.Denot × Option g.row.T-Kept.Denot). p.0) (sym w.file-is))
-          (keeps_first marks kept.commits.items c.args.reader.seen kept.count (g.D.Disk.seen w.in-Ok.journal)
-          c.first_of_log.ensures c.requires.seen kept.counted
+      | in-Ok w ↦ subst (KeepsBegun g.D.Disk.may_leave g.D.Disk.seen g.D.Disk.promised kept.count kept.commits.items) (ap (λ (p : BegunFile g.row.D.Denot × Option g.row.T-Kept.Denot). p.0) (sym w.file-is))
+          (keeps_first marks kept.commits.items kept.commits.items kept.count (g.D.Disk.seen w.in-Ok.journal)
+          c.first_of_log.ensures refl kept.counted
           (c.begun_journal_keeps.ensures marks kept (g.D.Disk.seen found) (g.D.Disk.seen w.in-Ok.journal) c.requires.kept
           w.in-Ok.ensures.same w.in-Ok.ensures.made))
-      | in-Err+else-kept w ↦ subst (KeepsBegun g.D.Disk.may_leave g.D.Disk.seen g.D.Disk.promised kept.count c.args.reader.seen)
+      | in-Err+else-kept w ↦ subst (KeepsBegun g.D.Disk.may_leave g.D.Disk.seen g.D.Disk.promised kept.count kept.commits.items)
           (ap (λ (p : BegunFile g.row.D.Denot × Option g.row.T-Kept.Denot). p.0) (sym w.file-is)) (
             kept_unwritten g.D.Disk.moment g.D.Disk.left_since g.D.Disk.may_leave g.D.Disk.seen found w.in-Err.disk marks kept
-                (recovered_groups (g.D.Disk.seen found)) c.args.reader.seen kept.count (g.met.D.Disk.counts_now w.in-Err.disk)
-                c.first_of_log.ensures c.requires.kept w.if-kept.false w.in-Err.ensures.any_moment_err c.requires.seen
+                (recovered_groups (g.D.Disk.seen found)) kept.commits.items kept.count (g.met.D.Disk.counts_now w.in-Err.disk)
+                c.first_of_log.ensures c.requires.kept w.if-kept.false w.in-Err.ensures.any_moment_err refl
                 kept.counted,
             kept_have_first marks kept (recovered_groups (g.D.Disk.seen found)) (g.D.Disk.promised w.in-Err.disk)
-                c.args.reader.seen c.requires.kept w.if-kept.false w.in-Err.ensures.promised_err c.requires.seen,
+                kept.commits.items c.requires.kept w.if-kept.false w.in-Err.ensures.promised_err refl,
           )
     ]

@@ -1,36 +1,31 @@
-use Rattle.std.proofs.Common.{◌≡◌, ◌∙◌, arith, length, subst, sym}
-use Rattle.std.proofs.lemmas.List.{take_at}
+use Rattle.std.proofs.Common.{◌≡◌, ◌∙◌, refl, subst, sym}
 use Rattle.journal.specs.Groups.{recovered}
 use Rattle.ssb_journal.specs.Opening.{IsKept}
 use Rattle.serve_command.proofs.JournalLaws.{has_kept}
-use Rattle.serve_command.proofs.RemadeLaws.{reader_at, shown_at}
+use Rattle.serve_command.proofs.RemadeLaws.{at_same_log}
 use Rattle.serve_command.specs.LeftFiles.{IsFoundWith}
+use Rattle.serve_command.specs.Remade.{AreAtLog}
 use Rattle.serve_command.specs.Seated.{AllHaveSeen}
 use Rattle.serve_command.proofs.remade.behind_file.Goals as goal
 
-pub show_all-requires-clause-reader : goal.show_all-requires-clause-reader
-show_all-requires-clause-reader g c = reader_at _ _ _ _ _ c.requires.at_log
+pub show_seats-requires-clause-at_log : goal.show_seats-requires-clause-at_log
+show_seats-requires-clause-at_log g c =
+    at_same_log _ _ _ _ _ _ (sym c.requires.at_log.seen) c.requires.at_log
 
-pub returns-in-Ok-clause-at_log : goal.returns-in-Ok-clause-at_log
-returns-in-Ok-clause-at_log g c =
-    let seats = c.args.seats in
-    let many : length c.show_all.new.clients ≡ seats.clients.len =
-    omega (arith, c.in-Ok.ensures.clients.count, c.requires.at_log.seated.count, seats.clients.ok.0) in
-    rw (take_at c.show_all.new.clients _ seats.clients.len many)
-    (shown_at c.args.server c.args.journal.reader.commits c.finish-opened.result.kept.commits.items seats.clients.items
-    c.show_all.new.clients seats.reader c.show_all.new.reader seats.dispatchers.items c.requires.at_log
-    c.finish-opened.ensures.commits c.in-Ok.ensures.clients c.in-Ok.ensures.same
-    c.in-Ok.ensures.reader)
-
-pub returns-in-Ok-clause-shown : goal.returns-in-Ok-clause-shown
-returns-in-Ok-clause-shown g c =
-    let seats = c.args.seats in
-    let many : length c.show_all.new.clients ≡ seats.clients.len =
-    omega (arith, c.in-Ok.ensures.clients.count, c.requires.at_log.seated.count, seats.clients.ok.0) in
-    let seen : seats.reader.seen ≡ c.finish-opened.result.kept.commits.items =
-    c.requires.at_log.seen ∙ sym c.finish-opened.ensures.commits in
-    rw (take_at c.show_all.new.clients _ seats.clients.len many)
-    (subst (λ l. AllHaveSeen l c.show_all.new.clients) seen c.in-Ok.ensures.seen)
+pub returns-in-Ok-clause-remade : goal.returns-in-Ok-clause-remade
+returns-in-Ok-clause-remade g c =
+    let opened = c.finish-opened.result in
+    let seats = c.in-Ok.seats in
+    let seen : c.args.seats.reader.seen ≡ opened.kept.commits.items =
+    c.requires.at_log.seen ∙ sym c.finish-opened.ensures.commits in record {
+      at_log = subst (λ l. AreAtLog c.args.server l seats.clients.items seats.reader seats.dispatchers.items) seen
+          c.in-Ok.ensures.at_log;
+      shown = subst (λ l. AllHaveSeen l seats.clients.items) seen c.in-Ok.ensures.shown;
+      marks_are = refl;
+      kept = subst (λ m. IsKept m (recovered (g.U.Whole.Disk.seen opened.found)) opened.kept) c.requires.marks
+          c.finish-opened.ensures.kept;
+      torn = c.finish-opened.ensures.torn;
+    }
 
 pub returns-clause-file : goal.returns-clause-file
 returns-clause-file g c =

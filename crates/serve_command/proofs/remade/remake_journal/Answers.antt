@@ -1,5 +1,5 @@
-use Rattle.std.proofs.Common.{◌∙◌, ap, subst, sym, rules}
-use Rattle.history.specs.Tokens.{new_clients, new_dispatchers}
+use Rattle.std.proofs.Common.{◌≡◌, ◌∙◌, ap, subst, sym, rules}
+use Rattle.history.specs.Tokens.{TableRecord, new_clients, new_dispatchers}
 use Rattle.serve_command.proofs.BeginningLaws.{run_fault}
 use Rattle.serve_command.proofs.RemadeLaws.{at_same_log, new_at_log, not_opened, tells_nothing}
 use Rattle.serve_command.specs.LeftFiles.{IsAsFound}
@@ -15,7 +15,7 @@ read_all-requires g c lifetimes =
     let server = c.with_its_reader-server.ensures.server in (
       search rules,
       at_same_log _ _ c.args.journal.reader.commits _ _ _ (sym c.requires.none)
-          (new_at_log _ _ _ _
+          (new_at_log _ _ _ _ (subst (λ (s : TableRecord). s.clients ≡ 16) (sym server) c.in-Ok.ensures.counts.0)
           (c.with_its_reader-server.ensures.clients ∙ (c.in-Ok.ensures.clients ∙ ap new_clients (sym server)))
           (c.with_its_reader-server.ensures.dispatchers
           ∙ (c.in-Ok.ensures.dispatchers ∙ ap new_dispatchers (sym server)))),

@@ -11,5 +11,5 @@ returns-in-Err-clause-served g c = inr (λ is. absurd cc, refl, refl)
 
 pub returns-clause-served : goal.returns-clause-served
 returns-clause-served g c =
-    served_once g.F.File.Read.remaining g.F.File.Write.contents c.in-Ok.ends.input c.in-Ok.ends.output _ _ _ _ _ _ c.args.self.now.past _
-    c.speak_over-left.ensures.streamed c.end_of-end.ensures.last
+    served_once g.F.File.Read.remaining g.F.File.Write.contents c.in-Ok.ends.input c.in-Ok.ends.output _ _ _ _
+    c.args.self.now.past _ c.speak-left.ensures.spoken c.end_of-end.ensures.last refl refl refl
