@@ -14,6 +14,18 @@ HERE = pathlib.Path(__file__).resolve().parent
 LIVE = pathlib.Path(os.environ.get("SSB_LIVE", HERE.parent / "crates/ssb_live/out/ssb_live")).absolute()
 WORK = pathlib.Path(os.environ.get("WORK", pathlib.Path(tempfile.gettempdir()) / "ssb_bench")).absolute()
 TABLES = "customer supplier part date lineorder".split()
+COLUMNS = {
+    "customer": "C_CUSTKEY C_NAME C_ADDRESS C_CITY C_NATION C_REGION C_PHONE C_MKTSEGMENT".split(),
+    "supplier": "S_SUPPKEY S_NAME S_ADDRESS S_CITY S_NATION S_REGION S_PHONE".split(),
+    "part": "P_PARTKEY P_NAME P_MFGR P_CATEGORY P_BRAND1 P_COLOR P_TYPE P_SIZE P_CONTAINER".split(),
+    "date": "D_DATEKEY D_DATE D_DAYOFWEEK D_MONTH D_YEAR D_YEARMONTHNUM D_YEARMONTH D_DAYNUMINWEEK D_DAYNUMINMONTH "
+            "D_DAYNUMINYEAR D_MONTHNUMINYEAR D_WEEKNUMINYEAR D_SELLINGSEASON D_LASTDAYINWEEKFL D_LASTDAYINMONTHFL "
+            "D_HOLIDAYFL D_WEEKDAYFL".split(),
+    "lineorder": "LO_ORDERKEY LO_LINENUMBER LO_CUSTKEY LO_PARTKEY LO_SUPPKEY LO_ORDERDATE LO_ORDERPRIORITY "
+                 "LO_SHIPPRIORITY LO_QUANTITY LO_EXTENDEDPRICE LO_ORDTOTALPRICE LO_DISCOUNT LO_REVENUE LO_SUPPLYCOST "
+                 "LO_TAX LO_COMMITDATE LO_SHIPMODE".split(),
+}
+DATES = {"D_DATEKEY", "LO_ORDERDATE", "LO_COMMITDATE"}
 NAMES = "Q1.1 Q1.2 Q1.3 Q2.1 Q2.2 Q2.3 Q3.1 Q3.2 Q3.3 Q3.4 Q4.1 Q4.2 Q4.3".split()
 
 

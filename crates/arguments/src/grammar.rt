@@ -56,7 +56,16 @@ const DELIMITER: Word = Word {
 // Whether heads stand above the rows of the tables.
 const HEADS: Word = Word {
     name: "heads",
-    help: "A line of heads, like the names of the columns, stands above the rows of each table",
+    help: "A line of heads, the names of the columns in any order, stands above the rows of each table",
+    without: &["data"],
+    ..FLAG
+};
+
+// Whether the tables are CSV.
+const CSV: Word = Word {
+    name: "csv",
+    help: "The tables are NAME.csv, as other programs write them: below a line of column names, in any order, fields \
+           parted by commas, which may stand in quotes",
     without: &["data"],
     ..FLAG
 };
@@ -66,13 +75,13 @@ const STORE: Word = Word {
     name: "store",
     value_names: &["FOLDER"],
     help: "A store, in the place of the tables and the journal",
-    beside: &["data", "delimiter", "heads"],
+    beside: &["data", "delimiter", "heads", "csv"],
     ..TEXT
 };
 
 // The same, where a question may be explained instead.
 const QUERIED_STORE: Word = Word {
-    beside: &["data", "delimiter", "heads", "explain"],
+    beside: &["data", "delimiter", "heads", "csv", "explain"],
     ..STORE
 };
 
@@ -234,10 +243,11 @@ const CONSTANTS: Word = Word {
 };
 
 // The words of `query`, where it answers a question.
-static QUERY_WORDS: [Word; 18] = [
+static QUERY_WORDS: [Word; 19] = [
     QUERIED_DATA,
     DELIMITER,
     HEADS,
+    CSV,
     QUERIED_STORE,
     AT,
     ALL,
@@ -256,10 +266,11 @@ static QUERY_WORDS: [Word; 18] = [
 ];
 
 // The same, where it explains one: behind `sql` stands a system, and a name is wanted beside it.
-static EXPLAIN_WORDS: [Word; 18] = [
+static EXPLAIN_WORDS: [Word; 19] = [
     QUERIED_DATA,
     DELIMITER,
     HEADS,
+    CSV,
     QUERIED_STORE,
     AT,
     ALL,
@@ -303,10 +314,11 @@ const SCRIPTS: Word = Word {
     ..TEXT
 };
 
-static RUN_WORDS: [Word; 13] = [
+static RUN_WORDS: [Word; 14] = [
     DATA_OR_STORE,
     DELIMITER,
     HEADS,
+    CSV,
     STORE,
     AT,
     DISPATCHERS,
@@ -378,14 +390,15 @@ const METRICS: Word = Word {
 
 // A store in the place of the tables and of a journal that is named.
 const STORE_OR_JOURNAL: Word = Word {
-    beside: &["data", "delimiter", "heads", "journal"],
+    beside: &["data", "delimiter", "heads", "csv", "journal"],
     ..STORE
 };
 
-static SERVE_WORDS: [Word; 16] = [
+static SERVE_WORDS: [Word; 17] = [
     DATA_OR_STORE,
     DELIMITER,
     HEADS,
+    CSV,
     STORE_OR_JOURNAL,
     SEGMENT,
     DISPATCHERS,
@@ -411,10 +424,11 @@ const AUDITED_TRACE: Word = Word {
     ..TEXT
 };
 
-static AUDIT_WORDS: [Word; 9] = [
+static AUDIT_WORDS: [Word; 10] = [
     DATA_OR_STORE,
     DELIMITER,
     HEADS,
+    CSV,
     STORE,
     AT,
     QUIET,
@@ -440,10 +454,11 @@ const TO_FOLDER: Word = Word {
     ..TEXT
 };
 
-static EXPORT_WORDS: [Word; 10] = [
+static EXPORT_WORDS: [Word; 11] = [
     DATA_OR_STORE,
     DELIMITER,
     HEADS,
+    CSV,
     STORE_OR_JOURNAL,
     AT,
     READ_JOURNAL,
@@ -455,7 +470,7 @@ static EXPORT_WORDS: [Word; 10] = [
 
 // A store in the place of the tables, of a journal and of a stream of its groups.
 const CHANGED_STORE: Word = Word {
-    beside: &["data", "delimiter", "heads", "journal", "feed"],
+    beside: &["data", "delimiter", "heads", "csv", "journal", "feed"],
     ..STORE
 };
 
@@ -496,10 +511,11 @@ const LINES_FORMAT: Word = Word {
     ..FORMAT
 };
 
-static CHANGES_WORDS: [Word; 12] = [
+static CHANGES_WORDS: [Word; 13] = [
     DATA_OR_STORE,
     DELIMITER,
     HEADS,
+    CSV,
     CHANGED_STORE,
     CHANGED_JOURNAL,
     FEED,
@@ -539,13 +555,14 @@ static SHIP_WORDS: [Word; 6] = [
     NO_HINTS,
 ];
 
-static STORE_WORDS: [Word; 7] = [
+static STORE_WORDS: [Word; 8] = [
     Word {
         is_required: true,
         ..DATA
     },
     DELIMITER,
     HEADS,
+    CSV,
     Word {
         name: "store",
         value_names: &["FOLDER"],

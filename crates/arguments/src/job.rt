@@ -11,7 +11,7 @@ use crate::store::{
 use clap::ArgMatches;
 use clap::error::ErrorKind;
 use ssb_explain::{ReadLines, SqlTarget, System};
-use ssb_text::{Delimiter, TableLayout};
+use ssb_text::{Delimiter, TableForm, TableLayout};
 use std::alloc::{AllocError, Global};
 
 // How many columns a line of bars may take where nothing says so.
@@ -293,10 +293,13 @@ fn check_width(alloc: Global, matches: &ArgMatches<'_>) -> Result<(), Notice> {
     Err(Notice::from(fault))
 }
 
-// What parts the fields of the tables: a bar, or what the words have.
+// What parts the fields of the tables: a bar, of CSV a comma, or what the words have.
 fn delimiter_of(alloc: Global, matches: &ArgMatches<'_>) -> Result<Delimiter, Notice> {
     let Some(word) = matches.get_str("delimiter") else {
-        return Ok(Delimiter::bar());
+        return Ok(match matches.get_flag("csv") {
+            true => Delimiter::comma(),
+            false => Delimiter::bar(),
+        });
     };
     match Delimiter::of_word(word) {
         Some(delimiter) => Ok(delimiter),
@@ -311,11 +314,20 @@ fn delimiter_of(alloc: Global, matches: &ArgMatches<'_>) -> Result<Delimiter, No
     }
 }
 
+// What the lines of the tables' files are.
+fn form_of(matches: &ArgMatches<'_>) -> TableForm {
+    match (matches.get_flag("csv"), matches.get_flag("heads")) {
+        (true, _) => TableForm::Csv,
+        (false, true) => TableForm::Headed,
+        (false, false) => TableForm::Rows,
+    }
+}
+
 /// How the tables are laid out.
 pub(crate) fn layout_of(alloc: Global, matches: &ArgMatches<'_>) -> Result<TableLayout, Notice> {
     Ok(TableLayout {
         delimiter: delimiter_of(alloc, matches)?,
-        has_heads: matches.get_flag("heads"),
+        form: form_of(matches),
     })
 }
 

@@ -189,7 +189,7 @@ fn source_paths<F: Files + AllocGlobal>(
     source: SourceWord<'_>,
 ) -> Result<Vec<UsedPath>, Fault> {
     match source {
-        SourceWord::Files(FilesWord { data, layout: _ }) => find_tables(files, data),
+        SourceWord::Files(FilesWord { data, layout }) => find_tables(files, data, layout.form),
         SourceWord::Store(store) => {
             let mut paths = Vec::new(files.alloc());
             push_store(files, store.folder, &mut paths)?;
@@ -291,7 +291,7 @@ where
 {
     match words.source {
         SourceWord::Files(FilesWord { data, layout }) => {
-            let tables = open_tables(files, data)?;
+            let tables = open_tables(files, data, layout.form)?;
             let opened = open_run(rt, files, words)?;
             let screen = screen_of(rt, words.quiet, terminal);
             let tables = TableFiles {
@@ -337,7 +337,7 @@ fn check_server_paths<F: Files + AllocGlobal>(
     files: &F,
     words: &ServeWords<'_>,
 ) -> Result<(), Fault> {
-    let mut paths = find_tables(files, words.data)?;
+    let mut paths = find_tables(files, words.data, words.layout.form)?;
     push_standing(files, words.standing, &mut paths)?;
     for ends in words.clients.chunks_exact(2) {
         paths.push(UsedPath::find(files, ends[0], PathUse::Input)?)?;
@@ -401,7 +401,7 @@ fn open_server<R: RandomSource, F: Files + AllocGlobal>(
     words: &ServeWords<'_>,
     store: Option<Arc<ServedStore>>,
 ) -> Result<OpenedServer<F::File>, ServeFault> {
-    let tables = open_tables(files, words.data)?;
+    let tables = open_tables(files, words.data, words.layout.form)?;
     let source = open_standing(files, words.standing)?;
     let clients = clients_of(files.alloc(), words.clients.as_slice())?;
     let standing = if clients.len() <= MOST_CLIENTS {

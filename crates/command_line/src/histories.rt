@@ -41,7 +41,7 @@ where
 {
     match words.source {
         SourceWord::Files(FilesWord { data, layout }) => {
-            let tables = open_tables(files, data)?;
+            let tables = open_tables(files, data, layout.form)?;
             let trace = open_file(files, words.trace)?;
             let hashing = hashing_of(rt)?;
             let screen = screen_of(rt, words.quiet, terminal);
@@ -75,7 +75,7 @@ where
     F::File: JournalFile,
 {
     let (FilesWord { data, layout }, path) = kept;
-    let tables = open_tables(files, data)?;
+    let tables = open_tables(files, data, layout.form)?;
     if let Err(fault) = named_journal::check_is_there(files, path) {
         return Ok(ExportFault::Found(ExportRefusal::Journal(fault)).tell(err));
     }
@@ -152,7 +152,7 @@ where
     F::File: JournalFile,
 {
     let (FilesWord { data, layout }, path) = kept;
-    let tables = open_tables(files, data)?;
+    let tables = open_tables(files, data, layout.form)?;
     if let Err(fault) = named_journal::check_is_there(files, path) {
         return Ok(ChangesFault::Found(ChangesRefusal::Journal(fault)).tell(err));
     }
@@ -185,7 +185,7 @@ where
     R: RandomSource + Threads + Sync + AllocGlobal,
 {
     let (FilesWord { data, layout }, input) = fed;
-    let tables = open_tables(files, data)?;
+    let tables = open_tables(files, data, layout.form)?;
     let hashing = hashing_of(rt)?;
     let bytes = TableBytes::new();
     let tables = TableFiles {

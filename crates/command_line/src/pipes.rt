@@ -1,30 +1,49 @@
 //! The pipes that a job waits for: what is told of them, and their locks.
 
-use arguments::{ExportedWord, Job};
+use arguments::{ExportedWord, FilesWord, Job};
 use journal_file::JournalFile;
 use serve_command::{EndPaths, MOST_CLIENTS, PipeFault, PipeLocks};
 use ssb_files::{Fault, report_table_pipes};
+use ssb_text::{TableForm, TableLayout};
 use std::io::{self, Print, Write};
 use std::rt::Files;
 
+// The folder of tables, and what their files are.
+#[derive(Clone, Copy)]
+struct Folder<'a> {
+    path: &'a str,
+    form: TableForm,
+}
+
+// The tables that words name.
+fn named<'a>(path: &'a str, layout: TableLayout) -> Folder<'a> {
+    let form = layout.form;
+    Folder { path, form }
+}
+
+// The same of files.
+fn named_by<'a>(files: FilesWord<'a>) -> Folder<'a> {
+    named(files.data, files.layout)
+}
+
 // The folder whose tables a job loads, unless it shows nothing meanwhile.
-fn loaded_folder<'a>(job: &Job<'a>) -> Option<&'a str> {
+fn loaded_folder<'a>(job: &Job<'a>) -> Option<Folder<'a>> {
     let (folder, quiet) = match job {
         Job::Script | Job::Ship(_) | Job::Checkpoint(_) => return None,
-        Job::Query(words) => (words.source.files()?.data, words.quiet),
-        Job::Explain(words) => (words.data?, words.quiet),
-        Job::Run(words) => (words.source.files()?.data, words.quiet),
-        Job::Serve(words) => (words.data, words.quiet),
-        Job::Audit(words) => (words.source.files()?.data, words.quiet),
+        Job::Query(words) => (named_by(words.source.files()?), words.quiet),
+        Job::Explain(words) => (named(words.data?, words.layout), words.quiet),
+        Job::Run(words) => (named_by(words.source.files()?), words.quiet),
+        Job::Serve(words) => (named(words.data, words.layout), words.quiet),
+        Job::Audit(words) => (named_by(words.source.files()?), words.quiet),
         Job::Export(words) => match words.exported {
-            ExportedWord::Journal(tables, _) => (tables.data, words.quiet),
+            ExportedWord::Journal(tables, _) => (named_by(tables), words.quiet),
             ExportedWord::Store(_) => return None,
         },
-        Job::Changes(words) => (words.changed.files()?.data, words.quiet),
-        Job::Store(words) => (words.data, words.quiet),
+        Job::Changes(words) => (named_by(words.changed.files()?), words.quiet),
+        Job::Store(words) => (named(words.data, words.layout), words.quiet),
     };
     // Those of a store are files.
-    if quiet || folder.is_empty() {
+    if quiet || folder.path.is_empty() {
         return None;
     }
     Some(folder)
@@ -37,7 +56,7 @@ pub(crate) fn report_pipes<F: Files + AllocGlobal, E: Write>(
     err: &mut E,
 ) -> Result<(), Fault> {
     match loaded_folder(job) {
-        Some(folder) => report_table_pipes(files, folder, err),
+        Some(folder) => report_table_pipes(files, folder.path, folder.form, err),
         None => Ok(()),
     }
 }

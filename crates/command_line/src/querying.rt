@@ -116,7 +116,7 @@ where
 {
     match asked.words.source {
         SourceWord::Files(FilesWord { data, layout }) => {
-            let tables = open_tables(files, data)?;
+            let tables = open_tables(files, data, layout.form)?;
             let screen = screen_of(rt, asked.words.quiet, terminal);
             let source = TableFiles {
                 tables: watch_tables(screen.as_ref(), tables),
@@ -148,7 +148,7 @@ where
         let alloc = rt.alloc();
         return Ok(run_explain(alloc, words.name, constants, words.sql, out, err));
     };
-    let tables = open_tables(files, data)?;
+    let tables = open_tables(files, data, words.layout.form)?;
     let screen = screen_of(rt, words.quiet, terminal);
     let tables = TableFiles {
         tables: watch_tables(screen.as_ref(), tables),

@@ -14,7 +14,7 @@ use ssb_files::JobFault::Found;
 use ssb_files::{
     Fault, PathUse, TableBytes, UsedPath, count_tables, find_tables, open_tables, watch_tables,
 };
-use ssb_text::{TableFiles, TableLayout, Tables};
+use ssb_text::{TableFiles, TableForm, TableLayout, Tables};
 use std::alloc::{AllocError, Global};
 use std::hash::RandomState;
 use std::io::{Print, Read, Write};
@@ -170,7 +170,7 @@ pub(crate) fn push_store<F: Files + AllocGlobal>(
     for after in &numbers.tables {
         push_read(files, sizes_path(alloc, folder, *after)?.as_str(), paths)?;
         let tables = tables_path(alloc, folder, *after)?;
-        for path in find_tables(files, tables.as_str())? {
+        for path in find_tables(files, tables.as_str(), TableForm::Rows)? {
             paths.push(path)?;
         }
     }
@@ -189,7 +189,7 @@ where
     R: Clock + RandomSource + Threads + Sync + AllocGlobal,
     F::File: JournalFile,
 {
-    let tables = open_tables(files, words.data)?;
+    let tables = open_tables(files, words.data, words.layout.form)?;
     let hashing = hashing_of(rt)?;
     let screen = screen_of(rt, words.quiet, terminal);
     let tables = watch_tables(screen.as_ref(), tables);
@@ -229,7 +229,7 @@ fn open_found<F: Files + AllocGlobal>(
     found: &FoundStore,
 ) -> Result<Tables<F::File>, Fault> {
     let data = tables_path(files.alloc(), folder, found.after())?;
-    open_tables(files, data.as_str())
+    open_tables(files, data.as_str(), TableForm::Rows)
 }
 
 /// Exports the tables of a store after all of its commits, or the first of them.

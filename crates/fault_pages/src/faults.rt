@@ -65,7 +65,10 @@ impl ListsFaults for LoadError {
             LoadError::NotANumber(_, _, _) => {
                 LoadError::Row(Table::Customer, 2, SchemaFault::FieldTooLong(C_CITY))
             }
-            LoadError::Row(_, _, _) | LoadError::OutOfMemory => return None,
+            LoadError::Row(_, _, _) => LoadError::NoHead(Table::Customer, C_CITY),
+            LoadError::NoHead(_, _) => LoadError::HeadTwice(Table::Customer, C_CITY),
+            LoadError::HeadTwice(_, _) => LoadError::NotPlain(Table::Customer, 2, C_CITY),
+            LoadError::NotPlain(_, _, _) | LoadError::OutOfMemory => return None,
         })
     }
 }

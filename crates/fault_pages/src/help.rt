@@ -148,13 +148,14 @@ impl ListsFaults for StatementHelp<'static> {
 
 impl ListsFaults for TableHelp<'static> {
     fn first() -> TableHelp<'static> {
-        TableHelp::OtherName("answers", Table::Customer)
+        TableHelp::OtherName("answers", Table::Customer, "tbl")
     }
 
     fn next(&self) -> Option<TableHelp<'static>> {
         Some(match self {
-            TableHelp::OtherName(name, table) => TableHelp::Packed(name, *table),
-            TableHelp::Packed(name, _) => TableHelp::OtherBenchmark(name),
+            TableHelp::OtherName(name, table, ending) => TableHelp::Packed(name, *table, ending),
+            TableHelp::Packed(name, _, _) => TableHelp::Csv(name),
+            TableHelp::Csv(name) => TableHelp::OtherBenchmark(name),
             TableHelp::OtherBenchmark(path) => TableHelp::NoRows(path),
             TableHelp::NoRows(path) => TableHelp::OtherKind(path, FileKind::Utf16),
             TableHelp::OtherKind(path, kind) => TableHelp::OtherKind(path, kind_behind(*kind)?),
@@ -241,7 +242,9 @@ impl ListsFaults for RowHelp<'static, 'static> {
             RowHelp::Mark(_, _, _) => RowHelp::Parted(Delimiter::bar()),
             RowHelp::Parted(_) => RowHelp::Quotes,
             RowHelp::Quotes => RowHelp::ColumnNames,
-            RowHelp::ColumnNames => RowHelp::NotUtf8(PLACE, "C_CITY"),
+            RowHelp::ColumnNames => RowHelp::HasBar(PLACE, "C_CITY"),
+            RowHelp::HasBar(_, _) => RowHelp::HasBreak(PLACE, "C_CITY"),
+            RowHelp::HasBreak(_, _) => RowHelp::NotUtf8(PLACE, "C_CITY"),
             RowHelp::NotUtf8(_, _) => RowHelp::NotANumber(PLACE, "C_CITY", "1x"),
             RowHelp::NotANumber(_, _, _) => RowHelp::OutOfRange(PLACE, "C_CITY", "1x", 1, 7),
             RowHelp::OutOfRange(_, _, _, _, _) => RowHelp::TooLong(PLACE, "C_CITY", 3),

@@ -40,6 +40,9 @@ of_data (load.FieldCount table row) = inl refl
 of_data (load.NotUtf8 table row column) = inl refl
 of_data (load.NotANumber table row column) = inl refl
 of_data (load.Row table row why) = inl refl
+of_data (load.NoHead table column) = inl refl
+of_data (load.HeadTwice table column) = inl refl
+of_data (load.NotPlain table row column) = inl refl
 of_data load.OutOfMemory = inr (inr refl)
 
 of_script : (why : ScriptError) → IsFaultStatus (script_status why)

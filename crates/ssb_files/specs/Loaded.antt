@@ -1,5 +1,5 @@
 -- The base that five texts spell, and the texts that spell none.
-use Rattle.std.specs.Prelude.{◌≡◌, ℕ, Bool, List}
+use Rattle.std.specs.Prelude.{◌≡◌, ℕ, List}
 use Rattle.ssb_files.specs.Status.{data_status}
 use Rattle.ssb_files.specs.Told.{told}
 use Rattle.ssb_files.specs.declared.fault.Fault.{Fault}
@@ -8,6 +8,7 @@ use Rattle.ssb_files.specs.declared.loading.LoadedFor.{LoadedFor}
 use Rattle.ssb_files.specs.declared.loading.LoadedFor.TheVariants as purpose
 use Rattle.ssb_text.specs.Load.{IsLoadFault, SpellsBase}
 use Rattle.ssb_text.specs.declared.error.LoadError.{LoadError}
+use Rattle.ssb_text.specs.declared.layout.TableForm.{TableForm}
 use Rattle.ssb_base.specs.Base.{Tables}
 use Rattle.ssb_base.specs.Limits.{limits_of, most_commits, most_dimension_rows, most_lines, standard_commits}
 use Rattle.ssb_base.specs.declared.limits.Limits.{Limits}
@@ -31,14 +32,14 @@ pub record AreRefusedFor (commits : ℕ) (texts : Table → List ℕ) : Type 0 w
   pub first : IsLoadFault limits texts fault
   pub of_data : data_status fault ≡ 1
 
--- a fault of the program is the first fault that the five texts have, as it is told where a line of heads stands above
--- the rows or not
-pub record TellsRefusal (commits : ℕ) (has_heads : Bool) (texts : Table → List ℕ) (fault : Fault) : Type 0 where
+-- a fault of the program is the first fault that the five texts have, as it is told of files
+-- of this form
+pub record TellsRefusal (commits : ℕ) (form : TableForm) (texts : Table → List ℕ) (fault : Fault) : Type 0 where
   pub limits : Limits
   pub limited : limits_of limits ≡ (most_dimension_rows, most_lines, commits)
   pub found : LoadError
   pub first : IsLoadFault limits texts found
-  pub tells : fault ≡ program.Data (told has_heads found)
+  pub tells : fault ≡ program.Data (told form found)
 
 -- the same for a warehouse whose history is kept whole beside it
 abbrev pub IsLoaded : (Table → List ℕ) → Tables → Type 0

@@ -23,7 +23,7 @@
 //! says of a path, and what a terminal shows, is only tested.
 //!
 //! ```text
-//! let tables = open_tables(rt, "tables")?;
+//! let tables = open_tables(rt, "tables", layout.form)?;
 //! let tables = TableFiles { tables: watch_tables(screen.as_ref(), tables), layout };
 //! let base = base_of(rt, alloc, tables, LoadedFor::Reports)?;
 //! Err(fault) => fault.tell(&mut err)      // ssb_live: data: 21 FieldCount lineorder 2
@@ -47,7 +47,7 @@ pub use fault::Fault;
 pub use identity::FileIdentity;
 pub use job::{Finding, JobFault};
 pub use loading::{LoadedFor, base_of, checked_base_of};
-pub use opening::{make_file, open_file, open_files, open_tables, report_table_pipes};
+pub use opening::{ending_of, make_file, open_file, open_files, open_tables, report_table_pipes};
 pub use path_fault::PathFault;
 pub use paths::{PathUse, UsedPath, check_paths, find_tables};
 pub use progress::{InputSource, Screen, Watched, watch, watch_scripts, watch_tables};

@@ -6,14 +6,14 @@ ghost use Rattle.ssb_files.specs.Loaded.{AreRefusedFor, IsLoadedFor, TellsRefusa
 ghost use Rattle.ssb_files.specs.Status.{data_status, status_of};
 ghost use Rattle.ssb_files.specs.Told as spec;
 ghost use Rattle.ssb_text.specs.Checksums.{AreChecksums};
-ghost use Rattle.ssb_text.specs.Layouts.{AreRows, barred_remaining};
+ghost use Rattle.ssb_text.specs.Layouts.{AreRows, rows_remaining};
 ghost use Rattle.ssb_text.specs.Load.{AreTexts};
 ghost use Rattle.ssb_schema.specs.declared.table.Table.{Table};
 
 use crate::fault::Fault;
 use ssb_base::{Base, Limits};
 use ssb_schema::SchemaFault;
-use ssb_text::{Barred, LoadError, TableFiles, Tables, load, load_with_checksums};
+use ssb_text::{LoadError, TableFiles, TableForm, TableRows, Tables, load, load_with_checksums};
 use std::alloc::Global;
 use std::io::Read;
 use std::thread::Threads;
@@ -41,15 +41,18 @@ fn limits_for(purpose: LoadedFor) -> Limits
 }
 
 // The rows of the tables' files.
-fn rows_of<I: Read + Drop>(tables: TableFiles<I>) -> Result<Tables<Barred<I>>, Fault>
+fn rows_of<I: Read + Drop>(
+    alloc: Global,
+    tables: TableFiles<I>,
+) -> Result<Tables<TableRows<I>>, Fault>
     ensures rows { IfOk result (λ rows. (texts : Table → List ℕ) → AreRows I.remaining tables texts
-        → AreTexts (barred_remaining I.remaining) rows texts) }
+        → AreTexts (rows_remaining I.remaining) rows texts) }
     ensures data { IfErr result (λ fault. status_of fault ≡ 1 → (texts : Table → List ℕ)
         → AreRows I.remaining tables texts → ⊥) }
     ensures later { IfErr result (λ fault. status_of fault ≢ 2) }
     ensures earlier { IfErr result (λ fault. status_of fault ≢ 3) }
 {
-    match tables.into_rows() {
+    match tables.into_rows(alloc) {
         Ok(rows) => Ok(rows),
         Err(fault) => Err(Fault::Data(fault)),
     }
@@ -73,14 +76,11 @@ fn refused_below(fault: SchemaFault) -> SchemaFault
     }
 }
 
-// A fault of rows, as it is told where a line of heads stands above them or not.
-fn told(fault: LoadError, has_heads: bool) -> LoadError
-    ensures fault { result ≡ spec.told has_heads fault }
+// A fault of rows, as it is told where a line of heads stands above them.
+fn told_below(fault: LoadError) -> LoadError
+    ensures fault { result ≡ spec.fault_below fault }
     ensures status { data_status result ≡ data_status fault }
 {
-    if !has_heads {
-        return fault;
-    }
     match fault {
         LoadError::FieldCount(table, row) => LoadError::FieldCount(table, below(row)),
         LoadError::NotUtf8(table, row, column) => LoadError::NotUtf8(table, below(row), column),
@@ -94,8 +94,23 @@ fn told(fault: LoadError, has_heads: bool) -> LoadError
     }
 }
 
+// A fault of rows, as it is told of a file of this form.
+fn told(fault: LoadError, form: TableForm) -> LoadError
+    ensures fault { result ≡ spec.told form fault }
+    ensures status { data_status result ≡ data_status fault }
+{
+    match form {
+        TableForm::Rows => fault,
+        TableForm::Headed => told_below(fault),
+        TableForm::Csv => match told_below(fault) {
+            LoadError::NotUtf8(table, row, column) => LoadError::NotPlain(table, row, column),
+            other => other,
+        },
+    }
+}
+
 /// The base that the rows of the tables spell, within the greatest limits but for its commits, by as many threads as
-/// there are processors. Where lines of heads stand above the rows, a fault counts them: each is row 1 of its table.
+/// there are processors. Where heads stand above the rows, a fault counts them: each is row 1 of its table.
 pub fn base_of<I: Read + Drop>(
     rt: &(impl Threads + Sync),
     alloc: Global,
@@ -108,15 +123,15 @@ pub fn base_of<I: Read + Drop>(
         → AreRows I.remaining tables texts → AreRefusedFor (commits_for purpose) texts) }
     ensures told { IfErr result (λ fault. status_of fault ≡ 1 → (texts : Table → List ℕ)
         → AreRows I.remaining tables texts
-        → TellsRefusal (commits_for purpose) tables.layout.has_heads texts fault) }
+        → TellsRefusal (commits_for purpose) tables.layout.form texts fault) }
     ensures later { IfErr result (λ fault. status_of fault ≢ 2) }
     ensures earlier { IfErr result (λ fault. status_of fault ≢ 3) }
 {
-    let has_heads = tables.layout.has_heads;
-    let rows = rows_of(tables)?;
+    let form = tables.layout.form;
+    let rows = rows_of(alloc, tables)?;
     match load(rt, alloc, limits_for(purpose), BLOCK, rows) {
         Ok(base) => Ok(base),
-        Err(fault) => Err(Fault::Data(told(fault, has_heads))),
+        Err(fault) => Err(Fault::Data(told(fault, form))),
     }
 }
 
@@ -135,14 +150,14 @@ pub fn checked_base_of<I: Read + Drop>(
         → AreRows I.remaining tables texts → AreRefusedFor (commits_for purpose) texts) }
     ensures told { IfErr result (λ fault. status_of fault ≡ 1 → (texts : Table → List ℕ)
         → AreRows I.remaining tables texts
-        → TellsRefusal (commits_for purpose) tables.layout.has_heads texts fault) }
+        → TellsRefusal (commits_for purpose) tables.layout.form texts fault) }
     ensures later { IfErr result (λ fault. status_of fault ≢ 2) }
     ensures earlier { IfErr result (λ fault. status_of fault ≢ 3) }
 {
-    let has_heads = tables.layout.has_heads;
-    let rows = rows_of(tables)?;
+    let form = tables.layout.form;
+    let rows = rows_of(alloc, tables)?;
     match load_with_checksums(rt, alloc, limits_for(purpose), BLOCK, rows) {
         Ok(loaded) => Ok(loaded),
-        Err(fault) => Err(Fault::Data(told(fault, has_heads))),
+        Err(fault) => Err(Fault::Data(told(fault, form))),
     }
 }

@@ -2,16 +2,30 @@
 
 use crate::fault::Fault;
 use ssb_schema::Table;
-use ssb_text::Tables;
+use ssb_text::{TableForm, Tables};
 use std::alloc::AllocError;
 use std::fs;
 use std::io::{BufWriter, Write};
 use std::os::unix::fs::FileTypeExt;
 use std::rt::Files;
 
+/// How the names of tables' files of a form end.
+pub fn ending_of(form: TableForm) -> &'static str {
+    match form {
+        TableForm::Rows | TableForm::Headed => "tbl",
+        TableForm::Csv => "csv",
+    }
+}
+
 // The path of a table's file.
-fn table_path<R: AllocGlobal>(rt: &R, folder: &str, table: Table) -> Result<String, AllocError> {
-    format!(in rt.alloc(); "{folder}/{table}.tbl")
+fn table_path<R: AllocGlobal>(
+    rt: &R,
+    folder: &str,
+    table: Table,
+    form: TableForm,
+) -> Result<String, AllocError> {
+    let ending = ending_of(form);
+    format!(in rt.alloc(); "{folder}/{table}.{ending}")
 }
 
 // The file of a table, or the fault that names its path.
@@ -19,18 +33,23 @@ fn open_table<R: Files + AllocGlobal>(
     rt: &R,
     folder: &str,
     table: Table,
+    form: TableForm,
 ) -> Result<R::File, Fault> {
-    open_file(rt, table_path(rt, folder, table)?.as_str())
+    open_file(rt, table_path(rt, folder, table, form)?.as_str())
 }
 
 /// The paths of the five table files of a folder, in the order in which they are loaded.
-pub(crate) fn table_paths<R: AllocGlobal>(rt: &R, folder: &str) -> Result<[String; 5], AllocError> {
+pub(crate) fn table_paths<R: AllocGlobal>(
+    rt: &R,
+    folder: &str,
+    form: TableForm,
+) -> Result<[String; 5], AllocError> {
     Ok([
-        table_path(rt, folder, Table::Customer)?,
-        table_path(rt, folder, Table::Supplier)?,
-        table_path(rt, folder, Table::Part)?,
-        table_path(rt, folder, Table::Date)?,
-        table_path(rt, folder, Table::Lineorder)?,
+        table_path(rt, folder, Table::Customer, form)?,
+        table_path(rt, folder, Table::Supplier, form)?,
+        table_path(rt, folder, Table::Part, form)?,
+        table_path(rt, folder, Table::Date, form)?,
+        table_path(rt, folder, Table::Lineorder, form)?,
     ])
 }
 
@@ -46,9 +65,10 @@ fn is_named_pipe<R: Files>(rt: &R, path: &str) -> bool {
 pub fn report_table_pipes<R: Files + AllocGlobal, E: Write>(
     rt: &R,
     folder: &str,
+    form: TableForm,
     err: &mut E,
 ) -> Result<(), Fault> {
-    for path in table_paths(rt, folder)? {
+    for path in table_paths(rt, folder, form)? {
         if is_named_pipe(rt, path.as_str()) {
             let _ = writeln!(err, "ssb_live: {path} is a pipe, waits for its writer");
         }
@@ -57,13 +77,17 @@ pub fn report_table_pipes<R: Files + AllocGlobal, E: Write>(
 }
 
 /// The five table files of a folder, or the first that cannot be opened, in the order in which they are loaded.
-pub fn open_tables<R: Files + AllocGlobal>(rt: &R, folder: &str) -> Result<Tables<R::File>, Fault> {
+pub fn open_tables<R: Files + AllocGlobal>(
+    rt: &R,
+    folder: &str,
+    form: TableForm,
+) -> Result<Tables<R::File>, Fault> {
     Ok(Tables {
-        customer: open_table(rt, folder, Table::Customer)?,
-        supplier: open_table(rt, folder, Table::Supplier)?,
-        part: open_table(rt, folder, Table::Part)?,
-        date: open_table(rt, folder, Table::Date)?,
-        lineorder: open_table(rt, folder, Table::Lineorder)?,
+        customer: open_table(rt, folder, Table::Customer, form)?,
+        supplier: open_table(rt, folder, Table::Supplier, form)?,
+        part: open_table(rt, folder, Table::Part, form)?,
+        date: open_table(rt, folder, Table::Date, form)?,
+        lineorder: open_table(rt, folder, Table::Lineorder, form)?,
     })
 }
 

@@ -8,6 +8,7 @@ use crate::fault::Fault;
 use crate::identity::FileIdentity;
 use crate::opening::table_paths;
 use crate::path_fault::PathFault;
+use ssb_text::TableForm;
 use std::fs;
 use std::os::unix::fs::FileTypeExt;
 use std::rt::Files;
@@ -93,9 +94,13 @@ impl UsedPath {
 }
 
 /// The files of the five tables of a folder, which are read.
-pub fn find_tables<R: Files + AllocGlobal>(rt: &R, folder: &str) -> Result<Vec<UsedPath>, Fault> {
+pub fn find_tables<R: Files + AllocGlobal>(
+    rt: &R,
+    folder: &str,
+    form: TableForm,
+) -> Result<Vec<UsedPath>, Fault> {
     let mut paths = Vec::new(rt.alloc());
-    for path in table_paths(rt, folder)? {
+    for path in table_paths(rt, folder, form)? {
         paths.push(UsedPath::find(rt, path.as_str(), PathUse::Read)?)?;
     }
     Ok(paths)

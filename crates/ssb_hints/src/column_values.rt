@@ -1,9 +1,9 @@
 //! The values that the columns of dimensions have.
 
 use crate::named::NamedTables;
-use csv::ByteRecord;
+use crate::table_records::{TableRecords, place_in};
 use ssb_schema::Column;
-use ssb_text::{Barred, next_record, record_reader, text, trimmed_at};
+use ssb_text::{text, trimmed_at};
 use std::collections::BTreeSet;
 use std::rt::Files;
 use std::{fs, io};
@@ -28,20 +28,20 @@ fn values_in<F: Files + AllocGlobal>(
     tables: NamedTables<'_>,
     column: Column,
 ) -> io::Result<BTreeSet<String>> {
-    let path = format!(in files.alloc(); "{}/{}.tbl", tables.folder, column.table)?;
-    let file = Barred::new(fs::open(files, path.as_str())?, tables.layout.delimiter);
-    let mut reader = record_reader(files.alloc(), file);
-    let mut record = ByteRecord::new(files.alloc());
+    let path = tables.path_of(files.alloc(), column.table)?;
+    let file = fs::open(files, path.as_str())?;
+    let mut records = TableRecords::new(files.alloc(), tables.layout, file);
     let mut values = BTreeSet::new(files.alloc());
+    let mut place = column.place.saturating_sub(1);
     for number in 0..u64::MAX {
-        match next_record(&mut reader, &mut record) {
-            Ok(true) => {}
-            _ => break,
-        }
-        if number == 0 && tables.layout.has_heads {
+        let Some(record) = records.next()? else {
+            break;
+        };
+        if number == 0 && tables.layout.has_heads() {
+            place = place_in(record, column);
             continue;
         }
-        let value = text(trimmed_at(&record, column.place.saturating_sub(1))).unwrap_or("");
+        let value = text(trimmed_at(record, place)).unwrap_or("");
         if !values.contains(value) {
             values.insert(String::from_str(files.alloc(), value)?)?;
         }

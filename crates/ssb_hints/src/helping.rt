@@ -146,7 +146,7 @@ fn help_with_words<F: Files, E: Write>(
     if let Some(path) = fault.strip_prefix("cannot read ") {
         help_with_path(files, path, err)?;
         return match named.data {
-            Some(tables) => help_with_table_path(files, tables.folder, path, err),
+            Some(tables) => help_with_table_path(files, tables, path, err),
             None => Ok(()),
         };
     }

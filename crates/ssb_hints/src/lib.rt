@@ -61,6 +61,7 @@ mod star_habits;
 mod statements;
 mod stores;
 mod table_files;
+mod table_records;
 
 pub use audits::AuditHelp;
 pub use boards::BoardHelp;

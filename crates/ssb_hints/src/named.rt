@@ -1,12 +1,29 @@
 //! What a command's words name.
 
-use ssb_text::TableLayout;
+use ssb_schema::Table;
+use ssb_text::{TableForm, TableLayout};
+use std::alloc::{AllocError, Global};
 
 /// The tables that a command's words name: their folder, and how they are laid out.
 #[derive(Clone, Copy)]
 pub struct NamedTables<'a> {
     pub folder: &'a str,
     pub layout: TableLayout,
+}
+
+impl<'a> NamedTables<'a> {
+    /// How the names of the files end.
+    pub(crate) fn ending(&self) -> &'static str {
+        match self.layout.form {
+            TableForm::Rows | TableForm::Headed => "tbl",
+            TableForm::Csv => "csv",
+        }
+    }
+
+    /// The path of a table's file.
+    pub(crate) fn path_of(&self, alloc: Global, table: Table) -> Result<String, AllocError> {
+        format!(in alloc; "{}/{table}.{}", self.folder, self.ending())
+    }
 }
 
 /// What a command's words name, as far as its faults are about it.

@@ -4,11 +4,12 @@ use crate::lines::write_line;
 use crate::named::NamedTables;
 use crate::observed_files::ObservedFiles;
 use crate::paths::help_with_path;
-use crate::records::{open_plain, record_of, text_at};
+use crate::records::{open_plain, text_at};
 use crate::table_files::{help_with_kind, help_with_missing, help_with_no_rows};
+use crate::table_records::{TableRecords, place_in};
 use csv::ByteRecord;
 use ssb_schema::{Column, Kind, Table};
-use ssb_text::{Barred, Delimiter, TableLayout, field_at, trimmed_at};
+use ssb_text::{Delimiter, TableForm, TableLayout, field_at, trimmed_at};
 use std::alloc::Global;
 use std::io::Write;
 use std::rt::Files;
@@ -40,6 +41,10 @@ pub enum RowHelp<'p, 'a> {
     Quotes,
     /// It names columns.
     ColumnNames,
+    /// This column has a bar.
+    HasBar(RowPlace<'p>, &'a str),
+    /// This column has the end of a line.
+    HasBreak(RowPlace<'p>, &'a str),
     /// This column is no text.
     NotUtf8(RowPlace<'p>, &'a str),
     /// What this column has in a number's place.
@@ -94,10 +99,18 @@ impl<'p, 'a> fmt::Display for RowHelp<'p, 'a> {
             RowHelp::Mark(count, byte, delimiter) => write_counted(f, *count, *byte, *delimiter),
             RowHelp::Parted(delimiter) => write_parted(f, *delimiter),
             RowHelp::Quotes => f.write_str(
-                "quotes are read as a part of the text; write the table without them",
+                "quotes are read as a part of the text; give --csv where the table is CSV below column names",
             ),
             RowHelp::ColumnNames => f.write_str(
                 "it looks like column names; give --heads where the first row has them",
+            ),
+            RowHelp::HasBar(place, column) => write!(
+                f,
+                "{place} column {column} has | in it, which no text here can have"
+            ),
+            RowHelp::HasBreak(place, column) => write!(
+                f,
+                "{place} column {column} has the end of a line in it, which no text here can have"
             ),
             RowHelp::NotUtf8(place, column) => write!(f, "{place} column {column} is not UTF-8"),
             RowHelp::NotANumber(place, column, value) => write!(
@@ -162,11 +175,6 @@ pub fn key_column(dimension: Table) -> Column {
     }
 }
 
-// The bytes that a record has in a column.
-fn bytes_in(record: &ByteRecord, column: Column) -> &[u8] {
-    trimmed_at(record, column.place.saturating_sub(1))
-}
-
 // Whether a row begins with a letter, where each table has a number.
 fn begins_with_letter(record: &ByteRecord) -> bool {
     match field_at(record, 0) {
@@ -202,22 +210,42 @@ fn mark_in(record: &ByteRecord) -> Option<(usize, u8)> {
 struct ToldRow<'a> {
     place: RowPlace<'a>,
     table: Table,
+    // The head above it.
+    head: Option<ByteRecord>,
     record: ByteRecord,
     layout: TableLayout,
 }
 
+impl<'a> ToldRow<'a> {
+    // Where it has a column, from 0.
+    fn place_of(&self, column: Column) -> usize {
+        match &self.head {
+            Some(head) => place_in(head, column),
+            None => column.place.saturating_sub(1),
+        }
+    }
+
+    // How many fields it is to have.
+    fn wanted(&self) -> usize {
+        match &self.head {
+            Some(head) => head.len(),
+            None => self.table.kinds().len(),
+        }
+    }
+}
+
 // Says that a first row names columns, where it does and no line of heads is wanted.
 fn help_with_names<E: Write>(row: &ToldRow<'_>, err: &mut E) -> io::Result<()> {
-    if row.place.row == 1 && !row.layout.has_heads && begins_with_letter(&row.record) {
+    if row.place.row == 1 && !row.layout.has_heads() && begins_with_letter(&row.record) {
         return write_line(err, &RowHelp::ColumnNames);
     }
     Ok(())
 }
 
 fn help_with_count<E: Write>(row: &ToldRow<'_>, err: &mut E) -> io::Result<()> {
-    let (found, wanted) = (row.record.len(), row.table.kinds().len());
+    let (found, wanted) = (row.record.len(), row.wanted());
     write_line(err, &RowHelp::FieldCount(row.place, found, wanted))?;
-    if found > wanted {
+    if found > wanted && row.layout.form != TableForm::Csv {
         write_line(err, &RowHelp::Parted(row.layout.delimiter))?;
     }
     if found == 1 {
@@ -288,7 +316,7 @@ fn help_with_refusal<E: Write>(
                 &RowHelp::TooLong(
                     row.place,
                     column.name(),
-                    bytes_in(&row.record, column).len(),
+                    trimmed_at(&row.record, row.place_of(column)).len(),
                 ),
             ),
             None => Ok(()),
@@ -308,6 +336,19 @@ fn column_told(table: Table, words: &[&str]) -> Option<Column> {
     }
 }
 
+// Says why a field of CSV can be no text of a row.
+fn help_with_text<E: Write>(row: &ToldRow<'_>, column: Column, err: &mut E) -> io::Result<()> {
+    let field = field_at(&row.record, row.place_of(column));
+    let (place, name) = (row.place, column.name());
+    if field.iter().any(|byte| *byte == b'|') {
+        return write_line(err, &RowHelp::HasBar(place, name));
+    }
+    if field.iter().any(|byte| *byte == b'\n' || *byte == b'\r') {
+        return write_line(err, &RowHelp::HasBreak(place, name));
+    }
+    write_line(err, &RowHelp::NotUtf8(place, name))
+}
+
 // Says what is wrong with a row by the number of its fault, and by the words behind its table and row.
 fn help_with_row<E: Write>(
     alloc: Global,
@@ -319,12 +360,13 @@ fn help_with_row<E: Write>(
     let Some(column) = column_told(row.table, words) else {
         return Ok(());
     };
-    let value = text_at(alloc, &row.record, column.place.saturating_sub(1))?;
+    let value = text_at(alloc, &row.record, row.place_of(column))?;
     match number {
         "21" => help_with_count(row, err),
         "22" => write_line(err, &RowHelp::NotUtf8(row.place, column.name())),
         "23" => help_with_number(row, column, value.as_str(), err),
         "24" => help_with_refusal(row, words, value.as_str(), err),
+        "27" => help_with_text(row, column, err),
         _ => Ok(()),
     }
 }
@@ -340,15 +382,25 @@ fn told_row<'a, F: Files + AllocGlobal>(
     let Ok(row) = number.parse::<u64>() else {
         return Ok(None);
     };
-    let file = Barred::new(open_plain(files, path)?, layout.delimiter);
-    let Some(record) = record_of(files.alloc(), file, row)? else {
+    let file = open_plain(files, path)?;
+    let mut records = TableRecords::new(files.alloc(), layout, file);
+    let mut head = None;
+    for at in 1..row {
+        let Some(record) = records.next()? else {
+            return Ok(None);
+        };
+        if at == 1 && layout.has_heads() {
+            head = Some(record.clone()?);
+        }
+    }
+    let Some(record) = records.next()? else {
         return Ok(None);
     };
-    let place = RowPlace { path, row };
     Ok(Some(ToldRow {
-        place,
+        place: RowPlace { path, row },
         table,
-        record,
+        head,
+        record: record.clone()?,
         layout,
     }))
 }
@@ -356,12 +408,12 @@ fn told_row<'a, F: Files + AllocGlobal>(
 // Says that a dimension has no rows, where it has none.
 fn help_with_dimension<F: Files, E: Write>(
     files: &ObservedFiles<'_, F>,
-    folder: &str,
+    tables: NamedTables<'_>,
     name: &str,
     err: &mut E,
 ) -> io::Result<()> {
     match table_named(name) {
-        Some(table) => help_with_no_rows(files, folder, table, err),
+        Some(table) => help_with_no_rows(files, tables, table, err),
         None => Ok(()),
     }
 }
@@ -369,18 +421,30 @@ fn help_with_dimension<F: Files, E: Write>(
 /// Says which files may be meant by that of a path, which cannot be read, where it is a table of this folder.
 pub(crate) fn help_with_table_path<F: Files, E: Write>(
     files: &ObservedFiles<'_, F>,
-    folder: &str,
+    tables: NamedTables<'_>,
     path: &str,
     err: &mut E,
 ) -> io::Result<()> {
     let Some((within, name)) = path.rsplit_once('/') else {
         return Ok(());
     };
-    let table = name.strip_suffix(".tbl").and_then(|name| table_named(name));
-    match table {
-        Some(table) if within == folder => help_with_missing(files, folder, table, err),
+    let Some((stem, _)) = name.rsplit_once('.') else {
+        return Ok(());
+    };
+    match table_named(stem) {
+        Some(table) if within == tables.folder => help_with_missing(files, tables, table, err),
         _ => Ok(()),
     }
+}
+
+// Says what parts the names in a head of one field, which names no column.
+fn help_with_head<E: Write>(row: &ToldRow<'_>, err: &mut E) -> io::Result<()> {
+    if row.record.len() == 1 {
+        if let Some((count, mark)) = mark_in(&row.record) {
+            return write_line(err, &RowHelp::Mark(count, mark, row.layout.delimiter));
+        }
+    }
+    Ok(())
 }
 
 /// Says what is wrong with tables, by the words of the fault: its number, its name, the table, and the row with what
@@ -397,15 +461,21 @@ pub fn help_with_tables<F: Files, E: Write>(
     let Some(table) = table_named(name) else {
         return Ok(());
     };
-    let path = format!(in files.alloc(); "{}/{table}.tbl", tables.folder)?;
+    let path = tables.path_of(files.alloc(), table)?;
     let [row, rest @ ..] = rest else {
         return help_with_path(files, path.as_str(), err);
     };
     if help_with_kind(files, path.as_str(), err)? {
         return Ok(());
     }
+    if *number == "25" {
+        return match told_row(files, path.as_str(), table, tables.layout, "1")? {
+            Some(row) => help_with_head(&row, err),
+            None => Ok(()),
+        };
+    }
     if let ["8", _, _, dimension] = rest {
-        help_with_dimension(files, tables.folder, dimension, err)?;
+        help_with_dimension(files, tables, dimension, err)?;
     }
     match told_row(files, path.as_str(), table, tables.layout, row)? {
         Some(row) => help_with_row(files.alloc(), &row, number, rest, err),

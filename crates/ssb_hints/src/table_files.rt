@@ -1,6 +1,7 @@
 //! What is wrong with the file of a table as a whole.
 
 use crate::lines::write_line;
+use crate::named::NamedTables;
 use crate::observed_files::ObservedFiles;
 use crate::records::open_plain;
 use ssb_schema::Table;
@@ -12,10 +13,12 @@ use std::{fmt, fs, io};
 /// Help about the file of a table.
 #[derive(Clone, Copy)]
 pub enum TableHelp<'a> {
-    /// A file that lies in its folder, and may be meant, and the table.
-    OtherName(&'a str, Table),
+    /// A file that lies in its folder, and may be meant, the table, and how the name of its file ends.
+    OtherName(&'a str, Table, &'a str),
     /// The same, where that one is packed.
-    Packed(&'a str, Table),
+    Packed(&'a str, Table, &'a str),
+    /// A file of CSV that lies in its folder.
+    Csv(&'a str),
     /// A file of another benchmark that lies in the folder.
     OtherBenchmark(&'a str),
     /// The path of a file, which is of another kind, and what makes a text of it.
@@ -49,10 +52,11 @@ impl FileKind {
             FileKind::Bzip2 => "is packed by bzip2; unpack it: bunzip2",
             FileKind::Zip => "is packed by zip; unpack it: unzip",
             FileKind::Parquet =>
-                "is a Parquet file; write the table as text, its fields parted by |",
-            FileKind::Arrow => "is an Arrow file; write the table as text, its fields parted by |",
+                "is a Parquet file; write the table as CSV below column names, and give --csv",
+            FileKind::Arrow =>
+                "is an Arrow file; write the table as CSV below column names, and give --csv",
             FileKind::Sqlite =>
-                "is a database of SQLite; write the table as text, its fields parted by |",
+                "is a database of SQLite; write the table as CSV below column names, and give --csv",
         }
     }
 }
@@ -60,13 +64,17 @@ impl FileKind {
 impl<'a> fmt::Display for TableHelp<'a> {
     fn fmt<W: fmt::Write>(&self, f: &mut fmt::Formatter<W>) -> fmt::Result {
         match self {
-            TableHelp::OtherName(there, table) => write!(
+            TableHelp::OtherName(there, table, ending) => write!(
                 f,
-                "the folder has {there}; name it {table}.tbl, or make a link of that name"
+                "the folder has {there}; name it {table}.{ending}, or make a link of that name"
             ),
-            TableHelp::Packed(there, table) => {
-                write!(f, "the folder has {there}; unpack it, as {table}.tbl")
+            TableHelp::Packed(there, table, ending) => {
+                write!(f, "the folder has {there}; unpack it, as {table}.{ending}")
             }
+            TableHelp::Csv(there) => write!(
+                f,
+                "the folder has {there}; give --csv, which reads tables of that ending"
+            ),
             TableHelp::OtherBenchmark(there) => write!(
                 f,
                 "the folder has {there}, a table of TPC-H; wanted are the five of the Star Schema Benchmark: customer, \
@@ -122,11 +130,11 @@ pub(crate) fn help_with_kind<F: Files, E: Write>(
 /// Says that a table has no rows, where its file has no bytes.
 pub(crate) fn help_with_no_rows<F: Files, E: Write>(
     files: &ObservedFiles<'_, F>,
-    folder: &str,
+    tables: NamedTables<'_>,
     table: Table,
     err: &mut E,
 ) -> io::Result<()> {
-    let path = format!(in files.alloc(); "{folder}/{table}.tbl")?;
+    let path = tables.path_of(files.alloc(), table)?;
     if fs::metadata(files, path.as_str())?.len() == 0 {
         return write_line(err, &TableHelp::NoRows(path.as_str()));
     }
@@ -150,6 +158,14 @@ fn is_of(alloc: Global, name: &str, table: Table) -> io::Result<bool> {
     Ok(stem.starts_with(table.name()) || stem.ends_with(table.name()))
 }
 
+// Whether a name is that which a table of CSV is to have, where none is asked for.
+fn is_csv(name: &str, table: Table, ending: &str) -> bool {
+    ending != "csv"
+        && name
+            .strip_suffix(".csv")
+            .is_some_and(|stem| stem == table.name())
+}
+
 static PACKED: [&str; 6] = [".gz", ".zst", ".xz", ".bz2", ".zip", ".Z"];
 
 // Says that a file may be meant, where its name is like a table's. The result is whether it is.
@@ -157,6 +173,7 @@ fn help_with_name<E: Write>(
     alloc: Global,
     name: &str,
     table: Table,
+    ending: &str,
     err: &mut E,
 ) -> io::Result<bool> {
     if name == "lineitem.tbl" {
@@ -167,9 +184,11 @@ fn help_with_name<E: Write>(
         return Ok(false);
     }
     if PACKED.iter().any(|ending| name.ends_with(*ending)) {
-        write_line(err, &TableHelp::Packed(name, table))?;
+        write_line(err, &TableHelp::Packed(name, table, ending))?;
+    } else if is_csv(name, table, ending) {
+        write_line(err, &TableHelp::Csv(name))?;
     } else {
-        write_line(err, &TableHelp::OtherName(name, table))?;
+        write_line(err, &TableHelp::OtherName(name, table, ending))?;
     }
     Ok(true)
 }
@@ -177,14 +196,14 @@ fn help_with_name<E: Write>(
 /// Says which files of a folder may be meant by that of a table, which is not there.
 pub(crate) fn help_with_missing<F: Files, E: Write>(
     files: &ObservedFiles<'_, F>,
-    folder: &str,
+    tables: NamedTables<'_>,
     table: Table,
     err: &mut E,
 ) -> io::Result<()> {
-    let names = names_in(files, folder)?;
+    let names = names_in(files, tables.folder)?;
     for name in names.as_slice().split(|byte| *byte == 0) {
         if let Ok(name) = str::from_utf8(name) {
-            if help_with_name(files.alloc(), name, table, err)? {
+            if help_with_name(files.alloc(), name, table, tables.ending(), err)? {
                 return Ok(());
             }
         }

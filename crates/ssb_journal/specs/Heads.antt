@@ -8,6 +8,8 @@ use Rattle.ssb_journal.specs.declared.head.HeadForm.{HeadForm}
 use Rattle.ssb_journal.specs.declared.head.HeadForm.TheVariants.{Sizes, Checksums}
 use Rattle.ssb_journal.specs.declared.head.TableMark.{TableMark}
 use Rattle.ssb_text.specs.Layouts.{is_benchmark}
+use Rattle.ssb_text.specs.declared.layout.TableForm.{TableForm}
+use Rattle.ssb_text.specs.declared.layout.TableForm.TheVariants as form
 use Rattle.ssb_text.specs.declared.layout.TableLayout.{TableLayout}
 use Rattle.ssb_journal.specs.declared.fault.JournalFault.{JournalFault}
 use Rattle.ssb_journal.specs.declared.fault.JournalFault.TheVariants.{NotAJournal, NewerForm, OtherTables, Damaged}
@@ -36,14 +38,16 @@ pub record IsNewer (number : ℕ) (text : List ℕ) : Type 0 where
 abbrev pub delimiter_word : ℕ → List ℕ
 delimiter_word byte = if byte == 9 then codes "tab" else (byte ∷ [])
 
-abbrev pub heads_part : Bool → List ℕ
-heads_part has_heads = if has_heads then codes "|heads" else []
+abbrev pub form_part : TableForm → List ℕ
+form_part form.Rows = []
+form_part form.Headed = codes "|heads"
+form_part form.Csv = codes "|csv"
 
 -- what the line of a table tells behind its checksum: the layout of the file, where it is not the benchmark's
 abbrev pub layout_part : TableLayout → List ℕ
 layout_part layout =
     if is_benchmark layout then []
-    else (124 ∷ (delimiter_word layout.delimiter.byte ++ heads_part layout.has_heads))
+    else (124 ∷ (delimiter_word layout.delimiter.byte ++ form_part layout.form))
 
 -- what it tells behind its rows
 abbrev pub checksum_part : HeadForm → TableMark → List ℕ

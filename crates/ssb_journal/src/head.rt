@@ -2,7 +2,7 @@
 //! rows' text, and the layout of the file, where it is not the benchmark's.
 ghost use Rattle.std.specs.Prelude.{◌≡◌, ◌⊎◌, ◌++◌, ◌<◌, ◌^◌, ℕ, decimal, length, nat_eq, true, false, IfOk, IfErr, MatchOption, OnOk};
 ghost use Rattle.std.specs.List.{starts_with};
-ghost use Rattle.ssb_journal.specs.Heads.{checksum_part, delimiter_word, head_text, heads_part, layout_part, mark_line};
+ghost use Rattle.ssb_journal.specs.Heads.{checksum_part, delimiter_word, head_text, form_part, layout_part, mark_line};
 ghost use Rattle.ssb_journal.specs.Heads.{newest_form, title, IsHeadFault, IsLineFault, IsNewer, IsTitleFault};
 ghost use Rattle.ssb_journal.specs.declared.head.HeadForm.{HeadForm as Form};
 
@@ -10,7 +10,7 @@ use crate::fault::JournalFault;
 use itoa::Buffer;
 use memchr::memchr;
 use ssb_schema::{Table, number};
-use ssb_text::{Delimiter, TableLayout};
+use ssb_text::{Delimiter, TableForm, TableLayout};
 use std::alloc::{AllocError, Global};
 
 /// By what a journal knows a table: how many bytes its file has, how many rows, the checksum of the rows' text, and how
@@ -116,14 +116,15 @@ fn push_delimiter(head: &mut Vec<u8>, delimiter: Delimiter) -> Result<(), AllocE
     }
 }
 
-// Whether a line of heads stands above the rows.
-fn push_heads(head: &mut Vec<u8>, has_heads: bool) -> Result<(), AllocError>
-    ensures { OnOk result (head.new.items ≡ head.old.items ++ heads_part has_heads) }
+// The form of a file, where it has heads.
+fn push_form(head: &mut Vec<u8>, form: TableForm) -> Result<(), AllocError>
+    ensures { OnOk result (head.new.items ≡ head.old.items ++ form_part form) }
 {
-    if !has_heads {
-        return Ok(());
+    match form {
+        TableForm::Rows => Ok(()),
+        TableForm::Headed => head.extend_from_slice(b"|heads"),
+        TableForm::Csv => head.extend_from_slice(b"|csv"),
     }
-    head.extend_from_slice(b"|heads")
 }
 
 // The layout of a file, where it is not the benchmark's.
@@ -135,7 +136,7 @@ fn push_layout(head: &mut Vec<u8>, layout: TableLayout) -> Result<(), AllocError
     }
     head.push(b'|')?;
     push_delimiter(head, layout.delimiter)?;
-    push_heads(head, layout.has_heads)
+    push_form(head, layout.form)
 }
 
 // What a line tells behind the rows.

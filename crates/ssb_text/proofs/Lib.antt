@@ -13,7 +13,11 @@ pub mod PlainLaws
 pub mod BlockReadingLaws
 pub mod BlockLaws
 pub mod ChecksumLaws
+pub mod PlainReaderLaws
 pub mod HeadsLaws
+pub mod PickingLaws
+pub mod LinesLaws
+pub mod PickedLaws
 pub mod LayoutLaws
 pub mod ParsingLaws
 pub mod JoiningLaws

@@ -1,19 +1,24 @@
 -- What is known of the first line of a reader's bytes, once it was read.
-use Rattle.std.specs.Prelude.{◌≡◌, ◌≢◌, ℕ, ◌<◌, List, ◌∷◌, ◌++◌, length, count_by, Option, Some}
-use Rattle.std.specs.List.{AllByRecursion}
-use Rattle.ssb_text.specs.Layouts.{most_heads, parts}
-use Rattle.ssb_text.specs.declared.layout.Delimiter.{Delimiter}
+use Rattle.std.specs.Prelude.{◌≡◌, ◌⊎◌, ℕ, false, List, ◌∷◌, ◌++◌, Option, Some}
+use Rattle.csv.specs.Reading.{ReadRecord}
+use Rattle.csv.specs.declared.reader.Reader.{Reader}
+use Rattle.ssb_schema.specs.declared.table.Table.{Table}
+use Rattle.ssb_text.specs.Layouts.{HasHeads}
+use Rattle.ssb_text.specs.Tables.{IsReadFault}
+use Rattle.ssb_text.specs.declared.error.LoadError.{LoadError}
+use Rattle.ssb_text.specs.declared.error.LoadError.TheVariants as errors
 
--- bytes without a line feed, and fewer than a line of heads may have
-abbrev pub IsShortLine : List ℕ → Type 0
-IsShortLine line = AllByRecursion (λ b. b ≢ 10) line × (length line < most_heads)
-
--- no such line ends with a line feed
+-- no short line ends with a line feed
 abbrev pub HasNoLine : Option (List ℕ) → Type 0
-HasNoLine known = (line rows : List ℕ) → known ≡ Some (line ++ 10 ∷ rows) → IsShortLine line → ⊥
+HasNoLine known = (file line rows : List ℕ) → known ≡ Some file → HasHeads file line rows → ⊥
 
--- one did, and so many of its bytes part fields
-abbrev pub EndsLine : Delimiter → Option (List ℕ) → Option (List ℕ) → ℕ → Type 0
-EndsLine delimiter old new count = (file : List ℕ) → old ≡ Some file
-    → (line : List ℕ) × (rows : List ℕ) × (new ≡ Some rows) × (file ≡ line ++ 10 ∷ rows) × IsShortLine line
-    × (count_by (parts delimiter) line ≡ count)
+-- this one did
+abbrev pub EndsLine : Option (List ℕ) → Option (List ℕ) → List ℕ → Type 0
+EndsLine old new line = (file : List ℕ) → old ≡ Some file
+    → (rows : List ℕ) × (new ≡ Some rows) × HasHeads file line rows
+
+-- a reader gave no first record: it failed, or memory ran out, or there is none
+abbrev pub IsNamesFault : {R : Type 0} → (R → Option (List ℕ)) → Table → Reader R → Reader R → LoadError → Type 0
+IsNamesFault remaining t old new e =
+    IsReadFault t e
+    ⊎ ((e ≡ errors.FieldCount t 1) × ((fields : List (List ℕ)) × ReadRecord remaining old new false fields))

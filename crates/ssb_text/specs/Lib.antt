@@ -13,6 +13,7 @@ pub mod TableText
 pub mod RoundTrip
 pub mod Appended
 pub mod Checksums
+pub mod Picking
 pub mod Layouts
 -- how the code reads lines in blocks
 pub mod Blocks
@@ -23,3 +24,6 @@ pub mod Parsing
 pub mod Joining
 pub mod Ahead
 pub mod HeadsReading
+pub mod PlainReaders
+pub mod LinesLeft
+pub mod Picked

@@ -60,3 +60,6 @@ IsReadFault t (errors.FieldCount u n) = ⊥
 IsReadFault t (errors.NotUtf8 u n column) = ⊥
 IsReadFault t (errors.NotANumber u n column) = ⊥
 IsReadFault t (errors.Row u n why) = ⊥
+IsReadFault t (errors.NoHead u column) = ⊥
+IsReadFault t (errors.HeadTwice u column) = ⊥
+IsReadFault t (errors.NotPlain u n column) = ⊥

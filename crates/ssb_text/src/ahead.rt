@@ -16,9 +16,9 @@ use crate::error::LoadError;
 use crate::joining::join_blocks;
 use crate::parsing::{Parsed, parse_blocks};
 use crate::records::ReadError;
+use crate::source::TextSource;
 use ssb_schema::{Line, Table};
 use std::alloc::{AllocError, Global};
-use std::io::Read;
 use std::thread;
 use std::thread::Threads;
 
@@ -75,7 +75,7 @@ fn unread(why: BlockError) -> LoadError
 }
 
 // The first blocks of a text.
-fn begin<R: Read + Drop, H: TableHash>(
+fn begin<R: TextSource, H: TableHash>(
     alloc: Global,
     block: u32,
     source: R,
@@ -113,7 +113,7 @@ fn join_parsed(alloc: Global, limit: usize, unjoined: Unjoined) -> Result<Joined
 }
 
 // Reads the next blocks into free buffers.
-fn read_blocks<R: Read + Drop, H: TableHash>(
+fn read_blocks<R: TextSource, H: TableHash>(
     alloc: Global,
     rooms: Vec<Block>,
     mut source: Blocks<R, H>,
@@ -131,7 +131,7 @@ fn read_blocks<R: Read + Drop, H: TableHash>(
 
 // Joins what was parsed before, and reads the next blocks meanwhile, each in a thread of its own. Once these are the
 // last, no room is kept for more.
-fn go_ahead<R: Read + Drop, H: TableHash>(
+fn go_ahead<R: TextSource, H: TableHash>(
     rt: &(impl Threads + Sync),
     alloc: Global,
     limit: usize,
@@ -173,7 +173,7 @@ fn go_ahead<R: Read + Drop, H: TableHash>(
 }
 
 // Parses the blocks that were read, and goes ahead meanwhile.
-fn step<R: Read + Drop, H: TableHash>(
+fn step<R: TextSource, H: TableHash>(
     rt: &(impl Threads + Sync),
     alloc: Global,
     limit: usize,
@@ -225,7 +225,7 @@ fn step<R: Read + Drop, H: TableHash>(
 }
 
 // The lines of a text of which all blocks were parsed, and what its bytes are hashed to.
-fn finish<R: Read + Drop, H: TableHash>(
+fn finish<R: TextSource, H: TableHash>(
     alloc: Global,
     limit: usize,
     reading: Reading<R, H>,
@@ -255,7 +255,7 @@ fn finish<R: Read + Drop, H: TableHash>(
 
 /// The lines that a lineorder text spells, and what its bytes are hashed to; or its first fault. One thread reads and
 /// hashes, and one joins, while others parse.
-pub(crate) fn read_lines<R: Read + Drop, H: TableHash>(
+pub(crate) fn read_lines<R: TextSource, H: TableHash>(
     rt: &(impl Threads + Sync),
     alloc: Global,
     limit: usize,

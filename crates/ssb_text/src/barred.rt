@@ -36,8 +36,8 @@ fn as_bar(byte: u8, delimiter: Delimiter) -> u8
     byte
 }
 
-// Puts a bar in the place of each delimiter.
-fn put_bars(bytes: &mut [u8], delimiter: Delimiter)
+/// Puts a bar in the place of each delimiter.
+pub(crate) fn put_bars(bytes: &mut [u8], delimiter: Delimiter)
     ensures { bytes.new ≡ with_bars delimiter bytes.old }
 {
     if delimiter.byte() == BAR {

@@ -11,9 +11,10 @@ ghost use Rattle.std.specs.Io.KnownBytes.{Consumes, IsAtEnd};
 ghost use Rattle.ssb_text.specs.BlockReading.{ReadsMore};
 
 use crate::checksum::TableHash;
+use crate::records::ReadError;
+use crate::source::TextSource;
 use ssb_schema::Line;
 use std::alloc::Global;
-use std::io::Read;
 
 /// Why a block could not be read.
 #[derive(Clone, Copy, Debug, PartialEq, Eq)]
@@ -69,7 +70,11 @@ fn next_asked(asked: u32, most: u32, count: usize) -> u32 {
 }
 
 // Reads into the bytes from a place on.
-fn read_at<R: Read>(source: &mut R, bytes: &mut [u8], from: usize) -> Result<usize, BlockError>
+fn read_at<R: TextSource>(
+    source: &mut R,
+    bytes: &mut [u8],
+    from: usize,
+) -> Result<usize, BlockError>
     requires { from < length bytes.old }
     ensures front { take from bytes.new ≡ take from bytes.old }
     ensures within { IfOk result (λ count. from + count ≤ length bytes.new) }
@@ -77,15 +82,20 @@ fn read_at<R: Read>(source: &mut R, bytes: &mut [u8], from: usize) -> Result<usi
         (take count (drop from bytes.new))) }
     ensures end { IfOk result (λ count. count ≡ 0 → IsAtEnd (R.remaining source.new)) }
 {
-    match source.read(&mut bytes[from..]) {
+    match source.read_text(&mut bytes[from..]) {
         Ok(count) => Ok(count),
-        Err(_) => Err(BlockError::Read),
+        Err(ReadError::Read) => Err(BlockError::Read),
+        Err(ReadError::OutOfMemory) => Err(BlockError::OutOfMemory),
     }
 }
 
 // Asks for so many bytes behind those that are there, for one at least, and says how many came: none only at the end of
 // the source.
-fn read_more<R: Read>(source: &mut R, bytes: &mut Vec<u8>, size: u32) -> Result<usize, BlockError>
+fn read_more<R: TextSource>(
+    source: &mut R,
+    bytes: &mut Vec<u8>,
+    size: u32,
+) -> Result<usize, BlockError>
     ensures { IfOk result (ReadsMore (R.remaining source.old) (R.remaining source.new) bytes.old.items
         bytes.new.items) }
 {
@@ -106,7 +116,7 @@ fn last_feed(bytes: &[u8]) -> Option<usize>
     bytes.iter().rposition(|b| *b == b'\n')
 }
 
-impl<R: Read, H: TableHash> Blocks<R, H> {
+impl<R: TextSource, H: TableHash> Blocks<R, H> {
     ghost use Rattle.ssb_text.specs.Blocks.{GivesBlock, GivesBlocks, HasHashed, HashesOn, WasAll, bytes_left};
 
     /// The blocks of a source, of which none was given. At most so many bytes are asked of it at once, and one at least:
@@ -202,7 +212,7 @@ impl<R: Read, H: TableHash> Blocks<R, H> {
     }
 }
 
-impl<R: Read + Drop, H: TableHash> Blocks<R, H> {
+impl<R: TextSource, H: TableHash> Blocks<R, H> {
     ghost use Rattle.ssb_text.specs.Blocks.{HasHashed, bytes_left};
 
     /// What all the bytes are hashed to, once all were given.

@@ -9,10 +9,10 @@ ghost use Rattle.ssb_text.specs.Tables.{IsFirstFault, IsReadFault, SpellsRows};
 
 use crate::error::LoadError;
 use crate::row::TableRow;
+use crate::source::TextSource;
 use crate::table::read_table;
 use md5::{Digest, Md5};
 use std::alloc::Global;
-use std::io::{ErrorKind, Read};
 
 /// How many bytes a piece has, but for the last one of a file, which has fewer.
 const PIECE: usize = 1_048_576;
@@ -48,7 +48,7 @@ pub(crate) trait TableHash: Drop {
         ensures { (text : List ℕ) → holds self text → is_checksum text result };
 
     /// The rows of a table of a dimension, and what its bytes are hashed to.
-    fn read_table<T: TableRow, R: Read + Drop>(
+    fn read_table<T: TableRow, R: TextSource>(
         alloc: Global,
         limit: usize,
         source: R,
@@ -81,13 +81,13 @@ impl TableHash for NoHash {
 
     fn finish(self) {}
 
-    fn read_table<T: TableRow, R: Read + Drop>(
+    fn read_table<T: TableRow, R: TextSource>(
         alloc: Global,
         limit: usize,
         source: R,
     ) -> Result<HashedRows<T, ()>, LoadError> {
         Ok(HashedRows {
-            rows: read_table(alloc, limit, source)?,
+            rows: source.read_rows::<T>(alloc, limit)?,
             checksum: (),
         })
     }
@@ -170,19 +170,15 @@ impl TableHash for PieceHash {
     }
 
     // The whole text is read first, and then its rows: a dimension is small beside the lines.
-    fn read_table<T: TableRow, R: Read + Drop>(
+    fn read_table<T: TableRow, R: TextSource>(
         alloc: Global,
         limit: usize,
         source: R,
     ) -> Result<HashedRows<T, [u8; 16]>, LoadError> {
         let mut source = source;
         let mut text = Vec::new(alloc);
-        match source.read_to_end(&mut text) {
-            Ok(_) => {}
-            Err(error) if error.kind() == ErrorKind::OutOfMemory => {
-                return Err(LoadError::OutOfMemory);
-            }
-            Err(_) => return Err(LoadError::Read(T::table())),
+        if let Err(why) = source.read_rest(&mut text) {
+            return Err(LoadError::in_table(T::table(), why));
         }
         let mut hash = PieceHash::new();
         hash.update(&text);

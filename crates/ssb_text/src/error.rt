@@ -2,6 +2,7 @@
 
 ghost use Rattle.std.specs.Prelude.{◌≡◌};
 ghost use Rattle.ssb_text.specs.declared.error.LineFault.TheVariants.{OutOfMemory};
+ghost use Rattle.ssb_text.specs.declared.error.LoadError.TheVariants as errors;
 
 use ssb_schema::{Column, SchemaFault, Table};
 use std::alloc::AllocError;
@@ -30,6 +31,14 @@ impl From<AllocError> for LineFault {
     }
 }
 
+impl From<AllocError> for LoadError {
+    ghost from_gives = { λ _ e. e ≡ errors.OutOfMemory };
+
+    fn from(_e: AllocError) -> LoadError {
+        LoadError::OutOfMemory
+    }
+}
+
 /// Why tables could not be loaded. Rows are numbered from 1, by record. Its text is its number, its name and its
 /// values.
 #[derive(Debug, Drop, Error)]
@@ -49,6 +58,15 @@ pub enum LoadError {
     /// The schema refuses the row, or the base that it makes with the other rows.
     #[error("24 Row {0} {1} {2}")]
     Row(Table, usize, SchemaFault),
+    /// No head names this column.
+    #[error("25 NoHead {0} {1}")]
+    NoHead(Table, Column),
+    /// Two heads name this column.
+    #[error("26 HeadTwice {0} {1}")]
+    HeadTwice(Table, Column),
+    /// In CSV, the field of this text column has a bar or an end of a line, or is no UTF-8.
+    #[error("27 NotPlain {0} {1} {2}")]
+    NotPlain(Table, usize, Column),
     /// Memory ran out.
     #[error("out of memory")]
     OutOfMemory,

@@ -1,33 +1,35 @@
-//! The line of heads above the rows of a table.
+//! The head of a table's file.
 
-ghost use Rattle.std.specs.Prelude.{◌≡◌, ◌≢◌, ◌⊎◌, ◌+◌, ◌∷◌, [], ℕ, List, Some, cond, true, false, length};
-ghost use Rattle.std.specs.Prelude.{IfErr, IfOk, MatchOption, OnOk};
+ghost use Rattle.std.specs.Prelude.{◌≡◌, ◌⊎◌, ◌∷◌, ◌++◌, [], ℕ, List, Some, IfErr, IfOk, MatchOption, OnOk};
 ghost use Rattle.std.specs.Io.KnownBytes.{Consumes, IsAtEnd};
+ghost use Rattle.csv.specs.Records.{fields_of};
 ghost use Rattle.ssb_text.specs.HeadsReading.{EndsLine, HasNoLine};
-ghost use Rattle.ssb_text.specs.Layouts.{HasHeads, parts};
+ghost use Rattle.ssb_text.specs.Layouts.{HasHeads, names_in};
+ghost use Rattle.ssb_text.specs.Tables.{IsReadFault};
 ghost use Rattle.ssb_text.specs.declared.error.LoadError.TheVariants as errors;
-ghost use Rattle.ssb_schema.specs.Columns.{kinds_of};
 
+use crate::barred::put_bars;
 use crate::error::LoadError;
+use crate::filling::next_head;
 use crate::layout::Delimiter;
+use crate::records::record_reader;
+use csv::ByteRecord;
 use ssb_schema::Table;
+use std::alloc::{AllocError, Global};
 use std::io::Read;
 
 /// How many bytes a line of heads may have.
 const MOST_HEADS: usize = 65_536;
 
-// The reader failed.
-#[derive(Clone, Copy, Debug, PartialEq, Eq)]
-struct FailedRead;
-
 // The next byte of a reader, if it has one.
-fn next_byte<R: Read>(reader: &mut R) -> Result<Option<u8>, FailedRead>
-    ensures { IfOk result (λ found. MatchOption found (IsAtEnd (R.remaining reader.old))
+fn next_byte<R: Read>(table: Table, reader: &mut R) -> Result<Option<u8>, LoadError>
+    ensures byte { IfOk result (λ found. MatchOption found (IsAtEnd (R.remaining reader.old))
         (λ b. Consumes (R.remaining reader.old) (R.remaining reader.new) (b ∷ []))) }
+    ensures fault { IfErr result (IsReadFault table) }
 {
     let mut byte = [0];
     let Ok(count) = reader.read(&mut byte) else {
-        return Err(FailedRead);
+        return Err(LoadError::Read(table));
     };
     if count == 0 {
         return Ok(None);
@@ -35,64 +37,74 @@ fn next_byte<R: Read>(reader: &mut R) -> Result<Option<u8>, FailedRead>
     Ok(Some(byte[0]))
 }
 
-// 1 for a byte that parts fields, else 0.
-fn count_part(delimiter: Delimiter, byte: u8) -> usize
-    ensures { result ≡ cond (parts delimiter byte) 1 0 }
+// Puts a byte behind a line.
+fn push_byte(line: &mut Vec<u8>, byte: u8) -> Result<(), AllocError>
+    ensures { OnOk result (line.new.items ≡ line.old.items ++ byte ∷ []) }
 {
-    if delimiter.parts(byte) { 1 } else { 0 }
+    line.push(byte)?;
+    Ok(())
 }
 
-// How many bytes part the fields of the first line of a reader, whose bytes are read up to the line feed; or none where
-// no line feed ends it, or too many bytes stand before that.
-fn parts_of_line<R: Read>(reader: &mut R, delimiter: Delimiter) -> Result<Option<usize>, FailedRead>
-    ensures { IfOk result (λ found. MatchOption found (HasNoLine (R.remaining reader.old))
-        (EndsLine delimiter (R.remaining reader.old) (R.remaining reader.new))) }
+// The first line of a reader, whose bytes are read up to the line feed; or none where no line feed ends it, or too many
+// bytes stand before that.
+fn first_line<R: Read>(
+    alloc: Global,
+    table: Table,
+    reader: &mut R,
+) -> Result<Option<Vec<u8>>, LoadError>
+    ensures line { IfOk result (λ found. MatchOption found (HasNoLine (R.remaining reader.old))
+        (λ line. EndsLine (R.remaining reader.old) (R.remaining reader.new) line.items)) }
+    ensures fault { IfErr result (IsReadFault table) }
 {
-    let mut parts = 0;
+    let mut line = Vec::new(alloc);
     for _ in 0..MOST_HEADS {
-        let Some(byte) = next_byte(reader)? else {
+        let Some(byte) = next_byte(table, reader)? else {
             return Ok(None);
         };
         if byte == b'\n' {
-            return Ok(Some(parts));
+            return Ok(Some(line));
         }
-        parts += count_part(delimiter, byte);
+        push_byte(&mut line, byte)?;
     }
     Ok(None)
 }
 
-// Whether a line that so many bytes part has so many fields, or one more.
-fn are_enough(parts: usize, columns: usize) -> bool
-    ensures yes { result ≡ true → (parts + 1 ≡ columns) ⊎ (parts ≡ columns) }
-    ensures no { result ≡ false → (parts + 1 ≢ columns) × (parts ≢ columns) }
+// The names in a line of heads.
+fn names_in(
+    alloc: Global,
+    table: Table,
+    delimiter: Delimiter,
+    line: &mut [u8],
+) -> Result<ByteRecord, LoadError>
+    ensures names { IfOk result (λ names. fields_of names ≡ names_in delimiter line.old) }
+    ensures fault { IfErr result (IsReadFault table) }
 {
-    match columns.checked_sub(parts) {
-        Some(0) | Some(1) => true,
-        _ => false,
+    put_bars(line, delimiter);
+    let mut reader = record_reader(alloc, &*line);
+    let mut names = ByteRecord::new(alloc);
+    if !next_head(table, &mut reader, &mut names)? {
+        return Ok(ByteRecord::new(alloc));
     }
+    Ok(names)
 }
 
-/// Reads the line of heads above the rows of a table, byte by byte, so that the reader stands at the rows. It has as
-/// many fields as the table has columns, or one more.
+/// Reads the line of heads above the rows of a table, byte by byte, so that the reader stands at the rows, and gives
+/// the names in it.
 pub(crate) fn read_heads<R: Read>(
+    alloc: Global,
     table: Table,
     delimiter: Delimiter,
     reader: &mut R,
-) -> Result<(), LoadError>
-    ensures heads { OnOk result ((file : List ℕ) → R.remaining reader.old ≡ Some file → (rows : List ℕ)
-        × (R.remaining reader.new ≡ Some rows) × HasHeads delimiter (length (kinds_of table)) file rows) }
-    ensures fault { IfErr result (λ e. (e ≡ errors.Read table) ⊎ ((e ≡ errors.FieldCount table 1)
-        × ((file rows : List ℕ) → R.remaining reader.old ≡ Some file
-        → HasHeads delimiter (length (kinds_of table)) file rows → ⊥))) }
+) -> Result<ByteRecord, LoadError>
+    ensures heads { IfOk result (λ names. (file : List ℕ) → R.remaining reader.old ≡ Some file → (heads : List ℕ)
+        × (rows : List ℕ) × (R.remaining reader.new ≡ Some rows) × HasHeads file heads rows
+        × (fields_of names ≡ names_in delimiter heads)) }
+    ensures fault { IfErr result (λ e. IsReadFault table e ⊎ ((e ≡ errors.FieldCount table 1)
+        × ((file heads rows : List ℕ) → R.remaining reader.old ≡ Some file → HasHeads file heads rows → ⊥))) }
 {
-    let Ok(found) = parts_of_line(reader, delimiter) else {
-        return Err(LoadError::Read(table));
-    };
-    let Some(parts) = found else {
+    let Some(mut line) = first_line(alloc, table, reader)? else {
         return Err(LoadError::FieldCount(table, 1));
     };
-    if !are_enough(parts, table.kinds().len()) {
-        return Err(LoadError::FieldCount(table, 1));
-    }
-    Ok(())
+    let names = names_in(alloc, table, delimiter, line.as_mut_slice())?;
+    Ok(names)
 }

@@ -38,6 +38,13 @@ fn can_part(byte: u8) -> bool
 }
 
 impl Delimiter {
+    /// That of CSV.
+    pub fn comma() -> Delimiter
+        ensures { result.byte ≡ 44 }
+    {
+        Delimiter { byte: b',' }
+    }
+
     /// The benchmark's.
     pub fn bar() -> Delimiter
         ensures { result.byte ≡ 124 }
@@ -74,12 +81,22 @@ impl Delimiter {
     }
 }
 
+/// What the lines of a table's file are.
+#[derive(Clone, Copy, Debug, PartialEq, Eq)]
+pub enum TableForm {
+    /// Rows alone, with the columns in the table's order.
+    Rows,
+    /// A line of heads, which names the columns, and rows.
+    Headed,
+    /// Records as other programs write them: a head, fields that may stand in quotes, and dates with strokes.
+    Csv,
+}
+
 /// How the files of tables are laid out.
 #[derive(Clone, Copy, Debug, PartialEq, Eq)]
 pub struct TableLayout {
     pub delimiter: Delimiter,
-    /// Whether a line of heads stands above the rows.
-    pub has_heads: bool,
+    pub form: TableForm,
 }
 
 impl TableLayout {
@@ -89,7 +106,7 @@ impl TableLayout {
     {
         TableLayout {
             delimiter: Delimiter::bar(),
-            has_heads: false,
+            form: TableForm::Rows,
         }
     }
 
@@ -97,6 +114,16 @@ impl TableLayout {
     pub fn is_benchmark(self) -> bool
         ensures { result ≡ spec.is_benchmark self }
     {
-        self.delimiter.byte == BAR && !self.has_heads
+        self.delimiter.byte == BAR && !self.has_heads()
+    }
+
+    /// Whether heads stand above the rows.
+    pub fn has_heads(self) -> bool
+        ensures { result ≡ spec.has_heads self.form }
+    {
+        match self.form {
+            TableForm::Rows => false,
+            TableForm::Headed | TableForm::Csv => true,
+        }
     }
 }

@@ -19,9 +19,9 @@
 //! [`take_word`], [`take_numbered`] and [`take_lined`] read the first record of a text directly too, where it begins with
 //! a word; who is given nothing by them asks a reader of records.
 //!
-//! Files in another layout, with another delimiter or a line of heads above the rows, are [`TableFiles`]: their rows
-//! ([`TableFiles::into_rows`]) are read as those of any file, with a bar in the place of each delimiter
-//! (`specs/Layouts`).
+//! Files in another layout are [`TableFiles`]: with another delimiter, with heads that name the columns in any order, or
+//! CSV as other programs write it. Each stands for a text with bars (`specs/Layouts`, `Picking`), which its rows
+//! ([`TableFiles::into_rows`], a [`TextSource`]) give piece by piece, and which is read as any other.
 //!
 //! [`load_with_checksums`] gives the checksum of each file's bytes too, which are hashed as they are read; of [`load`]
 //! no byte is. A file has one checksum (`specs/Checksums`), however its bytes came and were parted.
@@ -51,6 +51,7 @@ mod date;
 mod direct;
 mod error;
 mod fields;
+mod filling;
 mod heads;
 mod joining;
 mod law;
@@ -59,15 +60,19 @@ mod line;
 mod loading;
 mod parsing;
 mod part;
+mod picked;
+mod picks;
 mod piece;
 mod plain;
 mod records;
 mod row;
 mod rows;
+mod source;
 mod spelling;
 mod supplier;
 mod table;
 mod table_files;
+mod table_rows;
 mod worded;
 
 pub use barred::Barred;
@@ -75,14 +80,17 @@ pub use direct::may_be_marked;
 pub use error::{LineFault, LoadError};
 pub use fields::{field_at, has_columns, trimmed_at};
 pub use law::{has_its_lines, records_of_appended, records_of_lines, tables_are_read_back};
-pub use layout::{Delimiter, TableLayout};
+pub use layout::{Delimiter, TableForm, TableLayout};
 pub use line::line_from;
 pub use loading::{Tables, load, load_with_checksums};
+pub use picked::Picked;
 pub use piece::{Piece, WriteFault, write_bytes, write_pieces};
 pub use plain::is_plain_text;
-pub use records::{ReadError, next_record, record_reader};
+pub use records::{ReadError, csv_reader, next_record, record_reader};
 pub use row::TableRow;
 pub use rows::{are_table_rows, write_row, write_rows};
+pub use source::TextSource;
 pub use spelling::{text, trimmed};
 pub use table_files::TableFiles;
+pub use table_rows::TableRows;
 pub use worded::{take_lined, take_numbered, take_word};

@@ -10,10 +10,10 @@ ghost use Rattle.ssb_text.specs.Load.{AreTexts, IsLoadFault, SpellsBase, StopsIn
 use crate::ahead::read_lines;
 use crate::checksum::{NoHash, PieceHash, TableHash};
 use crate::error::LoadError;
+use crate::source::TextSource;
 use ssb_base::{Base, BaseError, BaseParts, Limits};
 use ssb_schema::{SchemaFault, Table};
 use std::alloc::Global;
-use std::io::Read;
 use std::thread::Threads;
 
 /// The readers of the five tables' files (Star Schema Benchmark, section 2).
@@ -68,7 +68,7 @@ struct HashedParts<C: Drop> {
 }
 
 // The rows of the five tables, read in their order.
-fn read_parts<R: Read + Drop, H: TableHash>(
+fn read_parts<R: TextSource, H: TableHash>(
     rt: &(impl Threads + Sync),
     alloc: Global,
     limits: Limits,
@@ -113,7 +113,7 @@ struct HashedBase<C: Drop> {
 }
 
 // The base that five table files spell, and what the bytes of each are hashed to.
-fn load_hashed<R: Read + Drop, H: TableHash>(
+fn load_hashed<R: TextSource, H: TableHash>(
     rt: &(impl Threads + Sync),
     alloc: Global,
     limits: Limits,
@@ -144,7 +144,7 @@ fn load_hashed<R: Read + Drop, H: TableHash>(
 /// about `block` bytes. The files are read in the order customer, supplier, part, date, lineorder, and the first fault
 /// ends the load: each row's in turn, and only after all five files those between the rows, as a repeated key or a line
 /// that names an unknown customer. `OutOfMemory` and `Read` come where memory or a reader fails.
-pub fn load<R: Read + Drop>(
+pub fn load<R: TextSource>(
     rt: &(impl Threads + Sync),
     alloc: Global,
     limits: Limits,
@@ -163,7 +163,7 @@ pub fn load<R: Read + Drop>(
 }
 
 /// The same base, with the checksum of each file's bytes, for one who has to know the files again.
-pub fn load_with_checksums<R: Read + Drop>(
+pub fn load_with_checksums<R: TextSource>(
     rt: &(impl Threads + Sync),
     alloc: Global,
     limits: Limits,

@@ -12,7 +12,7 @@ use export_command::{HistorySource, Moment, read_source};
 use journal_file::JournalFile;
 use ssb_files::JobFault::Program;
 use ssb_files::{Fault, TableBytes, count_tables, open_tables};
-use ssb_text::{TableLayout, Tables};
+use ssb_text::{TableForm, TableLayout, Tables};
 use std::alloc::Global;
 use std::hash::RandomState;
 use std::io::Write;
@@ -39,7 +39,7 @@ fn open_found<F: Files + AllocGlobal>(
 ) -> Result<Tables<F::File>, StoreJobFault>
     ensures words { IfErr result (λ fault. store_status fault ≢ 2) }
 {
-    match open_tables(files, folder) {
+    match open_tables(files, folder, TableForm::Rows) {
         Ok(tables) => Ok(tables),
         Err(Fault::CannotRead(path)) => Err(Program(Fault::CannotRead(path))),
         // Memory for a path ran out.

@@ -22,9 +22,9 @@ pub(crate) fn load_tables<R: Threads + Sync + AllocGlobal, F: Files + AllocGloba
     files: &F,
     folder: &str,
 ) -> Result<LoadedTables, StoreJobFault> {
-    let tables = open_tables(files, folder)?;
-    let bytes = TableBytes::new();
     let layout = TableLayout::benchmark();
+    let tables = open_tables(files, folder, layout.form)?;
+    let bytes = TableBytes::new();
     let tables = TableFiles {
         tables: count_tables(&bytes, tables),
         layout,

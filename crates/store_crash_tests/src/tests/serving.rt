@@ -44,7 +44,7 @@ fn marks_of<R: Threads + Sync + AllocGlobal>(
     let bytes = TableBytes::new();
     let layout = TableLayout::benchmark();
     let tables = TableFiles {
-        tables: count_tables(&bytes, open_tables(files, path.as_str())?),
+        tables: count_tables(&bytes, open_tables(files, path.as_str(), layout.form)?),
         layout,
     };
     let (base, checksums) = checked_base_of(rt, rt.alloc(), tables, LoadedFor::Serving)?;

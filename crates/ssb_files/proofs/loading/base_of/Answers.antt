@@ -36,7 +36,7 @@ returns-in_err-rows-clause-told g c =
     let is : c.from_residual.result ≡ Err c.in_err-rows.field-0.0 = search rules in
     let here : status_of c.in_err-rows.field-0.0 ≡ 1 → (texts : Table → List ℕ)
     → AreRows g.I.Read.remaining c.args.tables texts
-    → TellsRefusal (commits_for c.args.purpose) c.args.tables.layout.has_heads texts c.in_err-rows.field-0.0 =
+    → TellsRefusal (commits_for c.args.purpose) c.args.tables.layout.form texts c.in_err-rows.field-0.0 =
     λ one texts are. absurd (c.in_err-rows.ensures.data one texts are) in
     rw is here
 

@@ -9,7 +9,7 @@ use Rattle.ssb_text.proofs.ahead.read_lines.Goals as goal
 
 pub loop-init : goal.loop-init
 loop-init g c =
-    let known = g.R.Read.remaining c.args.source in
+    let known = g.R.TextSource.remaining c.args.source in
     let reading = c.in_ok-reading.reading in
     let begun = c.in_ok-reading.ensures.begun in
     let few : length reading.lines.items ≤ c.args.limit = rw begun.no_lines (omega arith) in
@@ -22,7 +22,7 @@ loop-init g c =
 
 pub returns-then-is_empty-clause-rows : goal.returns-then-is_empty-clause-rows
 returns-then-is_empty-clause-rows g c =
-    let known = g.R.Read.remaining c.args.source in
+    let known = g.R.TextSource.remaining c.args.source in
     let reading = c.loop.reading in
     let waiting = block_bytes reading.blocks.items in
     let empty : vec_len reading.blocks ≡ 0 = search rules in
@@ -47,7 +47,7 @@ returns-then-is_empty-clause-checksum g c =
 
 pub returns-then-is_empty-clause-fault : goal.returns-then-is_empty-clause-fault
 returns-then-is_empty-clause-fault g c =
-    let known = g.R.Read.remaining c.args.source in
+    let known = g.R.TextSource.remaining c.args.source in
     let reading = c.loop.reading in
     if_err c.finish.result _ _ (λ e stops. reading_stops IsParsedOk c.args.limit known _
     (map line_values reading.lines.items) reading.parsed.items (block_bytes reading.blocks.items) e
@@ -55,7 +55,7 @@ returns-then-is_empty-clause-fault g c =
 
 pub returns-in_err-reading-2-clause-fault : goal.returns-in_err-reading-2-clause-fault
 returns-in_err-reading-2-clause-fault g c =
-    let known = g.R.Read.remaining c.args.source in
+    let known = g.R.TextSource.remaining c.args.source in
     let reading = c.loop.reading in
     let e = c.in_err-reading-2.field-0.0 in
     let here = reading_stops IsParsedOk c.args.limit known _ (map line_values reading.lines.items)
@@ -66,7 +66,7 @@ returns-in_err-reading-2-clause-fault g c =
 
 pub loop-preserved : goal.loop-preserved
 loop-preserved g c =
-    let known = g.R.Read.remaining c.args.source in
+    let known = g.R.TextSource.remaining c.args.source in
     let old = c.loop.reading in
     let new = c.in_ok-reading-2.reading in
     let step = c.in_ok-reading-2.ensures.step in

@@ -1,25 +1,19 @@
-use Rattle.std.proofs.Common.{◌≡◌, ◌⊎◌, ◌+◌, ℕ, length, refl, sym, subst, inr, rules}
-use Rattle.ssb_schema.specs.Columns.{kinds_of}
-use Rattle.ssb_text.specs.HeadsReading.{EndsLine}
-use Rattle.ssb_text.proofs.HeadsLaws.{heads_are, other_heads}
+use Rattle.std.proofs.Common.{◌≡◌, ℕ, List, Some, refl, inl, inr, ap, sym, ◌∙◌, rules}
+use Rattle.csv.specs.Records.{fields_of}
+use Rattle.ssb_text.specs.HeadsReading.{EndsLine, HasNoLine}
+use Rattle.ssb_text.specs.Layouts.{names_in}
 use Rattle.ssb_text.proofs.heads.read_heads.Goals as goal
 
 pub returns-clause-heads : goal.returns-clause-heads
-returns-clause-heads g c =
-    let old = g.R.Read.remaining c.args.reader.now in
-    let new = g.R.Read.remaining c.parts_of_line.new.reader in
-    let columns = length (kinds_of c.args.table) in
-    let parts = c.in-Some.parts in
-    let ends : EndsLine c.args.delimiter old new parts = rw c.in-Some.is at c.in-Ok.ensures in
-    let enough : (parts + 1 ≡ columns) ⊎ (parts ≡ columns) = rw c.kinds.ensures at (c.are_enough.ensures.yes (search rules)) in
-    heads_are c.args.delimiter old new parts columns ends
-    (λ line counted. subst (λ (n : ℕ). (n + 1 ≡ columns) ⊎ (n ≡ columns)) (sym counted) enough)
+returns-clause-heads g c = λ file is.
+    let ends : EndsLine (g.R.Read.remaining c.args.reader.now) (g.R.Read.remaining c.first_line.new.reader)
+    c.in-Some.line.items = rw c.in-Some.is at c.in_ok-line.ensures.line in
+    let here = ends file is in
+    let named : fields_of c.in_ok-names.names ≡ names_in c.args.delimiter c.in-Some.line.items =
+    c.in_ok-names.ensures.names ∙ ap (names_in c.args.delimiter) (c.as_mut_slice.ensures.value) in
+    (c.in-Some.line.items, here.0, here.1, here.2, named)
 
-pub returns-then-not-are_enough-clause-fault : goal.returns-then-not-are_enough-clause-fault
-returns-then-not-are_enough-clause-fault g c =
-    let old = g.R.Read.remaining c.args.reader.now in
-    let new = g.R.Read.remaining c.parts_of_line.new.reader in
-    let parts = c.in-Some.parts in
-    let ends : EndsLine c.args.delimiter old new parts = rw c.in-Some.is at c.in-Ok.ensures in
-    let fewer = rw c.kinds.ensures at (c.are_enough.ensures.no (search rules)) in
-    inr (refl, other_heads c.args.delimiter old new parts (length (kinds_of c.args.table)) ends fewer.0 fewer.1)
+pub returns-in_default-clause-fault : goal.returns-in_default-clause-fault
+returns-in_default-clause-fault g c =
+    let none : HasNoLine (g.R.Read.remaining c.args.reader.now) = search rules in
+    inr (refl, none)

@@ -9,7 +9,7 @@ use Rattle.ssb_text.proofs.loading.load_hashed.Goals as goal
 pub returns-in_err-read-clause-fault : goal.returns-in_err-read-clause-fault
 returns-in_err-read-clause-fault g c =
     let is : c.from_residual.result ≡ Err c.in_err-read.field-0.0 = search rules in
-    let here : (texts : Table → List ℕ) → AreTexts g.R.Read.remaining c.args.tables texts
+    let here : (texts : Table → List ℕ) → AreTexts g.R.TextSource.remaining c.args.tables texts
     → IsLoadFault c.args.limits texts c.in_err-read.field-0.0
     = λ texts known. inl (c.in_err-read.ensures.stops texts known) in
     rw is here

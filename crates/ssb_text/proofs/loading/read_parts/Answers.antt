@@ -12,7 +12,7 @@ use Rattle.ssb_text.proofs.loading.read_parts.Goals as goal
 
 pub returns-clause-spelled : goal.returns-clause-spelled
 returns-clause-spelled g c = λ texts known.
-    let rem = g.R.Read.remaining in
+    let rem = g.R.TextSource.remaining in
     let tables = c.args.tables in
     let limits = c.args.limits in
     let parts : BaseParts = record {
@@ -39,7 +39,7 @@ returns-clause-spelled g c = λ texts known.
 
 pub returns-in_err-customers-clause-stops : goal.returns-in_err-customers-clause-stops
 returns-in_err-customers-clause-stops g c =
-    let rem = g.R.Read.remaining in
+    let rem = g.R.TextSource.remaining in
     let tables = c.args.tables in
     let limits = c.args.limits in
     let e = c.in_err-customers.field-0.0 in
@@ -50,7 +50,7 @@ returns-in_err-customers-clause-stops g c =
 
 pub returns-in_err-suppliers-clause-stops : goal.returns-in_err-suppliers-clause-stops
 returns-in_err-suppliers-clause-stops g c =
-    let rem = g.R.Read.remaining in
+    let rem = g.R.TextSource.remaining in
     let tables = c.args.tables in
     let limits = c.args.limits in
     let e = c.in_err-suppliers.field-0.0 in
@@ -65,7 +65,7 @@ returns-in_err-suppliers-clause-stops g c =
 
 pub returns-in_err-parts-clause-stops : goal.returns-in_err-parts-clause-stops
 returns-in_err-parts-clause-stops g c =
-    let rem = g.R.Read.remaining in
+    let rem = g.R.TextSource.remaining in
     let tables = c.args.tables in
     let limits = c.args.limits in
     let e = c.in_err-parts.field-0.0 in
@@ -85,7 +85,7 @@ returns-in_err-parts-clause-stops g c =
 
 pub returns-in_err-dates-clause-stops : goal.returns-in_err-dates-clause-stops
 returns-in_err-dates-clause-stops g c =
-    let rem = g.R.Read.remaining in
+    let rem = g.R.TextSource.remaining in
     let tables = c.args.tables in
     let limits = c.args.limits in
     let e = c.in_err-dates.field-0.0 in
@@ -109,7 +109,7 @@ returns-in_err-dates-clause-stops g c =
 
 pub returns-in_err-lines-clause-stops : goal.returns-in_err-lines-clause-stops
 returns-in_err-lines-clause-stops g c =
-    let rem = g.R.Read.remaining in
+    let rem = g.R.TextSource.remaining in
     let tables = c.args.tables in
     let limits = c.args.limits in
     let e = c.in_err-lines.field-0.0 in

@@ -4,4 +4,4 @@ use Rattle.ssb_text.proofs.blocks.Blocks.finish.Goals as goal
 pub returns : goal.returns
 returns g c = λ text hashed none.
     c.finish.ensures text
-    (all_hashed g.R.Read.remaining g.H.TableHash.holds c.args.self text hashed none)
+    (all_hashed g.R.TextSource.remaining g.H.TableHash.holds c.args.self text hashed none)

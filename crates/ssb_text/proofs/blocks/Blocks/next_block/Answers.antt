@@ -11,8 +11,8 @@ returns-in-Some-clause-given g c =
     let bytes : List ℕ = c.read_on.new.block.items in
     let from = c.len-from.result in
     let at = c.in-Some.at in
-    let left = bytes_left g.R.Read.remaining c.args.self.now in
-    let source = g.R.Read.remaining c.read_on.new.self.source in
+    let left = bytes_left g.R.TextSource.remaining c.args.self.now in
+    let source = g.R.TextSource.remaining c.read_on.new.self.source in
     let so_far = block_more left _ source c.loop.block.items bytes _ c.loop.invariant.so_far
     c.in_ok-count.ensures.read in
     let all : take (length bytes - from) (drop from bytes) ≡ drop from bytes =
@@ -26,8 +26,8 @@ returns-in-Some-clause-given g c =
 pub returns-then-is_empty-clause-given : goal.returns-then-is_empty-clause-given
 returns-then-is_empty-clause-given g c =
     let block : List ℕ = c.read_on.new.block.items in
-    let left = bytes_left g.R.Read.remaining c.args.self.now in
-    let source = g.R.Read.remaining c.read_on.new.self.source in
+    let left = bytes_left g.R.TextSource.remaining c.args.self.now in
+    let source = g.R.TextSource.remaining c.read_on.new.self.source in
     let so_far = block_more left _ source c.loop.block.items block _ c.loop.invariant.so_far
     c.in_ok-count.ensures.read in
     let none : c.read_on.new.self.carry.items ≡ [] =
@@ -40,8 +40,8 @@ returns-then-is_empty-clause-given g c =
 pub returns-then-count-eq0-clause-given : goal.returns-then-count-eq0-clause-given
 returns-then-count-eq0-clause-given g c =
     let block : List ℕ = c.read_on.new.block.items in
-    let left = bytes_left g.R.Read.remaining c.args.self.now in
-    let source = g.R.Read.remaining c.read_on.new.self.source in
+    let left = bytes_left g.R.TextSource.remaining c.args.self.now in
+    let source = g.R.TextSource.remaining c.read_on.new.self.source in
     let so_far = block_more left _ source c.loop.block.items block _ c.loop.invariant.so_far
     c.in_ok-count.ensures.read in
     let none : c.read_on.new.self.carry.items ≡ [] =
@@ -60,10 +60,10 @@ returns-then-count-eq0-clause-hashed g c = λ text was. c.in_ok-count.ensures.ha
 
 pub loop-preserved : goal.loop-preserved
 loop-preserved g c =
-    let left = bytes_left g.R.Read.remaining c.args.self.now in
+    let left = bytes_left g.R.TextSource.remaining c.args.self.now in
     record {
       none = ap (λ carry. carry.items) c.read_on.ensures.carry ∙ c.loop.invariant.none;
-      so_far = block_more left _ (g.R.Read.remaining c.read_on.new.self.source) c.loop.block.items
+      so_far = block_more left _ (g.R.TextSource.remaining c.read_on.new.self.source) c.loop.block.items
           c.read_on.new.block.items _ c.loop.invariant.so_far c.in_ok-count.ensures.read;
       hashed = λ text was. c.in_ok-count.ensures.hashed text (c.loop.invariant.hashed text was);
     }

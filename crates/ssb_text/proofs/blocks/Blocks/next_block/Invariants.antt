@@ -6,6 +6,6 @@ use Rattle.ssb_text.proofs.blocks.Blocks.next_block.Given as goal
 abbrev pub invariant-loop : goal.invariant-loop
 invariant-loop g l = record {
   none : l.self.carry.items ≡ [];
-  so_far : BlockSoFar (bytes_left g.R.Read.remaining l.fn.self) (g.R.Read.remaining l.self.source) l.block.items;
-  hashed : HashesOn g.R.Read.remaining g.H.TableHash.holds l.fn.self l.self;
+  so_far : BlockSoFar (bytes_left g.R.TextSource.remaining l.fn.self) (g.R.TextSource.remaining l.self.source) l.block.items;
+  hashed : HashesOn g.R.TextSource.remaining g.H.TableHash.holds l.fn.self l.self;
 }

@@ -8,7 +8,7 @@ use Rattle.ssb_text.proofs.blocks.Blocks.next_blocks.Goals as goal
 
 pub returns-in-None-clause-given : goal.returns-in-None-clause-given
 returns-in-None-clause-given g c =
-    let left = bytes_left g.R.Read.remaining in
+    let left = bytes_left g.R.TextSource.remaining in
     let ended = rw c.in-None.is at c.in_ok-bytes.ensures.given in
     blocks_end (left c.args.self.now) (left c.loop.self) (left c.next_block.new.self) _ c.loop.invariant.given ended
 
@@ -17,7 +17,7 @@ returns-in-None-clause-hashed g c = λ text was. c.in_ok-bytes.ensures.hashed te
 
 pub loop-preserved : goal.loop-preserved
 loop-preserved g c =
-    let left = bytes_left g.R.Read.remaining in
+    let left = bytes_left g.R.TextSource.remaining in
     let good : is_ok c.push.result ≡ true = search rules in
     let blocks = c.loop.blocks.items in
     let bytes = c.in-Some.bytes in

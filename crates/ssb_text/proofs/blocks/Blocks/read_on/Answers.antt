@@ -15,5 +15,5 @@ returns-clause-hashed g c = λ text was.
     let is : more ≡ drop from bytes = rw c.deref.ensures.value all in
     let old = c.args.self.now in
     let new = record old { source = c.read_more.new.source; hash = c.update.new.self } in
-    hashed_more g.R.Read.remaining g.H.TableHash.holds old new c.args.block.now.items bytes more from
+    hashed_more g.R.TextSource.remaining g.H.TableHash.holds old new c.args.block.now.items bytes more from
     c.in_ok-count.count text was c.in_ok-count.ensures long is c.update.ensures
