@@ -3,6 +3,7 @@ mod EndLaws
 mod CutLaws
 mod PartLaws
 mod OneLaws
+pub mod ListedLaws
 mod SaidLaws
 mod QuotedLaws
 mod ReadLaws

@@ -20,8 +20,16 @@ StatementsSayTheirGroups =
 abbrev pub TokensMeanOneThing : Type 0
 TokensMeanOneThing = (a b : Select) → tokens_of a ≡ tokens_of b → pieces_of a ≡ pieces_of b
 
--- two statements that one text means have the same group columns and the same limit
+-- statements that are alike in all but their questions
+pub record AreAlike (a b : Statement) : Type 0 where
+  pub groups : a.groups.items ≡ b.groups.items
+  pub measures : a.measures.items ≡ b.measures.items
+  pub shown : a.shown.items ≡ b.shown.items
+  pub heads : a.heads.items ≡ b.heads.items
+  pub having : a.having.items ≡ b.having.items
+  pub order : a.order.items ≡ b.order.items
+  pub limit : a.limit ≡ b.limit
+
+-- two statements that one text means are alike
 abbrev pub ReadingsOfATextAgree : Type 0
-ReadingsOfATextAgree =
-    (text : List ℕ) (a b : Statement) → Means text a → Means text b
-    → (a.groups.items ≡ b.groups.items) × (a.limit ≡ b.limit)
+ReadingsOfATextAgree = (text : List ℕ) (a b : Statement) → Means text a → Means text b → AreAlike a b

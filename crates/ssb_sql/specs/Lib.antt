@@ -9,6 +9,8 @@ pub mod Step
 pub mod Reading
 pub mod Select
 -- what follows
+pub mod Computed
+pub mod Listed
 pub mod Said
 pub mod Meaning
 pub mod Laws

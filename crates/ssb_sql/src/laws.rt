@@ -19,7 +19,7 @@ pub fn tokens_mean_one_thing()
     ensures { TokensMeanOneThing }
 {}
 
-/// Statements that one text means have the same group columns and the same limit.
+/// Statements that one text means are alike in all but their questions.
 pub fn readings_of_a_text_agree()
     ensures { ReadingsOfATextAgree }
 {}

@@ -15,6 +15,8 @@ mod fault;
 mod found;
 pub mod laws;
 mod lexeme;
+mod listing;
+mod measuring;
 mod narrowed;
 mod part;
 pub mod piece;

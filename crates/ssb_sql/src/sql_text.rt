@@ -3,14 +3,16 @@
 ghost use Rattle.std.specs.Prelude.{◌≡◌, Some, IfOk, Ok, map};
 ghost use Rattle.ssb_sql.specs.Meaning.{Means, pieces_in};
 ghost use Rattle.ssb_sql.specs.Reading.{read};
-ghost use Rattle.ssb_sql.specs.Said.{IsRead, Says, limit_said};
+ghost use Rattle.ssb_sql.specs.Said.{IsRead, Says};
 ghost use Rattle.ssb_sql.specs.Texts.{bare_piece};
 
 use crate::asking::questions_of;
-use crate::building::{Printed, groups_in, limit_in};
+use crate::building::{groups_in, limit_in};
 use crate::checks::table_fault;
 use crate::conditions::{Condition, conditions, same_operand};
 use crate::fault::{SqlFault, TextPlace};
+use crate::listing::{Printed, having_in, heads_in, shown_in};
+use crate::measuring::measures_in;
 use crate::narrowed::narrow;
 use crate::piece::SqlPiece;
 use crate::piece_fault::PieceFault;
@@ -21,7 +23,6 @@ use crate::statement::Statement;
 use crate::step::step;
 use crate::tokens::Tokens;
 use ssb_questions::Value;
-use ssb_schema::Column;
 use std::alloc::Global;
 
 // A statement being read: its tokens, and what they say.
@@ -94,33 +95,28 @@ fn words_of(alloc: Global, conditions: &[Condition]) -> Result<Vec<Value>, Piece
     Ok(words)
 }
 
-// The statement of these group columns and tests.
+// The statement of these tests.
 fn parts_of(
     alloc: Global,
     pieces: &[SqlPiece<'_>],
-    groups: Vec<Column>,
     tests: &[Value],
 ) -> Result<Statement, PieceFault>
-    ensures groups { IfOk result (λ statement. statement.groups.items ≡ groups.items) }
-    ensures limit { IfOk result (λ statement. statement.limit ≡ limit_said pieces.now) }
+    ensures { IfOk result (Says pieces.now) }
 {
-    let mut printed = Printed::of(alloc, pieces, groups.as_slice())?;
-    let having = printed.having_in(alloc, pieces)?;
-    let order = printed.order_in(alloc, pieces, groups.as_slice())?;
-    let printed = printed.asked()?;
+    let groups = groups_in(alloc, pieces)?;
+    let measures = measures_in(alloc, pieces)?;
+    let shown = shown_in(alloc, pieces, groups.as_slice(), measures.as_slice())?;
+    let heads = heads_in(alloc, pieces)?;
+    let having = having_in(alloc, pieces, measures.as_slice())?;
+    let printed = Printed {
+        groups: groups.as_slice(),
+        measures: measures.as_slice(),
+        shown: shown.as_slice(),
+        heads: heads.as_slice(),
+    };
+    let order = printed.order_in(alloc, pieces)?;
     let last = pieces.len().saturating_sub(1);
-    let questions = questions_of(
-        alloc,
-        printed.measures.as_slice(),
-        groups.as_slice(),
-        tests,
-        last,
-    )?;
-    let Printed {
-        shown,
-        heads,
-        measures,
-    } = printed;
+    let questions = questions_of(alloc, measures.as_slice(), groups.as_slice(), tests, last)?;
     Ok(Statement {
         measures,
         questions,
@@ -142,8 +138,7 @@ fn statement_in(alloc: Global, pieces: &[SqlPiece<'_>]) -> Result<Statement, Pie
     }
     let conditions = conditions(alloc, pieces)?;
     let tests = words_of(alloc, conditions.as_slice())?;
-    let groups = groups_in(alloc, pieces)?;
-    parts_of(alloc, pieces, groups, tests.as_slice())
+    parts_of(alloc, pieces, tests.as_slice())
 }
 
 /// The statement that a text means.
